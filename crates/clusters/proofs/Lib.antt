@@ -1,0 +1,5 @@
+pub mod Members
+pub mod Sets
+pub mod Sizes
+pub mod LowestSpecies
+pub mod Parts

@@ -1,0 +1,16 @@
+pub mod Bounds
+pub mod Children
+pub mod Counts
+pub mod Deciding
+pub mod Drawing
+pub mod Form
+pub mod Likeness
+pub mod Listing
+pub mod LowestOrder
+pub mod Nodes
+pub mod Order
+pub mod Pairs
+pub mod Places
+pub mod Present
+pub mod Recorded
+pub mod Sorting

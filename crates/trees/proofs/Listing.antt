@@ -1,0 +1,96 @@
+-- Lists of numbers: what stands in them, which of them pass a test, and lists that hold no number twice.
+use Prim.Native.Nat.{ℕ}
+use mathlib.Core.Path.{_≡_, refl, sym, ap, _∙_}
+use mathlib.Core.Logic.{_⊎_, inl, inr}
+use mathlib.Core.Bool.{Bool, true, false, _||_, true≢false, false≢true}
+use mathlib.Core.List.{List, [], _∷_, _++_, List·Memᴰ·head as here, List·Memᴰ·tail as there, List·Memᴰ·not-nil, List·Memᴰ·cases-cons, List·Memᴰ·append-cases, Memᴰ·cast, Memᴰ·append-left, Memᴰ·append-right}
+use Rattle.trees.specs.Lists.{Among, keepIf, keep, some, NoneTwice}
+
+-- ---- the numbers of a list that pass a test
+
+pub keep-among : (test : ℕ → Bool) {x : ℕ} (l : List ℕ) → Among x l → test x ≡ true → Among x (keep test l)
+unfolding keep
+keep-among test {x} [] h e = absurd (List·Memᴰ·not-nil h)
+keep-among test {x} (y ∷ l) h e = go (test y) refl (List·Memᴰ·cases-cons h) (λ k. keep-among test l k e)
+  where
+    go : (b : Bool) → test y ≡ b → (x ≡ y) ⊎ Among x l → (Among x l → Among x (keep test l)) → Among x (keepIf b y (keep test l))
+    go true p (inl q) ih = here q
+    go true p (inr k) ih = there (ih k)
+    go false p (inl q) ih = absurd (true≢false (sym e ∙ ap test q ∙ p))
+    go false p (inr k) ih = ih k
+
+pub among-keep : (test : ℕ → Bool) {x : ℕ} (l : List ℕ) → Among x (keep test l) → Among x l × (test x ≡ true)
+unfolding keep
+among-keep test {x} [] h = absurd (List·Memᴰ·not-nil h)
+among-keep test {x} (y ∷ l) h = go (test y) refl h (λ k. among-keep test l k)
+  where
+    front : test y ≡ true → (x ≡ y) ⊎ Among x (keep test l) → (Among x (keep test l) → Among x l × (test x ≡ true)) → Among x (y ∷ l) × (test x ≡ true)
+    front p (inl q) ih = (here q, ap test q ∙ p)
+    front p (inr k) ih = let r = ih k in (there (r .0), r .1)
+
+    go : (b : Bool) → test y ≡ b → Among x (keepIf b y (keep test l)) → (Among x (keep test l) → Among x l × (test x ≡ true)) → Among x (y ∷ l) × (test x ≡ true)
+    go true p h ih = front p (List·Memᴰ·cases-cons h) ih
+    go false p h ih = let r = ih h in (there (r .0), r .1)
+
+pub some-of : (test : ℕ → Bool) {x : ℕ} (l : List ℕ) → Among x l → test x ≡ true → some test l ≡ true
+unfolding some
+some-of test {x} [] h e = absurd (List·Memᴰ·not-nil h)
+some-of test {x} (y ∷ l) h e = go (test y) refl (List·Memᴰ·cases-cons h) (λ k. some-of test l k e)
+  where
+    go : (b : Bool) → test y ≡ b → (x ≡ y) ⊎ Among x l → (Among x l → some test l ≡ true) → (b || some test l) ≡ true
+    go true p h ih = refl
+    go false p (inl q) ih = absurd (true≢false (sym e ∙ ap test q ∙ p))
+    go false p (inr k) ih = ih k
+
+pub of-some : (test : ℕ → Bool) (l : List ℕ) → some test l ≡ true → (x : ℕ) × Among x l × (test x ≡ true)
+unfolding some
+of-some test [] e = absurd (false≢true e)
+of-some test (y ∷ l) e = go (test y) refl e (λ k. of-some test l k)
+  where
+    go : (b : Bool) → test y ≡ b → (b || some test l) ≡ true → (some test l ≡ true → (x : ℕ) × Among x l × (test x ≡ true)) → (x : ℕ) × Among x (y ∷ l) × (test x ≡ true)
+    go true p e ih = (y, here refl, p)
+    go false p e ih = let r = ih e in (r .0, there (r .1), r .2)
+
+-- ---- lists that hold no number twice
+
+pub none-twice-append : (l k : List ℕ) → NoneTwice l → NoneTwice k → ((x : ℕ) → Among x l → Among x k → ⊥) → NoneTwice (l ++ k)
+unfolding NoneTwice
+none-twice-append [] k p q d = q
+none-twice-append (y ∷ l) k p q d =
+    (λ h. go (List·Memᴰ·append-cases l h), none-twice-append l k (p .1) q (λ x h m. d x (there h) m))
+  where
+    go : Among y l ⊎ Among y k → ⊥
+    go (inl h) = p .0 h
+    go (inr h) = d y (here refl) h
+
+pub none-twice-left : (l k : List ℕ) → NoneTwice (l ++ k) → NoneTwice l
+unfolding NoneTwice
+none-twice-left [] k p = tt
+none-twice-left (y ∷ l) k p = (λ h. p .0 (Memᴰ·append-left k h), none-twice-left l k (p .1))
+
+pub none-twice-right : (l k : List ℕ) → NoneTwice (l ++ k) → NoneTwice k
+unfolding NoneTwice
+none-twice-right [] k p = p
+none-twice-right (y ∷ l) k p = none-twice-right l k (p .1)
+
+pub none-twice-parts : (l k : List ℕ) → NoneTwice (l ++ k) → (x : ℕ) → Among x l → Among x k → ⊥
+unfolding NoneTwice
+none-twice-parts [] k p x h m = List·Memᴰ·not-nil h
+none-twice-parts (y ∷ l) k p x h m = go (List·Memᴰ·cases-cons h) (λ h′. none-twice-parts l k (p .1) x h′ m)
+  where
+    go : (x ≡ y) ⊎ Among x l → (Among x l → ⊥) → ⊥
+    go (inl e) ih = p .0 (Memᴰ·append-right l (Memᴰ·cast (sym e) m))
+    go (inr h) ih = ih h
+
+pub none-twice-keep : (test : ℕ → Bool) (l : List ℕ) → NoneTwice l → NoneTwice (keep test l)
+unfolding NoneTwice keep
+none-twice-keep test [] p = tt
+none-twice-keep test (y ∷ l) p = go (test y) (none-twice-keep test l (p .1))
+  where
+    go : (b : Bool) → NoneTwice (keep test l) → NoneTwice (keepIf b y (keep test l))
+    go true ih = (λ h. p .0 (among-keep test l h .0), ih)
+    go false ih = ih
+
+pub none-twice-one : (x : ℕ) → NoneTwice (x ∷ [])
+unfolding NoneTwice
+none-twice-one x = (λ h. List·Memᴰ·not-nil h, tt)

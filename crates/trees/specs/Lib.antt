@@ -1,0 +1,6 @@
+pub mod Lists
+pub mod Tree
+pub mod Records
+pub mod Drawn
+pub mod Valid
+pub mod Decides

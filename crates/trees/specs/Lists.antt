@@ -1,0 +1,50 @@
+-- Words about lists of numbers that the other definitions use.
+use Prim.Native.Nat.{ℕ, _<_, min, max}
+use mathlib.Core.Bool.{Bool, true, false, _||_}
+use mathlib.Core.List.{List, [], _∷_, List·Memᴰ}
+
+-- x stands in the list
+abbrev pub Among : ℕ → List ℕ → Type 0
+Among x l = List·Memᴰ x l
+
+-- x at the front of the list, where it passes the test
+abbrev pub keepIf : Bool → ℕ → List ℕ → List ℕ
+keepIf true x l = x ∷ l
+keepIf false x l = l
+
+-- those of the list that pass a test, in their order
+unfoldable pub keep : (ℕ → Bool) → List ℕ → List ℕ
+keep test [] = []
+keep test (x ∷ l) = keepIf (test x) x (keep test l)
+
+-- some number of the list passes the test
+unfoldable pub some : (ℕ → Bool) → List ℕ → Bool
+some test [] = false
+some test (x ∷ l) = test x || some test l
+
+-- no number stands in the list twice
+unfoldable pub NoneTwice : List ℕ → Type 0
+NoneTwice [] = Unit {0}
+NoneTwice (x ∷ l) = (Among x l → ⊥) × NoneTwice l
+
+-- x is below the first of the list, where there is one
+unfoldable pub Below : ℕ → List ℕ → Type 0
+Below x [] = Unit {0}
+Below x (y ∷ l) = x < y
+
+-- "in rising order", "with no cluster twice": each is below the next
+unfoldable pub Rising : List ℕ → Type 0
+unfolding Below
+Rising [] = Unit {0}
+Rising (x ∷ l) = Below x l × Rising l
+
+-- x put into a rising list
+unfoldable pub insert : ℕ → List ℕ → List ℕ
+insert x [] = x ∷ []
+insert x (y ∷ l) = min x y ∷ insert (max x y) l
+
+-- the list in rising order
+unfoldable pub sorted : List ℕ → List ℕ
+unfolding insert
+sorted [] = []
+sorted (x ∷ l) = insert x (sorted l)

@@ -1,0 +1,49 @@
+-- A tree's record, and when 32 numbers are a valid one (01, "Species, clusters, records").
+use Prim.Native.Nat.{ℕ, _+_, _-_, _*_, _≤_}
+use mathlib.Core.Path.{_≡_}
+use mathlib.Core.Logic.{_⊎_}
+use mathlib.Core.List.{List, _∷_, _++_}
+use lib.ListN.{length, getD, take, drop, replicate}
+use Rattle.clusters.specs.Sets.{Has, Within, Apart, whole, single, size}
+use Rattle.trees.specs.Lists.{Among, Rising, sorted}
+
+-- "the count m", and "the tree's m clusters"
+abbrev pub count : List ℕ → ℕ
+count r = getD r 0 0
+
+abbrev pub listed : List ℕ → List ℕ
+listed r = take (count r) (drop 1 r)
+
+-- "A tree's record is 32 sixteen-bit numbers: the count m, then the tree's m clusters in rising order, then zeros"
+unfoldable pub recordOf : List ℕ → List ℕ
+recordOf cs = length cs ∷ (sorted cs ++ replicate (31 - length cs) 0)
+
+-- "it has that form with no cluster twice"
+pub record Form (r : List ℕ) : Type 0 where
+  pub thirty-two : length r ≡ 32
+  pub counted : count r ≤ 31
+  pub rising : Rising (listed r)
+  pub zeros : drop (1 + count r) r ≡ replicate (31 - count r) 0
+
+-- "any two are disjoint or one holds the other"
+abbrev pub Nested : ℕ → ℕ → Type 0
+Nested a b = Apart a b ⊎ (Within a b ⊎ Within b a)
+
+-- a valid record of a tree whose whole set is s: 01's sentence, clause by clause
+pub record ValidOn (s : ℕ) (r : List ℕ) : Type 0 where
+  pub form : Form r
+  pub singles : (i : ℕ) → Has s i → Among (single i) (listed r)
+  pub all : Among s (listed r)
+  pub inside : (a : ℕ) → Among a (listed r) → (1 ≤ a) × Within a s
+  pub nested : (a b : ℕ) → Among a (listed r) → Among b (listed r) → Nested a b
+
+-- a valid record of a species tree, and of a gene tree, for n species
+abbrev pub SpeciesValid : ℕ → List ℕ → Type 0
+SpeciesValid n r = ValidOn (whole n) r
+
+abbrev pub GeneValid : ℕ → List ℕ → Type 0
+GeneValid n r = ValidOn (whole n) r
+
+-- "m = 2n - 1 exactly when the tree is binary"
+abbrev pub BinaryOn : ℕ → List ℕ → Type 0
+BinaryOn s r = count r + 1 ≡ 2 * size s
