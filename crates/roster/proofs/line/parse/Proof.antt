@@ -1,0 +1,178 @@
+-- The loop keeps `Begun`: a name has to begin at `at`, no fault stands before it, and the names before it are in the table.
+use Prim.Native.Nat.{ℕ, _+_, _-_, _<_}
+use native.Mathlib.Omega.{arith}
+use mathlib.Core.Path.{sym, ap, _∙_}
+use mathlib.Core.List.{List}
+use lib.ListN.{length}
+use borrow.Author.Needs.{needs}
+use borrow.Author.Tests.{not-true, not-false}
+use Rattle.roster.proofs.Scans.{ended-short, too-long-run}
+use Rattle.roster.proofs.Turns.{Begun, begun-none, Starts, Met, stray-first, open-end, too-many, too-long, repeated, next-within, well-ended, stray-behind, space-behind}
+use Rattle.roster.proofs.line.parse.Statement.{statement}
+use Rattle.roster.proofs.line.parse.Tie as tie
+
+abbrev Inv-loop : tie.InvT-loop
+Inv-loop line most table₀ count₀ at₀ table count at = Begun most line table count at
+
+abbrev μ-loop : tie.MeasureT-loop
+μ-loop line most table₀ count₀ at₀ table count at = length line - at
+
+-- a name begins where the first test has been passed
+starts : (c : tie.Else1 Inv-loop μ-loop) → Starts (c .before .before .before .before .before .before .args .line .now) (c .before .before .before .before .loop .at)
+starts c =
+    record { apart = c .before .before .before .before .loop .inv .apart; here = c .before .before .before .loop-test .taken; first = sym (c .before .is-name-byte .ensures) ∙ not-false _ (c .if1 .left) }
+
+-- what is known once the name has been looked up
+met : (c : tie.After-species Inv-loop μ-loop)
+    → Met (c .before .before .before .before .before .before .before .before .before .before .before .before .before .before .args .most) (c .before .before .before .before .before .before .before .before .before .before .before .before .before .before .args .line .now) (c .before .before .before .before .before .before .before .before .before .before .before .before .loop .table) (c .before .before .before .before .before .before .before .before .before .before .before .before .loop .count) (c .before .before .before .before .before .before .before .before .before .before .before .before .loop .at) (c .before .before .before .label2 .given .0 .0) (c .before .before .before .before .before .before .scan .result .name) (c .species .result)
+met c =
+    record {
+      room = c .before .before .before .before .before .before .before .before .before .before .before .before .before .before .pre;
+      begun = c .before .before .before .before .before .before .before .before .before .before .before .before .loop .inv;
+      starts = starts (c .before .before .before .before .before .before .before .before);
+      fewer = c .before .before .before .before .before .before .before .if2 .left;
+      ended = ended-short (c .before .before .before .before .before .before .before .before .before .before .before .before .before .before .args .line .now) (c .before .before .before .before .before .before .before .before .before .before .before .before .loop .at) (c .before .before .before .before .before .before .scan .result) (c .before .before .before .before .before .before .scan .ensures) (c .before .before .before .label2 .given .0 .0) (c .before .before .before .label2 .given .1);
+      looked = c .species .ensures;
+    }
+
+-- the line goes on behind the name
+more : (c : tie.Else4 Inv-loop μ-loop) → c .before .before .before .before .before .before .before .before .label2 .given .0 .0 < length (c .before .before .before .before .before .before .before .before .before .before .before .before .before .before .before .before .before .before .before .args .line .now)
+more c =
+    let w = next-within _ _ _ _ _ _ _ _ (met (c .before .before .before .before .before)) in
+    let n = c .if4 .left in
+    omega arith
+
+loop-holds : tie.Need-loop-holds Inv-loop μ-loop
+loop-holds c = begun-none _ _
+
+shared-slice-read-is-name-byte : tie.Need-shared-slice-read-is-name-byte Inv-loop μ-loop
+shared-slice-read-is-name-byte c = search needs
+
+is-name-byte-requires : tie.Need-is-name-byte-requires Inv-loop μ-loop
+is-name-byte-requires c κs = search needs
+
+faulty-requires : tie.Need-faulty-requires Inv-loop μ-loop
+faulty-requires c κs = search needs
+
+returns : tie.Need-returns Inv-loop μ-loop
+returns c =
+    c .faulty .ensures ∙ stray-first _ _ _ _ _ (c .before .before .before .before .before .loop .inv) (c .before .before .before .before .loop-test .taken) (sym (c .before .before .is-name-byte .ensures) ∙ not-true _ (c .before .if1 .taken))
+
+faulty-requires-2 : tie.Need-faulty-requires-2 Inv-loop μ-loop
+faulty-requires-2 c κs = search needs
+
+returns-2 : tie.Need-returns-2 Inv-loop μ-loop
+returns-2 c =
+    c .faulty2 .ensures ∙ too-many _ _ _ _ _ (c .before .before .before .before .before .before .loop .inv) (starts (c .before .before)) (c .before .if2 .taken)
+
+scan-requires : tie.Need-scan-requires Inv-loop μ-loop
+scan-requires c κs = search needs
+
+enum-known-label : tie.Need-enum-known-label Inv-loop μ-loop
+enum-known-label c = search needs
+
+faulty-requires-3 : tie.Need-faulty-requires-3 Inv-loop μ-loop
+faulty-requires-3 c κs = search needs
+
+returns-3 : tie.Need-returns-3 Inv-loop μ-loop
+returns-3 c =
+    c .faulty3 .ensures
+    ∙ too-long _ _ _ _ _ (c .before .before .before .before .before .before .before .before .before .before .before .loop .inv) (starts (c .before .before .before .before .before .before .before)) (c .before .before .before .before .before .before .if2 .left) _
+    (too-long-run (c .before .before .before .before .before .before .before .before .before .before .before .before .before .args .line .now) (c .before .before .before .before .before .before .before .before .before .before .before .loop .at) (c .before .before .before .before .before .scan .result) (c .before .before .before .before .before .scan .ensures) (c .before .before .label .given .0 .0) (c .before .before .label .given .1))
+
+enum-known-label-2 : tie.Need-enum-known-label-2 Inv-loop μ-loop
+enum-known-label-2 c = search needs
+
+slice-aggregate-species : tie.Need-slice-aggregate-species Inv-loop μ-loop
+slice-aggregate-species c = search needs
+
+species-requires : tie.Need-species-requires Inv-loop μ-loop
+species-requires c κs = search needs
+
+faulty-requires-4 : tie.Need-faulty-requires-4 Inv-loop μ-loop
+faulty-requires-4 c κs = search needs
+
+returns-4 : tie.Need-returns-4 Inv-loop μ-loop
+returns-4 c =
+    c .faulty4 .ensures ∙ repeated _ _ _ _ _ _ _ _ (met (c .before .before)) (c .before .if3 .taken)
+
+slice-aggregate-enter : tie.Need-slice-aggregate-enter Inv-loop μ-loop
+slice-aggregate-enter c = search needs
+
+enter-requires : tie.Need-enter-requires Inv-loop μ-loop
+enter-requires c κs = search needs
+
+add-count : tie.Need-add-count Inv-loop μ-loop
+add-count c = search needs
+
+returns-5 : tie.Need-returns-5 Inv-loop μ-loop
+returns-5 c =
+    ap (λ (t : List ℕ). record { number = 0; place = 0; count = c .before .before .before .before .before .before .before .before .before .before .before .before .before .before .before .before .before .loop .count + 1; table = t }) (c .before .before .enter .ensures)
+    ∙ well-ended _ _ _ _ _ _ _ _ (met (c .before .before .before .before .before)) (c .before .before .before .before .if3 .left) (c .if4 .taken)
+
+shared-slice-read-if5 : tie.Need-shared-slice-read-if5 Inv-loop μ-loop
+shared-slice-read-if5 c = more (c .before)
+
+faulty-requires-5 : tie.Need-faulty-requires-5 Inv-loop μ-loop
+faulty-requires-5 c κs = search needs
+
+returns-6 : tie.Need-returns-6 Inv-loop μ-loop
+returns-6 c =
+    c .faulty5 .ensures ∙ stray-behind _ _ _ _ _ _ _ _ (met (c .before .before .before .before .before .before .before .before)) (c .before .before .before .before .before .before .before .if3 .left) (more (c .before .before .before)) (c .before .if5 .taken)
+
+add-at : tie.Need-add-at Inv-loop μ-loop
+add-at c =
+    let m = more (c .before .before) in
+    omega arith
+
+loop-less : tie.Need-loop-less Inv-loop μ-loop
+loop-less c =
+    let m = more (c .before .before) in
+    let w = next-within _ _ _ _ _ _ _ _ (met (c .before .before .before .before .before .before .before)) in
+    omega arith
+
+loop-again : tie.Need-loop-again Inv-loop μ-loop
+loop-again c =
+    rw (c .before .before .before .before .enter .ensures) (space-behind _ _ _ _ _ _ _ _ (met (c .before .before .before .before .before .before .before)) (c .before .before .before .before .before .before .if3 .left) (more (c .before .before)) (c .if5 .left))
+
+faulty-requires-6 : tie.Need-faulty-requires-6 Inv-loop μ-loop
+faulty-requires-6 c κs = search needs
+
+returns-7 : tie.Need-returns-7 Inv-loop μ-loop
+returns-7 c =
+    c .faulty6 .ensures ∙ open-end _ _ _ _ _ (c .before .before .loop .inv) (c .before .loop-test .left)
+
+pub parse-spec : {M : Type 1} → statement M
+parse-spec =
+    tie.close
+    (tie.spec
+    Inv-loop
+    μ-loop
+    loop-holds
+    shared-slice-read-is-name-byte
+    is-name-byte-requires
+    faulty-requires
+    returns
+    faulty-requires-2
+    returns-2
+    scan-requires
+    enum-known-label
+    faulty-requires-3
+    returns-3
+    enum-known-label-2
+    slice-aggregate-species
+    species-requires
+    faulty-requires-4
+    returns-4
+    slice-aggregate-enter
+    enter-requires
+    add-count
+    returns-5
+    shared-slice-read-if5
+    faulty-requires-5
+    returns-6
+    add-at
+    loop-less
+    loop-again
+    faulty-requires-6
+    returns-7)

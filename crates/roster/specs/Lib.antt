@@ -1,0 +1,6 @@
+pub mod Bytes
+pub mod Labels
+pub mod Roster
+pub mod Table
+pub mod Judged
+pub mod Verdict
