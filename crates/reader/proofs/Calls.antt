@@ -1,0 +1,63 @@
+-- The whole call: the roster, the text's length and the start are judged before the tree is read.
+use Prim.Native.Nat.{ℕ, _+_, _-_, _*_, _≤_, _<_}
+use native.Mathlib.Omega.{arith}
+use mathlib.Core.Path.{_≡_, refl, sym, ap, _∙_}
+use mathlib.Core.Bool.{Bool, true, false}
+use mathlib.Core.List.{List}
+use lib.ListN.{length, drop, length-drop}
+use lib.Dec.{leb}
+use borrow.Author.Tests.{le-leb, lt-leb}
+use Rattle.clusters.specs.Sets.{whole}
+use Rattle.roster.specs.Bytes.{isName, run}
+use Rattle.roster.specs.Labels.{labelBytes, word, padded}
+use Rattle.roster.specs.Roster.{names, faulty, firstFault, position}
+use Rattle.roster.specs.Table.{table, slots}
+use Rattle.roster.specs.Judged.{speciesMost, rosterOf}
+use Rattle.roster.specs.declared.Roster.{Roster}
+use Rattle.roster.proofs.Judging.{read-good, read-faulty, read-room}
+use Rattle.roster.proofs.Names.{word-fits, table-tells}
+use Rattle.reader.specs.Answers.Answer.{parsed, refused}
+use Rattle.reader.specs.Reading.{openMost, readTree, readTreeTo}
+use Rattle.reader.specs.Core.{Holds, treeAnswer, ReadsRecord}
+use Rattle.reader.specs.Promise.{textMost, readingOf, answerTo, Reads}
+use Rattle.reader.specs.declared.Reading.{Reading}
+
+-- the table of a good roster has the line's names
+pub holds-names :
+    (line : List ℕ) (roster : Roster) → roster ≡ rosterOf speciesMost line → roster .number ≡ 0 → Holds (names line) (roster .count) (roster .table)
+holds-names line roster judged good =
+    let g = read-good speciesMost line roster judged good in
+    record {
+      counted = sym (g .1);
+      finds = λ s short. rw (g .1, g .2) (table-tells speciesMost line (g .0) (word s) (word-fits s short));
+    }
+
+module _ (line text : List ℕ) (start : ℕ) (roster : Roster) (judged : roster ≡ rosterOf speciesMost line) (r : Reading) where
+  -- "1 | roster faulty"
+  pub roster-refused :
+      (roster .number ≡ 0 → ⊥) → r ≡ readingOf start (refused (roster .number) (roster .place)) → Reads line text start r
+  unfolding Reads answerTo
+  roster-refused faulted is =
+      let f = read-faulty speciesMost line roster judged faulted in
+      rw (f .0) (rw (f .1, f .2) at is)
+
+  module _ (good : roster .number ≡ 0) where
+    -- "2 | text over 65,536 bytes"
+    pub long-refused : textMost < length text → r ≡ readingOf start (refused 2 textMost) → Reads line text start r
+    unfolding Reads answerTo
+    long-refused h is = rw (read-good speciesMost line roster judged good .0, lt-leb (length text) textMost h) is
+
+    module _ (short : length text ≤ textMost) where
+      -- "A start beyond the text gives 10"
+      pub start-refused : length text < start → r ≡ readingOf start (refused 10 (length text)) → Reads line text start r
+      unfolding Reads answerTo
+      start-refused h is =
+          rw (read-good speciesMost line roster judged good .0, le-leb (length text) textMost short, lt-leb start (length text) h) is
+
+      pub tree-recorded : start ≤ length text → ReadsRecord text (roster .table) (roster .count) start openMost r → Reads line text start r
+      unfolding Reads answerTo ReadsRecord readTree readTreeTo treeAnswer
+      tree-recorded h reads =
+          let g = read-good speciesMost line roster judged good in
+          let deep : 2 * (length text - start) < 2 * length (drop start text) + 1 = let l = length-drop start text in omega arith in
+          rw (g .0, le-leb (length text) textMost short, le-leb start (length text) h)
+          (rw (g .1) at (reads (names line) (holds-names line roster judged good) (2 * length (drop start text) + 1) deep))

@@ -1,0 +1,190 @@
+-- The ways through reading a tree, and what its record comes to.
+use Prim.Native.Nat.{ℕ, zero, suc, _+_, _-_, _*_, _^_, _≤_, _<_}
+use native.Mathlib.Omega.{arith}
+use mathlib.Core.Path.{_≡_, refl, sym, ap, _∙_}
+use mathlib.Core.Bool.{Bool, true, false}
+use mathlib.Core.List.{List, [], _∷_}
+use lib.ListN.{length, getD, take, drop, replicate, length-drop, length-replicate}
+use lib.Seq.{sets, length-sets}
+use lib.Dec.{leb}
+use lib.Pow.{pow-mono, pow-pos}
+use borrow.Author.Tests.{le-leb, lt-leb}
+use Rattle.clusters.specs.Sets.{whole, within, union, size}
+use Rattle.clusters.proofs.Sizes.{size-le}
+use Rattle.trees.specs.Tree.{Tree, cluster, clusters}
+use Rattle.trees.specs.Records.{recordOf}
+use Rattle.reader.specs.Answers.{Answer, andThen}
+use Rattle.reader.specs.Answers.Answer.{parsed, refused}
+use Rattle.reader.specs.Tokens.{nextIs, blanks, skip}
+use Rattle.reader.specs.Reading.{openMost, readNode, complete, ended, readTreeTo, readTree}
+use Rattle.reader.specs.Core.{refusal, strayAt, nodeFault, Holds, Given, NodeReads, treeAnswer, ReadsNode, ReadsTree}
+use Rattle.reader.specs.Promise.{readingOf}
+use Rattle.reader.specs.declared.Reading.{Reading}
+use Rattle.reader.specs.declared.answer.Refusal.{Refusal}
+use Rattle.reader.specs.declared.answer.Cursor.{Cursor}
+use Rattle.reader.specs.declared.answer.NodeRead.{NodeRead}
+use Rattle.reader.specs.declared.answer.NodeRead.the-variants.{Node, Refused as NoNode}
+use Rattle.reader.proofs.Answers.{refused-parsed, andThen-parsed, unexpected-parsed}
+use Rattle.reader.proofs.Growth.{Fresh, FreshTree, readNode-fresh}
+use Rattle.reader.proofs.NodeAnswers.{node-refused, refused-node, TreeRead, node-read, read-node}
+use Rattle.reader.proofs.NodeSteps.{end-missing, species-missing, tree-ends}
+use Rattle.reader.proofs.NodeWays.{NodeCall, Followed, node-told}
+use Rattle.reader.proofs.Stores.{getD-sets, take-sets}
+
+-- ---- a node and `;`
+
+module _
+    (text table : List ℕ) (count : ℕ) (names : List (List ℕ)) (holds : Holds names count table) (start needed room : ℕ) (before : List ℕ) (k : ℕ)
+    (deep : 2 * (length text - start) < k) (one : NodeCall text table count start 0 0 room before)
+  where
+    open NodeCall one using (cursor, cursor-is, after as mid, result, reads)
+
+    root-told : NodeReads text 0 0 before mid (readNode k names room 0 (drop start text) start) result
+    root-told = node-told text table count names holds cursor start 0 0 cursor-is before mid result room k reads deep
+
+    pub root-refused-way :
+        (e : Refusal) → result ≡ NoNode e → NodeReads text 0 0 before mid (treeAnswer k names room needed (drop start text) start) result
+    unfolding treeAnswer
+    root-refused-way e told =
+        let h = refused-node text 0 0 before mid (readNode k names room 0 (drop start text) start) result e root-told told in
+        rw told
+        (node-refused text 0 0 before mid (treeAnswer k names room needed (drop start text) start) e (rw (← h)))
+
+    module _ (followed : Followed text result) where
+      open Followed followed using (mask, next, told, here, passed)
+
+      root : TreeRead text 0 0 before mid (readNode k names room 0 (drop start text) start) mask next
+      root = read-node text 0 0 before mid (readNode k names room 0 (drop start text) start) result mask next root-told told
+
+      behind-root-is :
+          treeAnswer k names room needed (drop start text) start
+          ≡ ended (nextIs 59 (skip (drop (next .at) text))) needed (root .tree) (skip (drop (next .at) text)) (next .at + blanks (drop (next .at) text))
+      unfolding treeAnswer
+      behind-root-is = rw (root .answered)
+
+      pub end-missing-way :
+          (e : Refusal) → nextIs 59 (drop here text) ≡ false → e ≡ strayAt (drop here text) here
+          → NodeReads text 0 0 before mid (treeAnswer k names room needed (drop start text) start) (NoNode e)
+      end-missing-way e t is =
+          node-refused text 0 0 before mid (treeAnswer k names room needed (drop start text) start) e
+          (rw (is, behind-root-is) (end-missing text (next .at) here passed needed (root .tree) t))
+
+      module _ (t : nextIs 59 (drop here text) ≡ true) where
+        pub species-missing-way :
+            within needed mask ≡ false
+            → NodeReads text 0 0 before mid (treeAnswer k names room needed (drop start text) start) (NoNode (record { number = 9; place = here }))
+        species-missing-way w =
+            node-refused text 0 0 before mid (treeAnswer k names room needed (drop start text) start) (record { number = 9; place = here })
+            (rw (behind-root-is) (species-missing text (next .at) here passed needed (root .tree) t (rw (root .mask-is) at w)))
+
+        pub tree-way :
+            (end : Cursor) → within needed mask ≡ true → end ≡ record { at = here + 1; seen = next .seen; stored = next .stored }
+            → NodeReads text 0 0 before mid (treeAnswer k names room needed (drop start text) start) (Node mask end)
+        tree-way end w end-is =
+            rw end-is
+            (node-read text 0 0 before mid (treeAnswer k names room needed (drop start text) start) mask
+            (record { at = here + 1; seen = next .seen; stored = next .stored })
+            (record {
+              tree = root .tree;
+              answered = behind-root-is ∙ tree-ends text (next .at) here passed needed (root .tree) t (rw (root .mask-is) at w);
+              mask-is = root .mask-is;
+              seen-is = root .seen-is;
+              stored-is = root .stored-is;
+              table-is = root .table-is;
+            }))
+
+-- ---- the tree is the root's
+
+complete-same : (t : Bool) (c : Tree) (s : List ℕ) (p : ℕ) {x : Tree} {rest : List ℕ} {q : ℕ} → complete t c s p ≡ parsed x rest q → x ≡ c
+complete-same true c s p e = cc
+complete-same false c s p e = absurd (refused-parsed e)
+
+ended-same : (t : Bool) (needed : ℕ) (c : Tree) (s : List ℕ) (p : ℕ) {x : Tree} {rest : List ℕ} {q : ℕ} → ended t needed c s p ≡ parsed x rest q → x ≡ c
+ended-same true needed c s p e = complete-same (within needed (cluster c)) c s p e
+ended-same false needed c s p e = absurd (unexpected-parsed s p e)
+
+pub tree-fresh :
+    (k : ℕ) (names : List (List ℕ)) (room needed : ℕ) (s : List ℕ) (p : ℕ) (x : Tree) (rest : List ℕ) (q : ℕ)
+    → treeAnswer k names room needed s p ≡ parsed x rest q → FreshTree (length names) 0 x
+unfolding treeAnswer
+tree-fresh k names room needed s p x rest q e =
+    let r = andThen-parsed (readNode k names room 0 s p) (λ t s p. ended (nextIs 59 (skip s)) needed t (skip s) (p + blanks s)) e in
+    let m = r .left in
+    let is : x ≡ r .value = ended-same (nextIs 59 (skip m)) needed (r .value) (skip m) (r .place + blanks m) (r .after) in
+    rw is (readNode-fresh k names room 0 s p (r .value) m (r .place) (r .first))
+
+-- ---- its record
+
+-- an empty table has room for all
+pub given-empty :
+    (count : ℕ) (table : List ℕ) → (names : List (List ℕ)) × Holds names count table → count ≤ 16 → 16 * count ≤ length table
+    → Given count table (replicate 64 0) 0 0
+given-empty count table held few long = record {
+  holds = held;
+  most = omega arith;
+  long = long;
+  wide = omega (arith, length-replicate {A = ℕ} 64 0);
+  below = pow-pos count;
+  spare = omega arith;
+}
+
+module _
+    (text table : List ℕ) (count : ℕ) (names : List (List ℕ)) (holds : Holds names count table) (start needed room : ℕ) (found : List ℕ) (r : NodeRead)
+    (reads : ReadsTree text table count needed start room (replicate 64 0) found r) (k : ℕ) (deep : 2 * (length text - start) < k)
+  where
+    tree-told : NodeReads text 0 0 (replicate 64 0) found (treeAnswer k names room needed (drop start text) start) r
+    unfolding ReadsTree
+    tree-told = reads names holds k deep
+
+    pub reading-refused :
+        (e f : Refusal) (result : Reading) → r ≡ NoNode e → f ≡ nodeFault r → result ≡ readingOf start (refused (f .number) (f .place))
+        → result ≡ readingOf start (treeAnswer k names room needed (drop start text) start)
+    reading-refused e f result told fault is =
+        let h = refused-node text 0 0 (replicate 64 0) found (treeAnswer k names room needed (drop start text) start) r e tree-told told in
+        let g : f ≡ e = rw told at fault in
+        rw (← h, ← g) is
+
+    module _ (mask : ℕ) (next : Cursor) (told : r ≡ Node mask next) (few : count ≤ 16) where
+      read-tree : TreeRead text 0 0 (replicate 64 0) found (treeAnswer k names room needed (drop start text) start) mask next
+      read-tree = read-node text 0 0 (replicate 64 0) found (treeAnswer k names room needed (drop start text) start) r mask next tree-told told
+
+      fresh : Fresh count 0 (cluster (read-tree .tree)) (clusters (read-tree .tree))
+      fresh =
+          rw (holds .counted) at
+          (tree-fresh k names room needed (drop start text) start (read-tree .tree) (drop (next .at) text) (next .at) (read-tree .answered))
+
+      pub stored-few : next .stored ≤ 31
+      stored-few =
+          let f = fresh in
+          let l = size-le count (f .below) in
+          omega (arith, f .counted, read-tree .stored-is)
+
+      long : length found ≡ 64
+      long = rw (read-tree .table-is) (length-sets (replicate 64 0) 0 (clusters (read-tree .tree)) ∙ length-replicate {A = ℕ} 64 0)
+
+      pub stored-within : next .stored ≤ length found
+      stored-within = let f = stored-few in let l = long in omega arith
+
+      stored-is : next .stored ≡ length (clusters (read-tree .tree))
+      stored-is = let s = read-tree .stored-is in omega arith
+
+      fits : length (clusters (read-tree .tree)) ≤ length (replicate {A = ℕ} 64 0)
+      fits = let f = stored-few in let s = stored-is in omega (arith, length-replicate {A = ℕ} 64 0)
+
+      pub stored-narrow : (i : ℕ) → i < next .stored → getD found i 0 < 65536
+      stored-narrow i h =
+          let l : i < length (clusters (read-tree .tree)) = let s = stored-is in omega arith in
+          let top : 2 ^ count ≤ 2 ^ 16 = pow-mono few in
+          let b = fresh .each i l in
+          rw (read-tree .table-is, getD-sets (replicate 64 0) (clusters (read-tree .tree)) i fits l) (omega arith)
+
+      pub reading-recorded :
+          (numbers : List ℕ) → numbers ≡ recordOf (take (next .stored) found)
+          → record { number = 0; place = 0; next = next .at; numbers = numbers } ≡ readingOf start (treeAnswer k names room needed (drop start text) start)
+      reading-recorded numbers is =
+          let cut : take (next .stored) found ≡ clusters (read-tree .tree) =
+          ap (λ (n : ℕ). take n found) stored-is
+          ∙ ap (λ (l : List ℕ). take (length (clusters (read-tree .tree))) l) (read-tree .table-is)
+          ∙ take-sets (replicate 64 0) (clusters (read-tree .tree)) fits
+          in
+          rw (read-tree .answered, is, cut)

@@ -1,0 +1,472 @@
+-- `node::node` and `node::list` meet their contracts: one way of `NodeWays` for each return.
+-- The text that is left falls with each call; a list counts one more than the node that it begins with.
+use Prim.Native.Nat.{ℕ, _+_, _-_, _*_, _<_, _≤_}
+use native.Mathlib.Omega.{arith}
+use mathlib.Core.Path.{_≡_, refl, sym, ap, _∙_}
+use mathlib.Core.Bool.{true, false}
+use mathlib.Core.List.{List}
+use lib.ListN.{length, drop}
+use borrow.Author.Needs.{needs}
+use borrow.Author.Tests.{not-true, not-false}
+use Rattle.reader.specs.Tokens.{nextIs, nextName}
+use Rattle.reader.specs.Core.{Given, Holds, ReadsNode, ReadsList}
+use Rattle.reader.specs.declared.answer.Cursor.{Cursor}
+use Rattle.reader.proofs.NodeWays.{NodeCall, ListCall, Followed, Opening, Grown, given-moved, leaf-way, stray-way, full-way, opening-inside, first-falls, first-refused-way, no-comma-way, first-grown, comma-inside, others-fall, others-refused-way, others-grown, node-way, child-refused-way, list-stray-way, last-way, child-grown, rest-falls, rest-refused-way, more-way}
+use Rattle.reader.proofs.Places.{next-is-inside}
+use borrow.Fn.Kinds.{In}
+use borrow.Fn.PlainCycle.{Measures, is, falls, and}
+use Rattle.reader.proofs.node.list.Reads as list
+use Rattle.reader.proofs.node.list.Kinds as list-kinds
+use Rattle.reader.proofs.node.+list+node.Lts-list as list-lts
+use Rattle.reader.proofs.node.node.Reads as node
+use Rattle.reader.proofs.node.node.Kinds as node-kinds
+use Rattle.reader.proofs.node.+list+node.Lts-node as node-lts
+use Rattle.clusters.proofs.union.Reads as union-reads
+use Rattle.reader.proofs.answer.moved.Reads as moved-reads
+use Rattle.reader.proofs.behind.closing.Reads as closing-reads
+use Rattle.reader.proofs.cursor.blanks.Reads as blanks-reads
+use Rattle.reader.proofs.cursor.next_is.Reads as next-is-reads
+use Rattle.reader.proofs.cursor.next_name.Reads as next-name-reads
+use Rattle.reader.proofs.cursor.stray.Reads as stray-reads
+use Rattle.reader.proofs.leaf.ended.Reads as ended-reads
+use Rattle.reader.proofs.leaf.leaf.Reads as leaf-reads
+use Rattle.reader.proofs.node.no_comma.Reads as no-comma-reads
+use Rattle.reader.proofs.node.+list+node.{statement}
+use Rattle.reader.proofs.node.+list+node.Tie.{close}
+
+abbrev μ-list : Measures 3 list-kinds.ps ℕ
+μ-list κs a = 2 * (length (a .0 .now) - a .1 .1 .1 .0 .at) + 1
+
+abbrev μ-node : Measures 3 node-kinds.ps ℕ
+μ-node κs a = 2 * (length (a .0 .now) - a .1 .1 .1 .0 .at)
+
+abbrev list-at : ℕ → In 3 list-kinds.ps
+list-at t = and 3 list-kinds.ps (is 3 list-kinds.ps μ-list t) list.Pre
+
+abbrev list-below : ℕ → In 3 list-kinds.ps
+list-below t = and 3 list-kinds.ps (falls 3 list-kinds.ps _<_ μ-list t) list.Pre
+
+abbrev node-at : ℕ → In 3 node-kinds.ps
+node-at t = and 3 node-kinds.ps (is 3 node-kinds.ps μ-node t) node.Pre
+
+abbrev node-below : ℕ → In 3 node-kinds.ps
+node-below t = and 3 node-kinds.ps (falls 3 node-kinds.ps _<_ μ-node t) node.Pre
+
+-- what `list` calls
+abbrev list-calls : ℕ → list-lts.Claims
+list-calls t = (
+  node-below t,
+  node.Post,
+  blanks-reads.Asked,
+  blanks-reads.Learnt,
+  next-is-reads.Asked,
+  next-is-reads.Learnt,
+  moved-reads.Asked,
+  moved-reads.Learnt,
+  list-below t,
+  list.Post,
+  union-reads.Asked,
+  union-reads.Learnt,
+  stray-reads.Asked,
+  stray-reads.Learnt,
+)
+
+-- what `node` calls
+abbrev node-calls : ℕ → node-lts.Claims
+node-calls t = (
+  blanks-reads.Asked,
+  blanks-reads.Learnt,
+  next-name-reads.Asked,
+  next-name-reads.Learnt,
+  moved-reads.Asked,
+  moved-reads.Learnt,
+  leaf-reads.Asked,
+  leaf-reads.Learnt,
+  next-is-reads.Asked,
+  next-is-reads.Learnt,
+  stray-reads.Asked,
+  stray-reads.Learnt,
+  node-below t,
+  node.Post,
+  no-comma-reads.Asked,
+  no-comma-reads.Learnt,
+  list-below t,
+  list.Post,
+  closing-reads.Asked,
+  closing-reads.Learnt,
+  union-reads.Asked,
+  union-reads.Learnt,
+  ended-reads.Asked,
+  ended-reads.Learnt,
+)
+
+abbrev list-child : (t : ℕ) (c : list-lts.After-slice-known2 (list-calls t) (list-at t) list.Post) → NodeCall (c .before .before .before .before .before .before .before .args .text .now) (c .before .before .before .before .before .before .before .args .table .now) (c .before .before .before .before .before .before .before .args .count) (c .before .before .before .before .before .before .before .args .c .at) (c .before .before .before .before .before .before .before .args .c .seen) (c .before .before .before .before .before .before .before .args .c .stored) (c .before .before .before .before .before .before .before .args .room) (c .before .before .before .before .before .before .before .args .found .now)
+list-child t c = record {
+  cursor = c .before .before .before .before .before .before .before .args .c;
+  cursor-is = refl;
+  after = c .before .before .node .last .1 .1 .1 .1 .1 .0;
+  result = c .before .before .node .result;
+  reads = c .before .before .node .ensures;
+}
+
+abbrev list-followed : (t : ℕ) (c : list-lts.After-blanks (list-calls t) (list-at t) list.Post) → Followed (c .before .before .before .before .before .before .before .before .before .before .before .args .text .now) (c .before .before .before .before .before .before .node .result)
+list-followed t c = record {
+  mask = c .before .before .first .given .0 .0;
+  next = c .before .before .first .given .0 .1 .0;
+  told = c .before .before .first .given .1;
+  here = c .blanks .result;
+  passed = c .blanks .ensures;
+}
+
+list-comma : (t : ℕ) (c : list-lts.Then1 (list-calls t) (list-at t) list.Post) → nextIs 44 (drop (c .before .before .blanks .result) (c .before .before .before .before .before .before .before .before .before .before .before .before .before .args .text .now)) ≡ true
+list-comma t c = sym (c .before .next-is .ensures) ∙ c .if1 .taken
+
+list-no-comma : (t : ℕ) (c : list-lts.Else1 (list-calls t) (list-at t) list.Post) → nextIs 44 (drop (c .before .before .blanks .result) (c .before .before .before .before .before .before .before .before .before .before .before .before .before .args .text .now)) ≡ false
+list-no-comma t c = sym (c .before .next-is .ensures) ∙ c .if1 .left
+
+abbrev list-rest : (t : ℕ) (c : list-lts.After-slice-known3 (list-calls t) (list-at t) list.Post) → ListCall (c .before .before .before .before .before .before .before .before .before .before .before .before .before .before .before .before .before .before .args .text .now) (c .before .before .before .before .before .before .before .before .before .before .before .before .before .before .before .before .before .before .args .table .now) (c .before .before .before .before .before .before .before .before .before .before .before .before .before .before .before .before .before .before .args .count) (c .before .before .before .before .before .before .before .blanks .result + 1) (c .before .before .before .before .before .before .before .before .before .first .given .0 .1 .0 .seen) (c .before .before .before .before .before .before .before .before .before .first .given .0 .1 .0 .stored) (c .before .before .before .before .before .before .before .before .before .before .before .before .before .before .before .before .before .before .args .room) (c .before .before .before .before .before .before .before .before .before .before .before .before .before .node .last .1 .1 .1 .1 .1 .0)
+list-rest t c = record {
+  cursor = c .before .before .before .before .moved .result;
+  cursor-is = c .before .before .before .before .moved .ensures;
+  after = c .before .before .list .last .1 .1 .1 .1 .1 .0;
+  result = c .before .before .list .result;
+  reads = c .before .before .list .ensures;
+}
+
+list-node-requires : (t : ℕ) → list-lts.Need-node-requires (list-calls t) (list-at t) list.Post
+list-node-requires t c κs = (let e = c .before .before .before .before .pre .0 in omega arith, c .before .before .before .before .pre .1)
+
+list-enum-known-first : (t : ℕ) → list-lts.Need-enum-known-first (list-calls t) (list-at t) list.Post
+list-enum-known-first t c = search needs
+
+list-enum-told : (t : ℕ) → list-lts.Need-enum-told (list-calls t) (list-at t) list.Post
+list-enum-told t c = search needs
+
+list-same-length : (t : ℕ) → list-lts.Need-same-length (list-calls t) (list-at t) list.Post
+list-same-length t c = search needs
+
+list-returns : (t : ℕ) → list-lts.Need-returns (list-calls t) (list-at t) list.Post
+unfolding ReadsList
+list-returns t c = λ names holds k deep. child-refused-way (c .before .before .before .before .before .before .before .before .before .args .text .now) (c .before .before .before .before .before .before .before .before .before .args .table .now) (c .before .before .before .before .before .before .before .before .before .args .count) names holds (c .before .before .before .before .before .before .before .before .before .args .c .at) (c .before .before .before .before .before .before .before .before .before .args .c .seen) (c .before .before .before .before .before .before .before .before .before .args .c .stored) (c .before .before .before .before .before .before .before .before .before .args .room) (c .before .before .before .before .before .before .before .before .before .args .found .now) k deep (list-child t (c .before .before)) _ (c .enum-told .given .1)
+
+list-blanks-requires : (t : ℕ) → list-lts.Need-blanks-requires (list-calls t) (list-at t) list.Post
+list-blanks-requires t c κs = search needs
+
+list-next-is-requires : (t : ℕ) → list-lts.Need-next-is-requires (list-calls t) (list-at t) list.Post
+list-next-is-requires t c κs = search needs
+
+list-add-moved : (t : ℕ) → list-lts.Need-add-moved (list-calls t) (list-at t) list.Post
+list-add-moved t c = let h = next-is-inside (c .before .before .before .before .before .before .before .before .before .before .before .before .before .args .text .now) (c .before .before .blanks .result) 44 (list-comma t c) in omega arith
+
+list-moved-requires : (t : ℕ) → list-lts.Need-moved-requires (list-calls t) (list-at t) list.Post
+list-moved-requires t c κs = search needs
+
+list-list-requires : (t : ℕ) → list-lts.Need-list-requires (list-calls t) (list-at t) list.Post
+list-list-requires t c κs =
+    let falls-to = rest-falls (c .before .before .before .before .before .before .before .before .before .before .before .before .before .before .before .args .text .now) (c .before .before .before .before .before .before .before .before .before .before .before .before .before .before .before .args .table .now) (c .before .before .before .before .before .before .before .before .before .before .before .before .before .before .before .args .count) (c .before .before .before .before .before .before .before .before .before .before .before .before .before .before .before .pre .1 .holds .0) (c .before .before .before .before .before .before .before .before .before .before .before .before .before .before .before .pre .1 .holds .1) (c .before .before .before .before .before .before .before .before .before .before .before .before .before .before .before .args .c .at) (c .before .before .before .before .before .before .before .before .before .before .before .before .before .before .before .args .c .seen) (c .before .before .before .before .before .before .before .before .before .before .before .before .before .before .before .args .c .stored) (c .before .before .before .before .before .before .before .before .before .before .before .before .before .before .before .args .room) (c .before .before .before .before .before .before .before .before .before .before .before .before .before .before .before .args .found .now) (2 * (length (c .before .before .before .before .before .before .before .before .before .before .before .before .before .before .before .args .text .now) - c .before .before .before .before .before .before .before .before .before .before .before .before .before .before .before .args .c .at) + 2) (omega arith) (list-child t (c .before .before .before .before .before .before .before .before)) (list-followed t (c .before .before .before .before)) (list-comma t (c .before .before)) in
+    let more = child-grown (c .before .before .before .before .before .before .before .before .before .before .before .before .before .before .before .args .text .now) (c .before .before .before .before .before .before .before .before .before .before .before .before .before .before .before .args .table .now) (c .before .before .before .before .before .before .before .before .before .before .before .before .before .before .before .args .count) (c .before .before .before .before .before .before .before .before .before .before .before .before .before .before .before .pre .1 .holds .0) (c .before .before .before .before .before .before .before .before .before .before .before .before .before .before .before .pre .1 .holds .1) (c .before .before .before .before .before .before .before .before .before .before .before .before .before .before .before .args .c .at) (c .before .before .before .before .before .before .before .before .before .before .before .before .before .before .before .args .c .seen) (c .before .before .before .before .before .before .before .before .before .before .before .before .before .before .before .args .c .stored) (c .before .before .before .before .before .before .before .before .before .before .before .before .before .before .before .args .room) (c .before .before .before .before .before .before .before .before .before .before .before .before .before .before .before .args .found .now) (2 * (length (c .before .before .before .before .before .before .before .before .before .before .before .before .before .before .before .args .text .now) - c .before .before .before .before .before .before .before .before .before .before .before .before .before .before .before .args .c .at) + 2) (omega arith) (list-child t (c .before .before .before .before .before .before .before .before)) (list-followed t (c .before .before .before .before)) (c .before .before .before .before .before .before .before .before .before .before .before .before .before .before .before .pre .1) in
+    let place : c .before .moved .result .at ≡ c .before .before .before .before .blanks .result + 1 = ap (λ (m : Cursor). m .at) (c .before .moved .ensures) in
+    let e = c .before .before .before .before .before .before .before .before .before .before .before .before .before .before .before .pre .0 in
+    (omega arith, given-moved _ _ _ _ _ _ _ (c .before .moved .ensures) (more .given))
+
+list-enum-known-others : (t : ℕ) → list-lts.Need-enum-known-others (list-calls t) (list-at t) list.Post
+list-enum-known-others t c = search needs
+
+list-enum-told-2 : (t : ℕ) → list-lts.Need-enum-told-2 (list-calls t) (list-at t) list.Post
+list-enum-told-2 t c = search needs
+
+list-same-length-2 : (t : ℕ) → list-lts.Need-same-length-2 (list-calls t) (list-at t) list.Post
+list-same-length-2 t c = search needs
+
+list-returns-2 : (t : ℕ) → list-lts.Need-returns-2 (list-calls t) (list-at t) list.Post
+unfolding ReadsList
+list-returns-2 t c = λ names holds k deep.
+    rest-refused-way (c .before .before .before .before .before .before .before .before .before .before .before .before .before .before .before .before .before .before .before .before .args .text .now) (c .before .before .before .before .before .before .before .before .before .before .before .before .before .before .before .before .before .before .before .before .args .table .now) (c .before .before .before .before .before .before .before .before .before .before .before .before .before .before .before .before .before .before .before .before .args .count) names holds (c .before .before .before .before .before .before .before .before .before .before .before .before .before .before .before .before .before .before .before .before .args .c .at) (c .before .before .before .before .before .before .before .before .before .before .before .before .before .before .before .before .before .before .before .before .args .c .seen) (c .before .before .before .before .before .before .before .before .before .before .before .before .before .before .before .before .before .before .before .before .args .c .stored) (c .before .before .before .before .before .before .before .before .before .before .before .before .before .before .before .before .before .before .before .before .args .room) (c .before .before .before .before .before .before .before .before .before .before .before .before .before .before .before .before .before .before .before .before .args .found .now) k deep (list-child t (c .before .before .before .before .before .before .before .before .before .before .before .before .before)) (list-followed t (c .before .before .before .before .before .before .before .before .before)) (list-comma t (c .before .before .before .before .before .before .before)) (list-rest t (c .before .before)) _ (c .enum-told2 .given .1)
+
+list-union-requires : (t : ℕ) → list-lts.Need-union-requires (list-calls t) (list-at t) list.Post
+list-union-requires t c κs = search needs
+
+list-same-length-3 : (t : ℕ) → list-lts.Need-same-length-3 (list-calls t) (list-at t) list.Post
+list-same-length-3 t c = search needs
+
+list-returns-3 : (t : ℕ) → list-lts.Need-returns-3 (list-calls t) (list-at t) list.Post
+unfolding ReadsList
+list-returns-3 t c = λ names holds k deep.
+    more-way (c .before .before .before .before .before .before .before .before .before .before .before .before .before .before .before .before .before .before .before .before .before .before .args .text .now) (c .before .before .before .before .before .before .before .before .before .before .before .before .before .before .before .before .before .before .before .before .before .before .args .table .now) (c .before .before .before .before .before .before .before .before .before .before .before .before .before .before .before .before .before .before .before .before .before .before .args .count) names holds (c .before .before .before .before .before .before .before .before .before .before .before .before .before .before .before .before .before .before .before .before .before .before .args .c .at) (c .before .before .before .before .before .before .before .before .before .before .before .before .before .before .before .before .before .before .before .before .before .before .args .c .seen) (c .before .before .before .before .before .before .before .before .before .before .before .before .before .before .before .before .before .before .before .before .before .before .args .c .stored) (c .before .before .before .before .before .before .before .before .before .before .before .before .before .before .before .before .before .before .before .before .before .before .args .room) (c .before .before .before .before .before .before .before .before .before .before .before .before .before .before .before .before .before .before .before .before .before .before .args .found .now) k deep (list-child t (c .before .before .before .before .before .before .before .before .before .before .before .before .before .before .before)) (list-followed t (c .before .before .before .before .before .before .before .before .before .before .before)) (list-comma t (c .before .before .before .before .before .before .before .before .before)) (list-rest t (c .before .before .before .before)) _ _ (c .union .result) (c .before .before .others .given .1)
+    (c .union .ensures)
+
+list-next-is-requires-2 : (t : ℕ) → list-lts.Need-next-is-requires-2 (list-calls t) (list-at t) list.Post
+list-next-is-requires-2 t c κs = search needs
+
+list-add-moved-2 : (t : ℕ) → list-lts.Need-add-moved-2 (list-calls t) (list-at t) list.Post
+list-add-moved-2 t c = let h = next-is-inside (c .before .before .before .before .before .before .before .before .before .before .before .before .before .before .before .args .text .now) (c .before .before .before .before .blanks .result) 41 (sym (c .before .next-is2 .ensures) ∙ c .if2 .taken) in omega arith
+
+list-moved-requires-2 : (t : ℕ) → list-lts.Need-moved-requires-2 (list-calls t) (list-at t) list.Post
+list-moved-requires-2 t c κs = search needs
+
+list-same-length-4 : (t : ℕ) → list-lts.Need-same-length-4 (list-calls t) (list-at t) list.Post
+list-same-length-4 t c = search needs
+
+list-returns-4 : (t : ℕ) → list-lts.Need-returns-4 (list-calls t) (list-at t) list.Post
+unfolding ReadsList
+list-returns-4 t c = λ names holds k deep.
+    last-way (c .before .before .before .before .before .before .before .before .before .before .before .before .before .before .before .before .args .text .now) (c .before .before .before .before .before .before .before .before .before .before .before .before .before .before .before .before .args .table .now) (c .before .before .before .before .before .before .before .before .before .before .before .before .before .before .before .before .args .count) names holds (c .before .before .before .before .before .before .before .before .before .before .before .before .before .before .before .before .args .c .at) (c .before .before .before .before .before .before .before .before .before .before .before .before .before .before .before .before .args .c .seen) (c .before .before .before .before .before .before .before .before .before .before .before .before .before .before .before .before .args .c .stored) (c .before .before .before .before .before .before .before .before .before .before .before .before .before .before .before .before .args .room) (c .before .before .before .before .before .before .before .before .before .before .before .before .before .before .before .before .args .found .now) k deep (list-child t (c .before .before .before .before .before .before .before .before .before)) (list-followed t (c .before .before .before .before .before)) (c .moved2 .result) (list-no-comma t (c .before .before .before)) (sym (c .before .before .next-is2 .ensures) ∙ c .before .if2 .taken)
+    (c .moved2 .ensures)
+
+list-stray-requires : (t : ℕ) → list-lts.Need-stray-requires (list-calls t) (list-at t) list.Post
+list-stray-requires t c κs = search needs
+
+list-same-length-5 : (t : ℕ) → list-lts.Need-same-length-5 (list-calls t) (list-at t) list.Post
+list-same-length-5 t c = search needs
+
+list-returns-5 : (t : ℕ) → list-lts.Need-returns-5 (list-calls t) (list-at t) list.Post
+unfolding ReadsList
+list-returns-5 t c = λ names holds k deep.
+    list-stray-way (c .before .before .before .before .before .before .before .before .before .before .before .before .before .before .before .before .args .text .now) (c .before .before .before .before .before .before .before .before .before .before .before .before .before .before .before .before .args .table .now) (c .before .before .before .before .before .before .before .before .before .before .before .before .before .before .before .before .args .count) names holds (c .before .before .before .before .before .before .before .before .before .before .before .before .before .before .before .before .args .c .at) (c .before .before .before .before .before .before .before .before .before .before .before .before .before .before .before .before .args .c .seen) (c .before .before .before .before .before .before .before .before .before .before .before .before .before .before .before .before .args .c .stored) (c .before .before .before .before .before .before .before .before .before .before .before .before .before .before .before .before .args .room) (c .before .before .before .before .before .before .before .before .before .before .before .before .before .before .before .before .args .found .now) k deep (list-child t (c .before .before .before .before .before .before .before .before .before)) (list-followed t (c .before .before .before .before .before)) (c .stray .result) (list-no-comma t (c .before .before .before)) (sym (c .before .before .next-is2 .ensures) ∙ c .before .if2 .left)
+    (c .stray .ensures)
+
+node-leafless : (t : ℕ) (c : node-lts.Else1 (node-calls t) (node-at t) node.Post) → nextName (drop (c .before .before .blanks .result) (c .before .before .before .before .before .before .args .text .now)) ≡ false
+node-leafless t c = sym (c .before .next-name .ensures) ∙ c .if1 .left
+
+abbrev node-opening : (t : ℕ) (c : node-lts.Else3 (node-calls t) (node-at t) node.Post) → Opening (c .before .before .before .before .before .before .before .before .before .args .text .now) (c .before .before .before .before .before .before .before .before .before .args .c .at) (c .before .before .before .before .before .before .before .before .before .args .room)
+node-opening t c = record {
+  here = c .before .before .before .before .before .blanks .result;
+  skipped = c .before .before .before .before .before .blanks .ensures;
+  leafless = node-leafless t (c .before .before .before);
+  opens = sym (c .before .before .next-is .ensures) ∙ not-false _ (c .before .if2 .left);
+  some = c .if3 .left;
+}
+
+abbrev node-first : (t : ℕ) (c : node-lts.After-slice-known3 (node-calls t) (node-at t) node.Post) → NodeCall (c .before .before .before .before .before .before .before .before .before .before .before .before .before .before .args .text .now) (c .before .before .before .before .before .before .before .before .before .before .before .before .before .before .args .table .now) (c .before .before .before .before .before .before .before .before .before .before .before .before .before .before .args .count) (c .before .before .before .before .before .before .before .before .before .before .blanks .result + 1) (c .before .before .before .before .before .before .before .before .before .before .before .before .before .before .args .c .seen) (c .before .before .before .before .before .before .before .before .before .before .before .before .before .before .args .c .stored) (c .before .before .before .before .before .before .before .before .before .before .before .before .before .before .args .room - 1) (c .before .before .before .before .before .before .before .before .before .before .before .before .before .before .args .found .now)
+node-first t c = record {
+  cursor = c .before .before .before .before .moved2 .result;
+  cursor-is = c .before .before .before .before .moved2 .ensures;
+  after = c .before .before .node .last .1 .1 .1 .1 .1 .0;
+  result = c .before .before .node .result;
+  reads = c .before .before .node .ensures;
+}
+
+abbrev node-followed : (t : ℕ) (c : node-lts.After-blanks2 (node-calls t) (node-at t) node.Post) → Followed (c .before .before .before .before .before .before .before .before .before .before .before .before .before .before .before .before .before .before .args .text .now) (c .before .before .before .before .before .before .node .result)
+node-followed t c = record {
+  mask = c .before .before .first .given .0 .0;
+  next = c .before .before .first .given .0 .1 .0;
+  told = c .before .before .first .given .1;
+  here = c .blanks2 .result;
+  passed = c .blanks2 .ensures;
+}
+
+node-comma : (t : ℕ) (c : node-lts.Else4 (node-calls t) (node-at t) node.Post) → nextIs 44 (drop (c .before .before .blanks2 .result) (c .before .before .before .before .before .before .before .before .before .before .before .before .before .before .before .before .before .before .before .before .args .text .now)) ≡ true
+node-comma t c = sym (c .before .next-is2 .ensures) ∙ not-false _ (c .if4 .left)
+
+abbrev node-others : (t : ℕ) (c : node-lts.After-slice-known4 (node-calls t) (node-at t) node.Post) → ListCall (c .before .before .before .before .before .before .before .before .before .before .before .before .before .before .before .before .before .before .before .before .before .before .before .before .before .args .text .now) (c .before .before .before .before .before .before .before .before .before .before .before .before .before .before .before .before .before .before .before .before .before .before .before .before .before .args .table .now) (c .before .before .before .before .before .before .before .before .before .before .before .before .before .before .before .before .before .before .before .before .before .before .before .before .before .args .count) (c .before .before .before .before .before .before .before .blanks2 .result + 1) (c .before .before .before .before .before .before .before .before .before .first .given .0 .1 .0 .seen) (c .before .before .before .before .before .before .before .before .before .first .given .0 .1 .0 .stored) (c .before .before .before .before .before .before .before .before .before .before .before .before .before .before .before .before .before .before .before .before .before .before .before .before .before .args .room - 1) (c .before .before .before .before .before .before .before .before .before .before .before .before .before .node .last .1 .1 .1 .1 .1 .0)
+node-others t c = record {
+  cursor = c .before .before .before .before .moved3 .result;
+  cursor-is = c .before .before .before .before .moved3 .ensures;
+  after = c .before .before .list .last .1 .1 .1 .1 .1 .0;
+  result = c .before .before .list .result;
+  reads = c .before .before .list .ensures;
+}
+
+node-blanks-requires : (t : ℕ) → node-lts.Need-blanks-requires (node-calls t) (node-at t) node.Post
+node-blanks-requires t c κs = search needs
+
+node-next-name-requires : (t : ℕ) → node-lts.Need-next-name-requires (node-calls t) (node-at t) node.Post
+node-next-name-requires t c κs = search needs
+
+node-moved-requires : (t : ℕ) → node-lts.Need-moved-requires (node-calls t) (node-at t) node.Post
+node-moved-requires t c κs = search needs
+
+node-leaf-requires : (t : ℕ) → node-lts.Need-leaf-requires (node-calls t) (node-at t) node.Post
+node-leaf-requires t c κs = given-moved _ _ _ _ _ _ _ (c .before .moved .ensures) (c .before .before .before .before .before .before .before .before .pre .1)
+
+node-same-length : (t : ℕ) → node-lts.Need-same-length (node-calls t) (node-at t) node.Post
+node-same-length t c = search needs
+
+node-returns : (t : ℕ) → node-lts.Need-returns (node-calls t) (node-at t) node.Post
+unfolding ReadsNode
+node-returns t c = λ names holds k deep.
+    leaf-way (c .before .before .before .before .before .before .before .before .before .before .before .args .text .now) (c .before .before .before .before .before .before .before .before .before .before .before .args .table .now) (c .before .before .before .before .before .before .before .before .before .before .before .args .count) names holds (c .before .before .before .before .before .before .before .before .before .before .before .args .c .at) (c .before .before .before .before .before .before .before .before .before .before .before .args .c .seen) (c .before .before .before .before .before .before .before .before .before .before .before .args .c .stored) (c .before .before .before .before .before .before .before .before .before .before .before .args .found .now) (c .before .before .before .before .before .before .before .blanks .result) (c .before .before .before .before .before .before .before .blanks .ensures) (c .before .before .before .before .before .before .before .before .before .before .before .args .room) k deep (c .before .before .before .before .moved .result) _ (c .before .before .leaf .result)
+    (sym (c .before .before .before .before .before .before .next-name .ensures) ∙ c .before .before .before .before .before .if1 .taken) (c .before .before .before .before .moved .ensures) (c .before .before .leaf .ensures)
+
+node-next-is-requires : (t : ℕ) → node-lts.Need-next-is-requires (node-calls t) (node-at t) node.Post
+node-next-is-requires t c κs = search needs
+
+node-stray-requires : (t : ℕ) → node-lts.Need-stray-requires (node-calls t) (node-at t) node.Post
+node-stray-requires t c κs = search needs
+
+node-returns-2 : (t : ℕ) → node-lts.Need-returns-2 (node-calls t) (node-at t) node.Post
+unfolding ReadsNode
+node-returns-2 t c = λ names holds k deep.
+    stray-way (c .before .before .before .before .before .before .before .before .before .args .text .now) (c .before .before .before .before .before .before .before .before .before .args .table .now) (c .before .before .before .before .before .before .before .before .before .args .count) names holds (c .before .before .before .before .before .before .before .before .before .args .c .at) (c .before .before .before .before .before .before .before .before .before .args .c .seen) (c .before .before .before .before .before .before .before .before .before .args .c .stored) (c .before .before .before .before .before .before .before .before .before .args .found .now) (c .before .before .before .before .before .blanks .result) (c .before .before .before .before .before .blanks .ensures) (c .before .before .before .before .before .before .before .before .before .args .room) k deep _ (c .stray .result) (node-leafless t (c .before .before .before))
+    (sym (c .before .before .next-is .ensures) ∙ not-true _ (c .before .if2 .taken)) (c .stray .ensures)
+
+node-returns-3 : (t : ℕ) → node-lts.Need-returns-3 (node-calls t) (node-at t) node.Post
+unfolding ReadsNode
+node-returns-3 t c = λ names holds k deep.
+    full-way (c .before .before .before .before .before .before .before .before .before .args .text .now) (c .before .before .before .before .before .before .before .before .before .args .table .now) (c .before .before .before .before .before .before .before .before .before .args .count) names holds (c .before .before .before .before .before .before .before .before .before .args .c .at) (c .before .before .before .before .before .before .before .before .before .args .c .seen) (c .before .before .before .before .before .before .before .before .before .args .c .stored) (c .before .before .before .before .before .before .before .before .before .args .found .now) (c .before .before .before .before .before .blanks .result) (c .before .before .before .before .before .blanks .ensures) (c .before .before .before .before .before .before .before .before .before .args .room) k deep _ (node-leafless t (c .before .before .before))
+    (sym (c .before .before .next-is .ensures) ∙ not-false _ (c .before .if2 .left)) (c .if3 .taken)
+
+node-add-moved : (t : ℕ) → node-lts.Need-add-moved (node-calls t) (node-at t) node.Post
+node-add-moved t c = let h = opening-inside (c .before .before .before .before .before .before .before .before .before .args .text .now) (c .before .before .before .before .before .before .before .before .before .args .table .now) (c .before .before .before .before .before .before .before .before .before .args .count) (c .before .before .before .before .before .before .before .before .before .pre .1 .holds .0) (c .before .before .before .before .before .before .before .before .before .pre .1 .holds .1) (c .before .before .before .before .before .before .before .before .before .args .c .at) (c .before .before .before .before .before .before .before .before .before .args .c .seen) (c .before .before .before .before .before .before .before .before .before .args .c .stored) (c .before .before .before .before .before .before .before .before .before .args .room) (c .before .before .before .before .before .before .before .before .before .args .found .now) (node-opening t c) in omega arith
+
+node-moved-requires-2 : (t : ℕ) → node-lts.Need-moved-requires-2 (node-calls t) (node-at t) node.Post
+node-moved-requires-2 t c κs = search needs
+
+node-sub-node : (t : ℕ) → node-lts.Need-sub-node (node-calls t) (node-at t) node.Post
+node-sub-node t c = search needs
+
+node-node-requires : (t : ℕ) → node-lts.Need-node-requires (node-calls t) (node-at t) node.Post
+node-node-requires t c κs =
+    let falls-to = first-falls (c .before .before .before .before .before .before .before .before .before .before .before .args .text .now) (c .before .before .before .before .before .before .before .before .before .before .before .args .table .now) (c .before .before .before .before .before .before .before .before .before .before .before .args .count) (c .before .before .before .before .before .before .before .before .before .before .before .pre .1 .holds .0) (c .before .before .before .before .before .before .before .before .before .before .before .pre .1 .holds .1) (c .before .before .before .before .before .before .before .before .before .before .before .args .c .at) (c .before .before .before .before .before .before .before .before .before .before .before .args .c .seen) (c .before .before .before .before .before .before .before .before .before .before .before .args .c .stored) (c .before .before .before .before .before .before .before .before .before .before .before .args .room) (c .before .before .before .before .before .before .before .before .before .before .before .args .found .now) (node-opening t (c .before .before)) in
+    let place : c .before .moved2 .result .at ≡ c .before .before .before .before .before .before .before .blanks .result + 1 = ap (λ (m : Cursor). m .at) (c .before .moved2 .ensures) in
+    let e = c .before .before .before .before .before .before .before .before .before .before .before .pre .0 in
+    (omega arith, given-moved _ _ _ _ _ _ _ (c .before .moved2 .ensures) (c .before .before .before .before .before .before .before .before .before .before .before .pre .1))
+
+node-enum-known-first : (t : ℕ) → node-lts.Need-enum-known-first (node-calls t) (node-at t) node.Post
+node-enum-known-first t c = search needs
+
+node-enum-told : (t : ℕ) → node-lts.Need-enum-told (node-calls t) (node-at t) node.Post
+node-enum-told t c = search needs
+
+node-same-length-2 : (t : ℕ) → node-lts.Need-same-length-2 (node-calls t) (node-at t) node.Post
+node-same-length-2 t c = search needs
+
+node-returns-4 : (t : ℕ) → node-lts.Need-returns-4 (node-calls t) (node-at t) node.Post
+unfolding ReadsNode
+node-returns-4 t c = λ names holds k deep.
+    first-refused-way (c .before .before .before .before .before .before .before .before .before .before .before .before .before .before .before .before .args .text .now) (c .before .before .before .before .before .before .before .before .before .before .before .before .before .before .before .before .args .table .now) (c .before .before .before .before .before .before .before .before .before .before .before .before .before .before .before .before .args .count) names holds (c .before .before .before .before .before .before .before .before .before .before .before .before .before .before .before .before .args .c .at) (c .before .before .before .before .before .before .before .before .before .before .before .before .before .before .before .before .args .c .seen) (c .before .before .before .before .before .before .before .before .before .before .before .before .before .before .before .before .args .c .stored) (c .before .before .before .before .before .before .before .before .before .before .before .before .before .before .before .before .args .room) (c .before .before .before .before .before .before .before .before .before .before .before .before .before .before .before .before .args .found .now) (node-opening t (c .before .before .before .before .before .before .before)) k deep (node-first t (c .before .before)) _ (c .enum-told .given .1)
+
+node-blanks-requires-2 : (t : ℕ) → node-lts.Need-blanks-requires-2 (node-calls t) (node-at t) node.Post
+node-blanks-requires-2 t c κs = search needs
+
+node-next-is-requires-2 : (t : ℕ) → node-lts.Need-next-is-requires-2 (node-calls t) (node-at t) node.Post
+node-next-is-requires-2 t c κs = search needs
+
+node-no-comma-requires : (t : ℕ) → node-lts.Need-no-comma-requires (node-calls t) (node-at t) node.Post
+node-no-comma-requires t c κs = search needs
+
+node-same-length-3 : (t : ℕ) → node-lts.Need-same-length-3 (node-calls t) (node-at t) node.Post
+node-same-length-3 t c = search needs
+
+node-returns-5 : (t : ℕ) → node-lts.Need-returns-5 (node-calls t) (node-at t) node.Post
+unfolding ReadsNode
+node-returns-5 t c = λ names holds k deep.
+    no-comma-way (c .before .before .before .before .before .before .before .before .before .before .before .before .before .before .before .before .before .before .before .before .before .args .text .now) (c .before .before .before .before .before .before .before .before .before .before .before .before .before .before .before .before .before .before .before .before .before .args .table .now) (c .before .before .before .before .before .before .before .before .before .before .before .before .before .before .before .before .before .before .before .before .before .args .count) names holds (c .before .before .before .before .before .before .before .before .before .before .before .before .before .before .before .before .before .before .before .before .before .args .c .at) (c .before .before .before .before .before .before .before .before .before .before .before .before .before .before .before .before .before .before .before .before .before .args .c .seen) (c .before .before .before .before .before .before .before .before .before .before .before .before .before .before .before .before .before .before .before .before .before .args .c .stored) (c .before .before .before .before .before .before .before .before .before .before .before .before .before .before .before .before .before .before .before .before .before .args .room) (c .before .before .before .before .before .before .before .before .before .before .before .before .before .before .before .before .before .before .before .before .before .args .found .now) (node-opening t (c .before .before .before .before .before .before .before .before .before .before .before .before)) k deep (node-first t (c .before .before .before .before .before .before .before)) (node-followed t (c .before .before .before)) (c .no-comma .result)
+    (sym (c .before .before .next-is2 .ensures) ∙ not-true _ (c .before .if4 .taken)) (c .no-comma .ensures)
+
+node-add-moved-2 : (t : ℕ) → node-lts.Need-add-moved-2 (node-calls t) (node-at t) node.Post
+node-add-moved-2 t c = let h = next-is-inside (c .before .before .before .before .before .before .before .before .before .before .before .before .before .before .before .before .before .before .before .before .args .text .now) (c .before .before .blanks2 .result) 44 (node-comma t c) in omega (arith, c .before .before .before .before .before .before .before .before .before .before .before .before .before .before .before .before .before .before .before .before .good .0 .0)
+
+node-moved-requires-3 : (t : ℕ) → node-lts.Need-moved-requires-3 (node-calls t) (node-at t) node.Post
+node-moved-requires-3 t c κs = search needs
+
+node-sub-list : (t : ℕ) → node-lts.Need-sub-list (node-calls t) (node-at t) node.Post
+node-sub-list t c = search needs
+
+node-list-requires : (t : ℕ) → node-lts.Need-list-requires (node-calls t) (node-at t) node.Post
+node-list-requires t c κs =
+    let falls-to = others-fall (c .before .before .before .before .before .before .before .before .before .before .before .before .before .before .before .before .before .before .before .before .before .before .args .text .now) (c .before .before .before .before .before .before .before .before .before .before .before .before .before .before .before .before .before .before .before .before .before .before .args .table .now) (c .before .before .before .before .before .before .before .before .before .before .before .before .before .before .before .before .before .before .before .before .before .before .args .count) (c .before .before .before .before .before .before .before .before .before .before .before .before .before .before .before .before .before .before .before .before .before .before .pre .1 .holds .0) (c .before .before .before .before .before .before .before .before .before .before .before .before .before .before .before .before .before .before .before .before .before .before .pre .1 .holds .1) (c .before .before .before .before .before .before .before .before .before .before .before .before .before .before .before .before .before .before .before .before .before .before .args .c .at) (c .before .before .before .before .before .before .before .before .before .before .before .before .before .before .before .before .before .before .before .before .before .before .args .c .seen) (c .before .before .before .before .before .before .before .before .before .before .before .before .before .before .before .before .before .before .before .before .before .before .args .c .stored) (c .before .before .before .before .before .before .before .before .before .before .before .before .before .before .before .before .before .before .before .before .before .before .args .room) (c .before .before .before .before .before .before .before .before .before .before .before .before .before .before .before .before .before .before .before .before .before .before .args .found .now) (node-opening t (c .before .before .before .before .before .before .before .before .before .before .before .before .before)) (2 * (length (c .before .before .before .before .before .before .before .before .before .before .before .before .before .before .before .before .before .before .before .before .before .before .args .text .now) - c .before .before .before .before .before .before .before .before .before .before .before .before .before .before .before .before .before .before .before .before .before .before .args .c .at) + 1) (omega arith) (node-first t (c .before .before .before .before .before .before .before .before)) (node-followed t (c .before .before .before .before)) (node-comma t (c .before .before)) in
+    let more = first-grown (c .before .before .before .before .before .before .before .before .before .before .before .before .before .before .before .before .before .before .before .before .before .before .args .text .now) (c .before .before .before .before .before .before .before .before .before .before .before .before .before .before .before .before .before .before .before .before .before .before .args .table .now) (c .before .before .before .before .before .before .before .before .before .before .before .before .before .before .before .before .before .before .before .before .before .before .args .count) (c .before .before .before .before .before .before .before .before .before .before .before .before .before .before .before .before .before .before .before .before .before .before .pre .1 .holds .0) (c .before .before .before .before .before .before .before .before .before .before .before .before .before .before .before .before .before .before .before .before .before .before .pre .1 .holds .1) (c .before .before .before .before .before .before .before .before .before .before .before .before .before .before .before .before .before .before .before .before .before .before .args .c .at) (c .before .before .before .before .before .before .before .before .before .before .before .before .before .before .before .before .before .before .before .before .before .before .args .c .seen) (c .before .before .before .before .before .before .before .before .before .before .before .before .before .before .before .before .before .before .before .before .before .before .args .c .stored) (c .before .before .before .before .before .before .before .before .before .before .before .before .before .before .before .before .before .before .before .before .before .before .args .room) (c .before .before .before .before .before .before .before .before .before .before .before .before .before .before .before .before .before .before .before .before .before .before .args .found .now) (node-opening t (c .before .before .before .before .before .before .before .before .before .before .before .before .before)) (2 * (length (c .before .before .before .before .before .before .before .before .before .before .before .before .before .before .before .before .before .before .before .before .before .before .args .text .now) - c .before .before .before .before .before .before .before .before .before .before .before .before .before .before .before .before .before .before .before .before .before .before .args .c .at) + 1) (omega arith) (node-first t (c .before .before .before .before .before .before .before .before)) (node-followed t (c .before .before .before .before)) (c .before .before .before .before .before .before .before .before .before .before .before .before .before .before .before .before .before .before .before .before .before .before .pre .1) in
+    let place : c .before .moved3 .result .at ≡ c .before .before .before .before .blanks2 .result + 1 = ap (λ (m : Cursor). m .at) (c .before .moved3 .ensures) in
+    let e = c .before .before .before .before .before .before .before .before .before .before .before .before .before .before .before .before .before .before .before .before .before .before .pre .0 in
+    (omega arith, given-moved _ _ _ _ _ _ _ (c .before .moved3 .ensures) (more .given))
+
+node-enum-known-others : (t : ℕ) → node-lts.Need-enum-known-others (node-calls t) (node-at t) node.Post
+node-enum-known-others t c = search needs
+
+node-enum-told-2 : (t : ℕ) → node-lts.Need-enum-told-2 (node-calls t) (node-at t) node.Post
+node-enum-told-2 t c = search needs
+
+node-same-length-4 : (t : ℕ) → node-lts.Need-same-length-4 (node-calls t) (node-at t) node.Post
+node-same-length-4 t c = search needs
+
+node-returns-6 : (t : ℕ) → node-lts.Need-returns-6 (node-calls t) (node-at t) node.Post
+unfolding ReadsNode
+node-returns-6 t c = λ names holds k deep.
+    others-refused-way (c .before .before .before .before .before .before .before .before .before .before .before .before .before .before .before .before .before .before .before .before .before .before .before .before .before .before .before .args .text .now) (c .before .before .before .before .before .before .before .before .before .before .before .before .before .before .before .before .before .before .before .before .before .before .before .before .before .before .before .args .table .now) (c .before .before .before .before .before .before .before .before .before .before .before .before .before .before .before .before .before .before .before .before .before .before .before .before .before .before .before .args .count) names holds (c .before .before .before .before .before .before .before .before .before .before .before .before .before .before .before .before .before .before .before .before .before .before .before .before .before .before .before .args .c .at) (c .before .before .before .before .before .before .before .before .before .before .before .before .before .before .before .before .before .before .before .before .before .before .before .before .before .before .before .args .c .seen) (c .before .before .before .before .before .before .before .before .before .before .before .before .before .before .before .before .before .before .before .before .before .before .before .before .before .before .before .args .c .stored) (c .before .before .before .before .before .before .before .before .before .before .before .before .before .before .before .before .before .before .before .before .before .before .before .before .before .before .before .args .room) (c .before .before .before .before .before .before .before .before .before .before .before .before .before .before .before .before .before .before .before .before .before .before .before .before .before .before .before .args .found .now) (node-opening t (c .before .before .before .before .before .before .before .before .before .before .before .before .before .before .before .before .before .before)) k deep (node-first t (c .before .before .before .before .before .before .before .before .before .before .before .before .before)) (node-followed t (c .before .before .before .before .before .before .before .before .before)) (node-comma t (c .before .before .before .before .before .before .before)) (node-others t (c .before .before)) _
+    (c .enum-told2 .given .1)
+
+node-closing-requires : (t : ℕ) → node-lts.Need-closing-requires (node-calls t) (node-at t) node.Post
+node-closing-requires t c κs = search needs
+
+node-union-requires : (t : ℕ) → node-lts.Need-union-requires (node-calls t) (node-at t) node.Post
+node-union-requires t c κs = search needs
+
+node-ended-requires : (t : ℕ) → node-lts.Need-ended-requires (node-calls t) (node-at t) node.Post
+node-ended-requires t c κs =
+    others-grown (c .before .before .before .before .before .before .before .before .before .before .before .before .before .before .before .before .before .before .before .before .before .before .before .before .before .before .before .before .before .before .before .args .text .now) (c .before .before .before .before .before .before .before .before .before .before .before .before .before .before .before .before .before .before .before .before .before .before .before .before .before .before .before .before .before .before .before .args .table .now) (c .before .before .before .before .before .before .before .before .before .before .before .before .before .before .before .before .before .before .before .before .before .before .before .before .before .before .before .before .before .before .before .args .count) (c .before .before .before .before .before .before .before .before .before .before .before .before .before .before .before .before .before .before .before .before .before .before .before .before .before .before .before .before .before .before .before .pre .1 .holds .0) (c .before .before .before .before .before .before .before .before .before .before .before .before .before .before .before .before .before .before .before .before .before .before .before .before .before .before .before .before .before .before .before .pre .1 .holds .1) (c .before .before .before .before .before .before .before .before .before .before .before .before .before .before .before .before .before .before .before .before .before .before .before .before .before .before .before .before .before .before .before .args .c .at) (c .before .before .before .before .before .before .before .before .before .before .before .before .before .before .before .before .before .before .before .before .before .before .before .before .before .before .before .before .before .before .before .args .c .seen) (c .before .before .before .before .before .before .before .before .before .before .before .before .before .before .before .before .before .before .before .before .before .before .before .before .before .before .before .before .before .before .before .args .c .stored) (c .before .before .before .before .before .before .before .before .before .before .before .before .before .before .before .before .before .before .before .before .before .before .before .before .before .before .before .before .before .before .before .args .room) (c .before .before .before .before .before .before .before .before .before .before .before .before .before .before .before .before .before .before .before .before .before .before .before .before .before .before .before .before .before .before .before .args .found .now) (node-opening t (c .before .before .before .before .before .before .before .before .before .before .before .before .before .before .before .before .before .before .before .before .before .before)) (2 * (length (c .before .before .before .before .before .before .before .before .before .before .before .before .before .before .before .before .before .before .before .before .before .before .before .before .before .before .before .before .before .before .before .args .text .now) - c .before .before .before .before .before .before .before .before .before .before .before .before .before .before .before .before .before .before .before .before .before .before .before .before .before .before .before .before .before .before .before .args .c .at) + 1) (omega arith) (node-first t (c .before .before .before .before .before .before .before .before .before .before .before .before .before .before .before .before .before)) (node-followed t (c .before .before .before .before .before .before .before .before .before .before .before .before .before)) (node-comma t (c .before .before .before .before .before .before .before .before .before .before .before)) (node-others t (c .before .before .before .before .before .before)) _ _
+    (c .before .before .before .before .others .given .1) (c .before .before .before .before .before .before .before .before .before .before .before .before .before .before .before .before .before .before .before .before .before .before .before .before .before .before .before .before .before .before .before .pre .1) .room
+
+node-same-length-5 : (t : ℕ) → node-lts.Need-same-length-5 (node-calls t) (node-at t) node.Post
+node-same-length-5 t c = c .before .before .ended .kept .1 .1 .1 .1 .0 ∙ c .before .before .before .before .before .before .before .before .before .before .before .list .kept .1 .1 .1 .1 .1 .0 ∙ c .before .before .before .before .before .before .before .before .before .before .before .before .before .before .before .before .before .before .before .before .before .before .node .kept .1 .1 .1 .1 .1 .0
+
+node-returns-7 : (t : ℕ) → node-lts.Need-returns-7 (node-calls t) (node-at t) node.Post
+unfolding ReadsNode
+node-returns-7 t c = λ names holds k deep.
+    node-way (c .before .before .before .before .before .before .before .before .before .before .before .before .before .before .before .before .before .before .before .before .before .before .before .before .before .before .before .before .before .before .before .before .before .before .args .text .now) (c .before .before .before .before .before .before .before .before .before .before .before .before .before .before .before .before .before .before .before .before .before .before .before .before .before .before .before .before .before .before .before .before .before .before .args .table .now) (c .before .before .before .before .before .before .before .before .before .before .before .before .before .before .before .before .before .before .before .before .before .before .before .before .before .before .before .before .before .before .before .before .before .before .args .count) names holds (c .before .before .before .before .before .before .before .before .before .before .before .before .before .before .before .before .before .before .before .before .before .before .before .before .before .before .before .before .before .before .before .before .before .before .args .c .at) (c .before .before .before .before .before .before .before .before .before .before .before .before .before .before .before .before .before .before .before .before .before .before .before .before .before .before .before .before .before .before .before .before .before .before .args .c .seen) (c .before .before .before .before .before .before .before .before .before .before .before .before .before .before .before .before .before .before .before .before .before .before .before .before .before .before .before .before .before .before .before .before .before .before .args .c .stored) (c .before .before .before .before .before .before .before .before .before .before .before .before .before .before .before .before .before .before .before .before .before .before .before .before .before .before .before .before .before .before .before .before .before .before .args .room) (c .before .before .before .before .before .before .before .before .before .before .before .before .before .before .before .before .before .before .before .before .before .before .before .before .before .before .before .before .before .before .before .before .before .before .args .found .now) (node-opening t (c .before .before .before .before .before .before .before .before .before .before .before .before .before .before .before .before .before .before .before .before .before .before .before .before .before)) k deep (node-first t (c .before .before .before .before .before .before .before .before .before .before .before .before .before .before .before .before .before .before .before .before)) (node-followed t (c .before .before .before .before .before .before .before .before .before .before .before .before .before .before .before .before)) (node-comma t (c .before .before .before .before .before .before .before .before .before .before .before .before .before .before)) (node-others t (c .before .before .before .before .before .before .before .before .before)) _ _ (c .before .before .before .before .before .before .before .others .given .1)
+    (c .before .before .before .before .union .result) (c .before .before .before .before .before .closing .result) _ (c .before .before .ended .result) (c .before .before .before .before .union .ensures) (c .before .before .before .before .before .closing .ensures) (c .before .before .ended .ensures .0) (c .before .before .ended .ensures .1)
+
+pub +list+node-spec : {M : Type 1} → statement M
++list+node-spec = close μ-list μ-node (λ t. list-lts.spec (list-calls t) (list-at t) list.Post
+    (list-node-requires t)
+    (list-enum-known-first t)
+    (list-enum-told t)
+    (list-same-length t)
+    (list-returns t)
+    (list-blanks-requires t)
+    (list-next-is-requires t)
+    (list-add-moved t)
+    (list-moved-requires t)
+    (list-list-requires t)
+    (list-enum-known-others t)
+    (list-enum-told-2 t)
+    (list-same-length-2 t)
+    (list-returns-2 t)
+    (list-union-requires t)
+    (list-same-length-3 t)
+    (list-returns-3 t)
+    (list-next-is-requires-2 t)
+    (list-add-moved-2 t)
+    (list-moved-requires-2 t)
+    (list-same-length-4 t)
+    (list-returns-4 t)
+    (list-stray-requires t)
+    (list-same-length-5 t)
+    (list-returns-5 t))
+    (λ t. node-lts.spec (node-calls t) (node-at t) node.Post
+    (node-blanks-requires t)
+    (node-next-name-requires t)
+    (node-moved-requires t)
+    (node-leaf-requires t)
+    (node-same-length t)
+    (node-returns t)
+    (node-next-is-requires t)
+    (node-stray-requires t)
+    (node-returns-2 t)
+    (node-returns-3 t)
+    (node-add-moved t)
+    (node-moved-requires-2 t)
+    (node-sub-node t)
+    (node-node-requires t)
+    (node-enum-known-first t)
+    (node-enum-told t)
+    (node-same-length-2 t)
+    (node-returns-4 t)
+    (node-blanks-requires-2 t)
+    (node-next-is-requires-2 t)
+    (node-no-comma-requires t)
+    (node-same-length-3 t)
+    (node-returns-5 t)
+    (node-add-moved-2 t)
+    (node-moved-requires-3 t)
+    (node-sub-list t)
+    (node-list-requires t)
+    (node-enum-known-others t)
+    (node-enum-told-2 t)
+    (node-same-length-4 t)
+    (node-returns-6 t)
+    (node-closing-requires t)
+    (node-union-requires t)
+    (node-ended-requires t)
+    (node-same-length-5 t)
+    (node-returns-7 t))

@@ -1,0 +1,116 @@
+-- `tree::tree` meets its contract: one way of `TreeWays` for each return.
+use borrow.Author.Needs.{needs}
+use native.Mathlib.Omega.{arith}
+use mathlib.Core.Path.{_≡_, refl, sym, ap, _∙_}
+use mathlib.Core.Bool.{true}
+use lib.ListN.{length, drop}
+use borrow.Author.Tests.{not-true, not-false}
+use Rattle.reader.specs.Tokens.{nextIs}
+use Rattle.reader.specs.Core.{ReadsTree}
+use Rattle.reader.proofs.Places.{next-is-inside}
+use Rattle.reader.proofs.NodeWays.{NodeCall, Followed}
+use Rattle.reader.proofs.TreeWays.{root-refused-way, end-missing-way, species-missing-way, tree-way}
+use Rattle.reader.proofs.tree.tree.Statement.{statement}
+use Rattle.reader.proofs.tree.tree.Tie as tie
+
+abbrev root-call : (c : tie.After-slice-known2) → NodeCall (c .before .before .before .before .before .before .before .args .text .now) (c .before .before .before .before .before .before .before .args .table .now) (c .before .before .before .before .before .before .before .args .count) (c .before .before .before .before .before .before .before .args .start) 0 0 (c .before .before .before .before .before .before .before .args .room) (c .before .before .before .before .before .before .before .args .found .now)
+root-call c = record {
+  cursor = record { at = c .before .before .before .before .before .before .before .args .start; seen = 0; stored = 0 };
+  cursor-is = refl;
+  after = c .before .before .node .last .1 .1 .1 .1 .1 .0;
+  result = c .before .before .node .result;
+  reads = c .before .before .node .ensures;
+}
+
+abbrev followed : (c : tie.After-blanks) → Followed (c .before .before .before .before .before .before .before .before .before .before .before .args .text .now) (c .before .before .before .before .before .before .node .result)
+followed c = record {
+  mask = c .before .before .root .given .0 .0;
+  next = c .before .before .root .given .0 .1 .0;
+  told = c .before .before .root .given .1;
+  here = c .blanks .result;
+  passed = c .blanks .ensures;
+}
+
+at-end : (c : tie.Else1) → nextIs 59 (drop (c .before .before .blanks .result) (c .before .before .before .before .before .before .before .before .before .before .before .before .before .args .text .now)) ≡ true
+at-end c = sym (c .before .next-is .ensures) ∙ not-false _ (c .if1 .left)
+
+node-requires : tie.Need-node-requires
+node-requires c κs = search needs
+
+enum-known-root : tie.Need-enum-known-root
+enum-known-root c = search needs
+
+enum-told : tie.Need-enum-told
+enum-told c = search needs
+
+same-length : tie.Need-same-length
+same-length c = search needs
+
+returns : tie.Need-returns
+unfolding ReadsTree
+returns c = λ names holds k deep. root-refused-way (c .before .before .before .before .before .before .before .before .before .args .text .now) (c .before .before .before .before .before .before .before .before .before .args .table .now) (c .before .before .before .before .before .before .before .before .before .args .count) names holds (c .before .before .before .before .before .before .before .before .before .args .start) (c .before .before .before .before .before .before .before .before .before .args .needed) (c .before .before .before .before .before .before .before .before .before .args .room) (c .before .before .before .before .before .before .before .before .before .args .found .now) k deep (root-call (c .before .before)) _ (c .enum-told .given .1)
+
+blanks-requires : tie.Need-blanks-requires
+blanks-requires c κs = search needs
+
+next-is-requires : tie.Need-next-is-requires
+next-is-requires c κs = search needs
+
+stray-requires : tie.Need-stray-requires
+stray-requires c κs = search needs
+
+same-length-2 : tie.Need-same-length-2
+same-length-2 c = search needs
+
+returns-2 : tie.Need-returns-2
+unfolding ReadsTree
+returns-2 c = λ names holds k deep.
+    end-missing-way (c .before .before .before .before .before .before .before .before .before .before .before .before .before .before .args .text .now) (c .before .before .before .before .before .before .before .before .before .before .before .before .before .before .args .table .now) (c .before .before .before .before .before .before .before .before .before .before .before .before .before .before .args .count) names holds (c .before .before .before .before .before .before .before .before .before .before .before .before .before .before .args .start) (c .before .before .before .before .before .before .before .before .before .before .before .before .before .before .args .needed) (c .before .before .before .before .before .before .before .before .before .before .before .before .before .before .args .room) (c .before .before .before .before .before .before .before .before .before .before .before .before .before .before .args .found .now) k deep (root-call (c .before .before .before .before .before .before .before)) (followed (c .before .before .before)) (c .stray .result) (sym (c .before .before .next-is .ensures) ∙ not-true _ (c .before .if1 .taken)) (c .stray .ensures)
+
+within-requires : tie.Need-within-requires
+within-requires c κs = search needs
+
+same-length-3 : tie.Need-same-length-3
+same-length-3 c = search needs
+
+returns-3 : tie.Need-returns-3
+unfolding ReadsTree
+returns-3 c = λ names holds k deep.
+    species-missing-way (c .before .before .before .before .before .before .before .before .before .before .before .before .before .before .before .args .text .now) (c .before .before .before .before .before .before .before .before .before .before .before .before .before .before .before .args .table .now) (c .before .before .before .before .before .before .before .before .before .before .before .before .before .before .before .args .count) names holds (c .before .before .before .before .before .before .before .before .before .before .before .before .before .before .before .args .start) (c .before .before .before .before .before .before .before .before .before .before .before .before .before .before .before .args .needed) (c .before .before .before .before .before .before .before .before .before .before .before .before .before .before .before .args .room) (c .before .before .before .before .before .before .before .before .before .before .before .before .before .before .before .args .found .now) k deep (root-call (c .before .before .before .before .before .before .before .before)) (followed (c .before .before .before .before)) (at-end (c .before .before)) (sym (c .before .within .ensures) ∙ not-true _ (c .if2 .taken))
+
+add-moved : tie.Need-add-moved
+add-moved c = let h = next-is-inside (c .before .before .before .before .before .before .before .before .before .before .before .before .before .before .before .args .text .now) (c .before .before .before .before .blanks .result) 59 (at-end (c .before .before)) in omega (arith, c .before .before .before .before .before .before .before .before .before .before .before .before .before .before .before .good .0 .0)
+
+moved-requires : tie.Need-moved-requires
+moved-requires c κs = search needs
+
+same-length-4 : tie.Need-same-length-4
+same-length-4 c = search needs
+
+returns-4 : tie.Need-returns-4
+unfolding ReadsTree
+returns-4 c = λ names holds k deep.
+    tree-way (c .before .before .before .before .before .before .before .before .before .before .before .before .before .before .before .before .args .text .now) (c .before .before .before .before .before .before .before .before .before .before .before .before .before .before .before .before .args .table .now) (c .before .before .before .before .before .before .before .before .before .before .before .before .before .before .before .before .args .count) names holds (c .before .before .before .before .before .before .before .before .before .before .before .before .before .before .before .before .args .start) (c .before .before .before .before .before .before .before .before .before .before .before .before .before .before .before .before .args .needed) (c .before .before .before .before .before .before .before .before .before .before .before .before .before .before .before .before .args .room) (c .before .before .before .before .before .before .before .before .before .before .before .before .before .before .before .before .args .found .now) k deep (root-call (c .before .before .before .before .before .before .before .before .before)) (followed (c .before .before .before .before .before)) (at-end (c .before .before .before)) (c .moved .result) (sym (c .before .before .within .ensures) ∙ not-false _ (c .before .if2 .left))
+    (c .moved .ensures)
+
+pub tree-spec : {M : Type 1} → statement M
+tree-spec =
+    tie.close
+    (tie.spec
+    node-requires
+    enum-known-root
+    enum-told
+    same-length
+    returns
+    blanks-requires
+    next-is-requires
+    stray-requires
+    same-length-2
+    returns-2
+    within-requires
+    same-length-3
+    returns-3
+    add-moved
+    moved-requires
+    same-length-4
+    returns-4)

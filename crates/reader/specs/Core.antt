@@ -1,0 +1,189 @@
+-- What the pieces of the reader say: for each case of their answers the number and the place, or what was read and where reading goes on.
+use Prim.Native.Nat.{ℕ, _+_, _-_, _*_, _^_, _≤_, _<_}
+use mathlib.Core.Path.{_≡_}
+use mathlib.Core.Bool.{Bool, true, false}
+use mathlib.Core.List.{List, [], _∷_}
+use lib.ListN.{length, take, drop, set}
+use lib.Seq.{sets}
+use Rattle.clusters.specs.Sets.{whole, union, size}
+use Rattle.trees.specs.Tree.{Tree, Forest, Behind, cluster, clusterOf, clusters, clustersOf}
+use Rattle.roster.specs.Bytes.{isName, run}
+use Rattle.roster.specs.Labels.{labelBytes, word, padded}
+use Rattle.roster.specs.Roster.{position}
+use Rattle.roster.specs.Table.{slots}
+use Rattle.roster.specs.declared.label.Label.{Label}
+use Rattle.roster.specs.declared.label.Label.the-variants.{Ended, TooLong}
+use Rattle.reader.specs.Answers.{Answer, andThen}
+use Rattle.reader.specs.Answers.Answer.{parsed, refused}
+use Rattle.reader.specs.Tokens.{nextIs, nextName, blanks, skip}
+use Rattle.reader.specs.Reading.{leafAt, readNode, readForest, ended}
+use Rattle.reader.specs.Promise.{readingOf}
+use Rattle.reader.specs.declared.Reading.{Reading}
+use Rattle.reader.specs.declared.answer.Refusal.{Refusal}
+use Rattle.reader.specs.declared.answer.Extent.{Extent}
+use Rattle.reader.specs.declared.answer.Cursor.{Cursor}
+use Rattle.reader.specs.declared.answer.NumberRead.{NumberRead}
+use Rattle.reader.specs.declared.answer.NumberRead.the-variants.{Number, Refused as NoNumber}
+use Rattle.reader.specs.declared.answer.BehindRead.{BehindRead}
+use Rattle.reader.specs.declared.answer.BehindRead.the-variants.{Behind as Extended, Refused as NotExtended}
+use Rattle.reader.specs.declared.answer.NodeRead.{NodeRead}
+use Rattle.reader.specs.declared.answer.NodeRead.the-variants.{Node, Refused as NoNode}
+
+-- a fault's number and place, as an answer
+abbrev pub refusal : {A : Type 0} → Refusal → Answer A
+refusal e = refused (e .number) (e .place)
+
+-- where there is no fault
+abbrev pub noFault : Refusal
+noFault = record { number = 0; place = 0 }
+
+-- "10 | text ends first" or "3 | byte not allowed here"
+abbrev pub strayAt : List ℕ → ℕ → Refusal
+strayAt [] p = record { number = 10; place = p }
+strayAt (b ∷ s) p = record { number = 3; place = p }
+
+-- "7 | `)` closes a single child", or nothing that may stand here does
+abbrev pub noCommaBy : Bool → List ℕ → ℕ → Refusal
+noCommaBy true s p = record { number = 7; place = p }
+noCommaBy false s p = strayAt s p
+
+unfoldable pub noCommaAt : List ℕ → ℕ → Refusal
+noCommaAt s p = noCommaBy (nextIs 41 s) s p
+
+-- the bytes of a text from one place up to another
+abbrev pub between : List ℕ → Extent → List ℕ
+between text e = take (e .to - e .from) (drop (e .from) text)
+
+-- a number was read, or a fault was met
+abbrev pub numberSays : List ℕ → NumberRead → Answer (List ℕ)
+numberSays text (Number e) = parsed (between text e) (drop (e .to) text) (e .to)
+numberSays text (NoNumber e) = refusal e
+
+abbrev pub numberFault : NumberRead → Refusal
+numberFault (Number e) = noFault
+numberFault (NoNumber e) = e
+
+-- the numbers behind a node were read, or a fault was met; w is the node's name
+abbrev pub behindSays : List ℕ → List ℕ → BehindRead → Answer Behind
+behindSays text w (Extended e) =
+    parsed (record { name = w; distance = between text (e .distance); support = between text (e .support) }) (drop (e .next) text) (e .next)
+behindSays text w (NotExtended e) = refusal e
+
+abbrev pub behindFault : BehindRead → Refusal
+behindFault (Extended e) = noFault
+behindFault (NotExtended e) = e
+
+-- the name w was read, or "4 | sixteenth byte of a name"
+abbrev pub nameSays : List ℕ → List ℕ → Label → Answer (List ℕ)
+nameSays text w (Ended next) = parsed w (drop next text) next
+nameSays text w (TooLong place) = refused 4 place
+
+abbrev pub nameFault : Label → Refusal
+nameFault (Ended next) = noFault
+nameFault (TooLong place) = record { number = 4; place = place }
+
+-- the name behind a closing parenthesis, empty where none stands there
+abbrev pub innerWordBy : Bool → List ℕ → List ℕ
+innerWordBy false s = []
+innerWordBy true s = word (skip s)
+
+unfoldable pub innerWord : List ℕ → List ℕ
+innerWord s = innerWordBy (nextName (skip s)) s
+
+-- what is kept of a node, or of a list of nodes: the set of its leaves, the species met by then, and how many clusters were met by then
+pub record Met : Type 0 where
+  pub mask : ℕ
+  pub seen : ℕ
+  pub stored : ℕ
+
+abbrev pub treeMet : ℕ → ℕ → Tree → Met
+treeMet seen stored t = record { mask = cluster t; seen = union seen (cluster t); stored = stored + length (clusters t) }
+
+abbrev pub forestMet : ℕ → ℕ → Forest → Met
+forestMet seen stored f = record { mask = clusterOf f; seen = union seen (clusterOf f); stored = stored + length (clustersOf f) }
+
+-- a node was read, or a fault was met
+abbrev pub nodeSays : List ℕ → NodeRead → Answer Met
+nodeSays text (Node mask next) =
+    parsed (record { mask = mask; seen = next .seen; stored = next .stored }) (drop (next .at) text) (next .at)
+nodeSays text (NoNode e) = refusal e
+
+abbrev pub nodeFault : NodeRead → Refusal
+nodeFault (Node mask next) = noFault
+nodeFault (NoNode e) = e
+
+-- a node ends behind its numbers, and its cluster comes into the list of the clusters met
+abbrev pub endedAs : ℕ → ℕ → ℕ → BehindRead → NodeRead
+endedAs mask seen stored (Extended e) = Node mask (record { at = e .next; seen = seen; stored = stored + 1 })
+endedAs mask seen stored (NotExtended e) = NoNode e
+
+abbrev pub keptAs : ℕ → ℕ → List ℕ → BehindRead → List ℕ
+keptAs mask stored found (Extended e) = set found stored mask
+keptAs mask stored found (NotExtended e) = found
+
+-- the table has these names, as many as are counted: a name is found where it stands among them
+pub record Holds (names : List (List ℕ)) (count : ℕ) (table : List ℕ) : Type 0 where
+  pub counted : length names ≡ count
+  pub finds : (s : List ℕ) → run isName s ≤ labelBytes → position (padded (word s)) (slots count table) ≡ position (word s) names
+
+-- what the reader of a node is handed: a table of at most 32 names, and room for two clusters for each
+pub record Given (count : ℕ) (table found : List ℕ) (seen stored : ℕ) : Type 0 where
+  pub holds : (names : List (List ℕ)) × Holds names count table
+  pub most : count ≤ 32
+  pub long : 16 * count ≤ length table
+  pub wide : 2 * count ≤ length found
+  pub below : seen < 2 ^ count
+  pub spare : stored ≤ 2 * size seen
+
+-- the reader of a node says what the definition answers, and the clusters of the tree stand in order from `stored` on
+pub record NodeReads (text : List ℕ) (seen stored : ℕ) (before after : List ℕ) (answer : Answer Tree) (r : NodeRead) : Type 0 where
+  pub says : nodeSays text r ≡ andThen answer (λ t rest q. parsed (treeMet seen stored t) rest q)
+  pub stores : (t : Tree) (rest : List ℕ) (q : ℕ) → answer ≡ parsed t rest q → after ≡ sets before stored (clusters t)
+
+pub record ListReads (text : List ℕ) (seen stored : ℕ) (before after : List ℕ) (answer : Answer Forest) (r : NodeRead) : Type 0 where
+  pub says : nodeSays text r ≡ andThen answer (λ f rest q. parsed (forestMet seen stored f) rest q)
+  pub stores : (f : Forest) (rest : List ℕ) (q : ℕ) → answer ≡ parsed f rest q → after ≡ sets before stored (clustersOf f)
+
+-- the promises of the readers of a leaf, a node, a list and a tree: over every list of names that the table has, and at every depth that suffices
+unfoldable pub ReadsLeaf : List ℕ → List ℕ → ℕ → Cursor → List ℕ → List ℕ → NodeRead → Type 0
+ReadsLeaf text table count c before after r =
+    (names : List (List ℕ))
+    → Holds names count table → NodeReads text (c .seen) (c .stored) before after (leafAt names (c .seen) (drop (c .at) text) (c .at)) r
+
+unfoldable pub ReadsNode : List ℕ → List ℕ → ℕ → Cursor → ℕ → List ℕ → List ℕ → NodeRead → Type 0
+ReadsNode text table count c room before after r =
+    (names : List (List ℕ))
+    → Holds names count table
+    → (k : ℕ)
+    → 2 * (length text - c .at) < k
+    → NodeReads text (c .seen) (c .stored) before after (readNode k names room (c .seen) (drop (c .at) text) (c .at)) r
+
+unfoldable pub ReadsList : List ℕ → List ℕ → ℕ → Cursor → ℕ → List ℕ → List ℕ → NodeRead → Type 0
+ReadsList text table count c room before after r =
+    (names : List (List ℕ))
+    → Holds names count table
+    → (k : ℕ)
+    → 2 * (length text - c .at) + 1 < k
+    → ListReads text (c .seen) (c .stored) before after (readForest k names room (c .seen) (drop (c .at) text) (c .at)) r
+
+-- a node and `;`, where as many parentheses may open as there is room for
+unfoldable pub treeAnswer : ℕ → List (List ℕ) → ℕ → ℕ → List ℕ → ℕ → Answer Tree
+treeAnswer k names room needed s p =
+    andThen (readNode k names room 0 s p) (λ t s p. ended (nextIs 59 (skip s)) needed t (skip s) (p + blanks s))
+
+unfoldable pub ReadsTree : List ℕ → List ℕ → ℕ → ℕ → ℕ → ℕ → List ℕ → List ℕ → NodeRead → Type 0
+ReadsTree text table count needed start room before after r =
+    (names : List (List ℕ))
+    → Holds names count table
+    → (k : ℕ)
+    → 2 * (length text - start) < k
+    → NodeReads text 0 0 before after (treeAnswer k names room needed (drop start text) start) r
+
+-- the promise of the reader of a tree with all of the species, which sorts its clusters into a record
+unfoldable pub ReadsRecord : List ℕ → List ℕ → ℕ → ℕ → ℕ → Reading → Type 0
+ReadsRecord text table count start room r =
+    (names : List (List ℕ))
+    → Holds names count table
+    → (k : ℕ)
+    → 2 * (length text - start) < k
+    → r ≡ readingOf start (treeAnswer k names room (whole count) (drop start text) start)

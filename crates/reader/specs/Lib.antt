@@ -1,0 +1,7 @@
+pub mod Answers
+pub mod Tokens
+pub mod Reading
+pub mod Grammar
+pub mod Promise
+pub mod Meaning
+pub mod Core

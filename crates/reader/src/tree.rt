@@ -1,0 +1,114 @@
+// The public call: a tree's text read to its record.
+ghost use mathlib.Core.Path.{_≡_};
+ghost use mathlib.Core.List.{List};
+ghost use Prim.Native.Nat.{ℕ, _*_, _≤_};
+ghost use lib.ListN.{length};
+ghost use Rattle.reader.specs.Answers.Answer.{refused as Answer·refused};
+ghost use Rattle.reader.specs.Core.{Holds, Given, ReadsTree, ReadsRecord};
+ghost use Rattle.reader.specs.Promise.{readingOf, Reads};
+use crate::Reading;
+use crate::answer::Cursor;
+use crate::answer::NodeRead;
+use crate::answer::Refusal;
+use crate::answer::moved;
+use crate::answer::node_refusal;
+use crate::cursor::blanks;
+use crate::cursor::next_is;
+use crate::cursor::stray;
+use crate::node::node;
+use clusters::whole;
+use clusters::within;
+use roster::parse;
+use trees::record_of;
+
+// A tree: a node and `;`, with every species of `needed` in it.
+fn tree(
+    text: &[u8],
+    table: &[u8],
+    count: usize,
+    needed: u32,
+    start: usize,
+    room: usize,
+    found: &mut [u32],
+) -> NodeRead
+    requires { ⌜ Given count (now table) (now found) 0 0 ⌝ }
+    ensures { λ r. ⌜ ReadsTree (now (text .entry)) (now (table .entry)) count needed start room (now (found .entry)) (now (found .exit)) r ⌝ }
+{
+    let cursor = Cursor {
+        at: start,
+        seen: 0,
+        stored: 0,
+    };
+    let root = node(text, table, count, cursor, room, found);
+    let NodeRead::Node { mask, next } = root else {
+        return root;
+    };
+    let end = blanks(text, next.at);
+    if !next_is(text, end, b';') {
+        return NodeRead::Refused(stray(text, end));
+    }
+    if !within(needed, mask) {
+        return NodeRead::Refused(Refusal {
+            number: 9,
+            place: end,
+        });
+    }
+    NodeRead::Node {
+        mask: mask,
+        next: moved(next, end + 1),
+    }
+}
+
+// A refused call: the offset that was given, and zeros.
+fn refused(start: usize, number: u32, place: usize) -> Reading
+    ensures { λ r. ⌜ r ≡ readingOf start (Answer·refused number place) ⌝ }
+{
+    Reading {
+        number: number,
+        place: place,
+        next: start,
+        numbers: [0u16; 32],
+    }
+}
+
+// The tree that begins at `start`, with all of at most 16 species: its clusters, sorted into a record.
+fn recorded(text: &[u8], table: &[u8], count: usize, start: usize, room: usize) -> Reading
+    requires { ⌜ ((names : List (List ℕ)) × Holds names count (now table)) ⌝ }
+    requires { ⌜ count ≤ 16 ⌝ }
+    requires { ⌜ 16 * count ≤ length (now table) ⌝ }
+    ensures { λ r. ⌜ ReadsRecord (now (text .entry)) (now (table .entry)) count start room r ⌝ }
+{
+    let mut found = [0u32; 64];
+    let read = tree(text, table, count, whole(count), start, room, &mut found);
+    let NodeRead::Node { mask: _, next } = read else {
+        let fault = node_refusal(read);
+        return refused(start, fault.number, fault.place);
+    };
+    let sorted = record_of(&found, next.stored);
+    let numbers = sorted.numbers;
+    Reading {
+        number: 0,
+        place: 0,
+        next: next.at,
+        numbers: numbers,
+    }
+}
+
+// The tree that begins at `start`, over the names of the roster line.
+pub fn read(line: &[u8], text: &[u8], start: usize) -> Reading
+    ensures { λ r. ⌜ Reads (now (line .entry)) (now (text .entry)) start r ⌝ }
+{
+    let roster = parse(line, 16);
+    let number = roster.number;
+    if number != 0 {
+        return refused(start, number, roster.place);
+    }
+    if 65536 < text.len() {
+        return refused(start, 2, 65536);
+    }
+    if text.len() < start {
+        return refused(start, 10, text.len());
+    }
+    let table = roster.table;
+    recorded(text, &table, roster.count, start, 15)
+}
