@@ -14,3 +14,4 @@ pub mod Places
 pub mod Present
 pub mod Recorded
 pub mod Sorting
+pub mod ValidTest

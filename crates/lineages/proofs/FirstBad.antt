@@ -1,0 +1,97 @@
+-- The first gene record that is not valid: found from the left, and what it means that there is none.
+use Prim.Native.Nat.{ℕ, suc, _+_, _*_, _^_, _≤_, _<_}
+use mathlib.Core.Path.{_≡_, refl, sym, subst}
+use mathlib.Core.Bool.{Bool, true, false}
+use mathlib.Core.Logic.{_⊎_, inl, inr}
+use mathlib.Core.List.{List, [], _∷_, List·Memᴰ, List·Memᴰ·not-nil, List·Memᴰ·cases-cons}
+use native.Mathlib.Omega.{arith}
+use lib.ListN.{length, take, drop}
+use lib.Pow.{pow-mono}
+use Rattle.clusters.specs.Sets.{whole}
+use Rattle.clusters.proofs.Sets.{whole-below, below-of-within}
+use Rattle.trees.specs.Records.{GeneValid}
+use Rattle.trees.specs.Valid.{valid}
+use Rattle.trees.proofs.ValidTest.{valid-decides}
+use Rattle.lineages.specs.Count.{recordsIn}
+use Rattle.lineages.specs.Checks.{countOn, firstBad}
+use Rattle.lineages.specs.Work.{AllValid, AllCountable, AllMarkable}
+use Rattle.lineages.proofs.Lent.{length-recordsIn, recordsFrom, records-from-first, records-next, records-from-last}
+use Rattle.lineages.proofs.Checked.{valid-countable}
+
+-- the whole set of up to 16 species is a sixteen-bit number
+pub whole-small : (n : ℕ) → n ≤ 16 → whole n < 65536
+whole-small n l = omega (arith, whole-below n, pow-mono {i = n} {j = 16} l)
+
+first-bad-none : (n : ℕ) → firstBad n [] ≡ 0
+unfolding firstBad
+first-bad-none n = refl
+
+first-bad-here : (n : ℕ) (g : List ℕ) (l : List (List ℕ)) → valid (whole n) g ≡ false → firstBad n (g ∷ l) ≡ 0
+unfolding firstBad
+first-bad-here n g l e = rw e
+
+first-bad-later : (n : ℕ) (g : List ℕ) (l : List (List ℕ)) → valid (whole n) g ≡ true → firstBad n (g ∷ l) ≡ suc (firstBad n l)
+unfolding firstBad
+first-bad-later n g l e = rw e
+
+-- ---- found from the left
+
+-- the records before the i-th are valid
+pub record PassedTo (n : ℕ) (genes : List ℕ) (count i : ℕ) : Type 0 where
+  pub place : i ≤ count
+  pub left : i + firstBad n (recordsFrom i count genes) ≡ firstBad n (recordsIn count genes)
+
+pub passed-start : (n : ℕ) (genes : List ℕ) (count : ℕ) → PassedTo n genes count 0
+passed-start n genes count = record { place = omega arith; left = rw records-from-first (omega arith) }
+
+module _ {n : ℕ} {genes : List ℕ} {count i : ℕ} (now : PassedTo n genes count i) where
+  pub passed-next : i < count → valid (whole n) (take 32 (drop (32 * i) genes)) ≡ true → PassedTo n genes count (i + 1)
+  passed-next l e =
+      let next = rw (← records-next i count genes l) at (first-bad-later n (take 32 (drop (32 * i) genes)) (recordsFrom (i + 1) count genes) e) in
+      record { place = omega arith; left = omega (arith, now .left) }
+
+  pub passed-found : i < count → valid (whole n) (take 32 (drop (32 * i) genes)) ≡ false → i ≡ firstBad n (recordsIn count genes)
+  passed-found l e =
+      let here = rw (← records-next i count genes l) at (first-bad-here n (take 32 (drop (32 * i) genes)) (recordsFrom (i + 1) count genes) e) in
+      omega (arith, now .left)
+
+  pub passed-all : count ≤ i → i ≡ firstBad n (recordsIn count genes)
+  passed-all l =
+      let all : i ≡ count = omega (arith, now .place) in
+      let none : firstBad n (recordsFrom i count genes) ≡ 0 = rw (all, records-from-last) (first-bad-none n) in
+      omega (arith, now .left)
+
+-- ---- none
+
+pub first-bad-le : (n : ℕ) (genes : List (List ℕ)) → firstBad n genes ≤ length genes
+unfolding firstBad
+first-bad-le n [] = omega arith
+first-bad-le n (g ∷ l) = go (valid (whole n) g) (first-bad-le n l)
+  where
+    go : (b : Bool) → firstBad n l ≤ length l → countOn b (firstBad n l) ≤ suc (length l)
+    go true h = omega arith
+    go false h = omega arith
+
+-- where no record is first, all are valid
+pub none-bad : (n : ℕ) (genes : List (List ℕ)) → n ≤ 16 → length genes ≤ firstBad n genes → AllValid n genes
+unfolding firstBad
+none-bad n [] small h g m = absurd (List·Memᴰ·not-nil m)
+none-bad n (x ∷ l) small h g m = go (valid (whole n) x) refl h (List·Memᴰ·cases-cons m) (λ k p. none-bad n l small k g p)
+  where
+    go : (b : Bool) → valid (whole n) x ≡ b → suc (length l) ≤ countOn b (firstBad n l) → (g ≡ x) ⊎ List·Memᴰ g l → (length l ≤ firstBad n l → List·Memᴰ g l → GeneValid n g) → GeneValid n g
+    go true e k (inl p) ih = subst (λ (y : List ℕ). GeneValid n y) (sym p) (valid-decides x (whole-small n small) .holds e)
+    go true e k (inr p) ih = ih (omega arith) p
+    go false e k p ih = absurd (omega arith)
+
+-- what was checked can be counted, and marked below 2^n
+module _ (n : ℕ) (genes : List ℕ) (count : ℕ) {bad : ℕ} (small : n ≤ 16) (found : bad ≡ firstBad n (recordsIn count genes)) (none : count ≤ bad) where
+  checked-valid : AllValid n (recordsIn count genes)
+  checked-valid = none-bad n (recordsIn count genes) small (omega (arith, length-recordsIn count genes))
+
+  pub checked-countable : AllCountable (recordsIn count genes)
+  checked-countable g m = valid-countable (checked-valid g m)
+
+  pub checked-markable : AllMarkable (2 ^ n) (recordsIn count genes)
+  checked-markable g m =
+      let v = checked-valid g m in
+      record { form = v .form; below = λ x h. below-of-within n (v .inside x h .1) }

@@ -1,0 +1,50 @@
+-- The replies of the code's tests are the tests of the promises.
+use Prim.Native.Nat.{ℕ, _-_, _^_, _≤_, _<_}
+use mathlib.Core.Path.{_≡_, refl, sym, _∙_, subst}
+use mathlib.Core.Bool.{Bool, true, false, _&&_, false≢true}
+use mathlib.Core.List.{List}
+use native.Mathlib.Decide.{decLt}
+use native.Mathlib.Omega.{arith}
+use lib.Dec.{leb, ltb}
+use lib.Pow.{pow-mono}
+use borrow.Author.Tests.{ltb-true, lt-ltb, le-ltb, le-leb, lt-leb}
+use Rattle.clusters.specs.Sets.{whole}
+use Rattle.trees.specs.Records.{Form, ValidOn, BinaryOn}
+use Rattle.trees.specs.Valid.{valid, binary}
+use Rattle.trees.specs.Decides.{Decides}
+use Rattle.trees.proofs.ValidTest.{valid-decides, valid-reply, binary-reply}
+use Rattle.lineages.proofs.FirstBad.{whole-small}
+
+-- a reply that decides whether a record is valid is the test of it
+pub valid-told : (b : Bool) {n all : ℕ} (g : List ℕ) → n ≤ 16 → all ≡ whole n → Decides b (ValidOn all g) → b ≡ valid (whole n) g
+valid-told b {n} g small e d = valid-reply b g (whole-small n small) (subst (λ (s : ℕ). Decides b (ValidOn s g)) e d)
+
+pub binary-told : (b : Bool) (n : ℕ) {all : ℕ} (g : List ℕ) → all ≡ whole n → Decides b (BinaryOn all g) → b ≡ binary (whole n) g
+binary-told b n g e d = binary-reply b (whole n) g (subst (λ (s : ℕ). Decides b (BinaryOn s g)) e d)
+
+-- a number is a cluster exactly when it is at least 1 and at most the whole set
+pub no-cluster : (n a : ℕ) → a < 1 → false ≡ (leb 1 a && ltb a (2 ^ n))
+no-cluster n a l = rw (lt-leb 1 a l)
+
+pub cluster-told : (n a : ℕ) → 1 ≤ a → leb a (whole n) ≡ (leb 1 a && ltb a (2 ^ n))
+unfolding whole
+cluster-told n a one = rw (le-leb 1 a one) (go (decLt a (2 ^ n)))
+  where
+    go : Dec (a < 2 ^ n) → leb a (2 ^ n - 1) ≡ ltb a (2 ^ n)
+    go (yes h) = le-leb a (2 ^ n - 1) (omega arith) ∙ sym (lt-ltb a (2 ^ n) h)
+    go (no h) = lt-leb a (2 ^ n - 1) (omega arith) ∙ sym (le-ltb a (2 ^ n) (omega arith))
+
+pub cluster-small : (n a : ℕ) → n ≤ 16 → (leb 1 a && ltb a (2 ^ n)) ≡ true → a < 65536
+cluster-small n a small e = omega (arith, ltb-true a (2 ^ n) (second (leb 1 a) e), pow-mono {i = n} {j = 16} small)
+  where
+    second : (b : Bool) → (b && ltb a (2 ^ n)) ≡ true → ltb a (2 ^ n) ≡ true
+    second true h = h
+    second false h = absurd (false≢true h)
+
+-- a species record that was checked has the form of one
+pub species-form : (n : ℕ) (species : List ℕ) → n ≤ 16 → (valid (whole n) species && binary (whole n) species) ≡ true → Form species
+species-form n species small e = valid-decides species (whole-small n small) .holds (first (valid (whole n) species) e) .form
+  where
+    first : (b : Bool) → (b && binary (whole n) species) ≡ true → b ≡ true
+    first true h = refl
+    first false h = h

@@ -1,0 +1,5 @@
+pub mod Count
+pub mod Lineages
+pub mod Checks
+pub mod Promise
+pub mod Work

@@ -1,0 +1,78 @@
+// What the calls refuse, each check by itself, so that every call can put them in its order.
+ghost use mathlib.Core.Path.{_≡_};
+ghost use mathlib.Core.Bool.{_&&_};
+ghost use Prim.Native.Nat.{_*_, _^_, _≤_};
+ghost use lib.ListN.{length};
+ghost use lib.Dec.{leb, ltb};
+ghost use Rattle.clusters.specs.Sets.{whole};
+ghost use Rattle.trees.specs.Valid.{valid, binary};
+ghost use Rattle.lineages.specs.Count.{recordsIn};
+ghost use Rattle.roster.specs.Verdict.{verdict};
+ghost use Rattle.lineages.specs.Checks.{firstBad};
+ghost use Rattle.lineages.specs.Work.{shapeTests, said};
+
+// 1, 11 or 12 where n, count or the entries that are lent are at fault, else 0. All are at place 0.
+pub fn shape(n: usize, genes: &[u16], count: usize) -> u32
+    ensures { λ r. ⌜ verdict (shapeTests n (now (genes .entry)) count) ≡ said r 0 ⌝ }
+{
+    if n < 1 {
+        return 1;
+    }
+    if 16 < n {
+        return 1;
+    }
+    if count < 1 {
+        return 11;
+    }
+    if 4096 < count {
+        return 11;
+    }
+    if genes.len() < 32 * count {
+        return 12;
+    }
+    0
+}
+
+// The index of the first gene record that is not valid, and count where all are.
+pub fn first_bad(n: usize, genes: &[u16], count: usize) -> usize
+    requires { ⌜ n ≤ 16 ⌝ }
+    requires { ⌜ 32 * count ≤ length (now genes) ⌝ }
+    ensures { λ r. ⌜ r ≡ firstBad n (recordsIn count (now (genes .entry))) ⌝ }
+{
+    let all = clusters::whole(n);
+    let mut i = 0;
+    while i < count {
+        let start = 32 * i;
+        let end = start + 32;
+        if trees::valid(&genes[start..end], all) {
+            i += 1;
+        } else {
+            return i;
+        }
+    }
+    i
+}
+
+// Whether a is the number of a cluster of n species.
+pub fn is_cluster(n: usize, a: usize) -> bool
+    requires { ⌜ n ≤ 16 ⌝ }
+    ensures { λ r. ⌜ r ≡ (leb 1 a && ltb a (2 ^ n)) ⌝ }
+{
+    if a < 1 {
+        return false;
+    }
+    a <= clusters::whole(n) as usize
+}
+
+// Whether the species record is valid and that of a binary tree.
+pub fn is_species_tree(n: usize, species: &[u16]) -> bool
+    requires { ⌜ n ≤ 16 ⌝ }
+    requires { ⌜ length (now species) ≡ 32 ⌝ }
+    ensures { λ r. ⌜ r ≡ (valid (whole n) (now (species .entry)) && binary (whole n) (now (species .entry))) ⌝ }
+{
+    let all = clusters::whole(n);
+    if trees::valid(species, all) {
+        return trees::binary(species, all);
+    }
+    false
+}

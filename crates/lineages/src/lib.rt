@@ -1,0 +1,91 @@
+// Extra lineages counted: the weight of a cluster, the score of a species tree, the clusters that gene trees show.
+pub mod adding;
+pub mod checks;
+pub mod count;
+pub mod marking;
+
+use roster::Reply;
+ghost use mathlib.Core.Path.{_≡_};
+ghost use Rattle.lineages.specs.Promise.{Weighs, Scores, Marks};
+ghost use Rattle.lineages.specs.Work.{replied};
+
+// The reply of a call that refuses: "0 for any other value".
+fn refused(number: u32, place: usize) -> Reply
+    ensures { λ r. ⌜ r ≡ replied number place 0 ⌝ }
+{
+    Reply {
+        number,
+        place,
+        value: 0,
+    }
+}
+
+// The reply of a call that is done.
+fn done(value: usize) -> Reply
+    ensures { λ r. ⌜ r ≡ replied 0 0 value ⌝ }
+{
+    Reply {
+        number: 0,
+        place: 0,
+        value,
+    }
+}
+
+// The weight of a cluster: the sum over all gene trees of its extra lineages.
+pub fn weight(n: usize, genes: &[u16], count: usize, cluster: usize) -> Reply
+    ensures { λ r. ⌜ Weighs n (now (genes .entry)) count cluster r ⌝ }
+{
+    let number = checks::shape(n, genes, count);
+    if number != 0 {
+        return refused(number, 0);
+    }
+    let bad = checks::first_bad(n, genes, count);
+    if bad < count {
+        return refused(15, bad);
+    }
+    if checks::is_cluster(n, cluster) {
+        let weight = adding::weigh(genes, count, cluster as u32);
+        return done(weight);
+    }
+    refused(13, cluster)
+}
+
+// The score of a species tree: the sum of the weights of all its clusters.
+pub fn score(n: usize, genes: &[u16], count: usize, species: trees::Record) -> Reply
+    ensures { λ r. ⌜ Scores n (now (genes .entry)) count (species .numbers) r ⌝ }
+{
+    let number = checks::shape(n, genes, count);
+    if number != 0 {
+        return refused(number, 0);
+    }
+    let numbers = species.numbers;
+    if checks::is_species_tree(n, &numbers) {
+        let bad = checks::first_bad(n, genes, count);
+        if bad < count {
+            return refused(15, bad);
+        }
+        let score = adding::weigh_tree(genes, count, &numbers);
+        return done(score);
+    }
+    refused(16, 0)
+}
+
+// Marks each cluster that some gene tree shows, in the first 2^n bytes.
+pub fn mark(n: usize, genes: &[u16], count: usize, out: &mut [u8]) -> Reply
+    ensures { λ r. ⌜ Marks n (now (genes .entry)) count (now (out .entry)) r (now (out .exit)) ⌝ }
+{
+    let number = checks::shape(n, genes, count);
+    if number != 0 {
+        return refused(number, 0);
+    }
+    let entries = clusters::single(n) as usize;
+    if out.len() < entries {
+        return refused(12, 0);
+    }
+    let bad = checks::first_bad(n, genes, count);
+    if bad < count {
+        return refused(15, bad);
+    }
+    marking::mark_shown(genes, count, out, entries);
+    done(0)
+}
