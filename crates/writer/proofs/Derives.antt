@@ -1,0 +1,130 @@
+-- The text of a valid record draws, by the grammar's rules, the tree that the record draws.
+use Prim.Native.Nat.{ℕ, zero, suc, _^_, _≤_, _<_}
+use mathlib.Core.Path.{_≡_, refl, sym, subst}
+use mathlib.Core.Bool.{true}
+use mathlib.Core.List.{List, [], _∷_, _++_, append-assoc, append-nil, List·Memᴰ·head as here, List·Memᴰ·tail as there}
+use native.Mathlib.Decide.{ℕ-discrete}
+use native.Mathlib.Omega.{arith}
+use lib.ListN.{length, getD}
+use Rattle.clusters.specs.Sets.{whole, size}
+use Rattle.clusters.proofs.Sets.{whole-below, within-below}
+use Rattle.clusters.proofs.Sizes.{size-some, size-within-lt, size-whole}
+use Rattle.clusters.proofs.LowestSpecies.{lowest-below}
+use Rattle.trees.specs.Lists.{Among}
+use Rattle.trees.specs.Tree.{Tree, Forest, Behind}
+use Rattle.trees.specs.Tree.Tree.{leaf, node}
+use Rattle.trees.specs.Tree.Forest.{last, more}
+use Rattle.trees.specs.Records.{listed, ValidOn}
+use Rattle.trees.specs.Drawn.{bare, children, forestOver, nodeOver, drawn}
+use Rattle.trees.proofs.Children.{Hierarchy, hierarchy-of-valid, among-children, cluster-below, children-two}
+use Rattle.trees.proofs.Drawing.{drawn-node, drawn-leaf}
+use Rattle.trees.proofs.Bounds.{whole-below-sixteen}
+use Rattle.roster.specs.Bytes.{isName}
+use Rattle.reader.specs.Reading.{openMost}
+use Rattle.reader.specs.Grammar.{strict, Blanks, Run, Node, Children, Text}
+use Rattle.reader.specs.Grammar.Blanks.{none}
+use Rattle.reader.specs.Grammar.Run.{one, next}
+use Rattle.reader.specs.Grammar.Numbers.{nothing}
+use Rattle.reader.specs.Grammar.Inner.{nameless}
+use Rattle.reader.specs.Grammar.Node.{a-leaf, an-inner}
+use Rattle.reader.specs.Grammar.Children.{the-last, one-more}
+use Rattle.reader.specs.Grammar.Text.{text}
+use Rattle.writer.specs.Writing.{nodeText, othersText, treeText, written}
+use Rattle.writer.proofs.RosterNames.{GoodNames}
+
+-- a name is a run of letters and digits, whatever stands behind it
+run-of : (w rest : List ℕ) → 1 ≤ length w → ((k : ℕ) → k < length w → isName (getD w k 0) ≡ true) → Run isName w (w ++ rest) rest
+run-of [] rest h p = absurd (omega arith)
+run-of (b ∷ []) rest h p = one (p 0 (omega arith))
+run-of (b ∷ c ∷ w) rest h p = next (p 0 (omega arith)) (run-of (c ∷ w) rest (omega arith) (λ k l. p (suc k) (omega arith)))
+
+-- ---- trees without anything written behind their nodes
+
+-- the leaves are below n, nothing is written behind a node, and at most k parentheses are open at once
+mutual
+  pub data Plain (n : ℕ) : ℕ → Tree → Type 0 where
+    plain-leaf : {k i : ℕ} {b : Behind} → b ≡ bare → i < n → Plain n k (leaf i b)
+    plain-node : {k : ℕ} {t : Tree} {f : Forest} {b : Behind} → b ≡ bare → Plain n k t → PlainAll n k f → Plain n (suc k) (node t f b)
+
+  pub data PlainAll (n : ℕ) : ℕ → Forest → Type 0 where
+    plain-last : {k : ℕ} {t : Tree} → Plain n k t → PlainAll n k (last t)
+    plain-more : {k : ℕ} {t : Tree} {f : Forest} → Plain n k t → PlainAll n k f → PlainAll n k (more t f)
+
+-- the text of children behind a comma, with their closing parenthesis
+record Commaed (names : List (List ℕ)) (k : ℕ) (f : Forest) (rest : List ℕ) : Type 0 where
+  behind : List ℕ
+  comma : othersText names f ++ 41 ∷ rest ≡ 44 ∷ behind
+  derived : Children (strict names) k behind f rest
+
+module _ {names : List (List ℕ)} (good : GoodNames names) where
+  leaf-derives : {k : ℕ} (i : ℕ) (rest : List ℕ) → i < length names → Node (strict names) k (nodeText names (leaf i bare) ++ rest) (leaf i bare) rest
+  unfolding nodeText
+  leaf-derives i rest h =
+      rw append-nil
+      (a-leaf none (run-of (getD names i []) rest (good .filled i h) (λ k l. good .lettered i k h l))
+      (good .short i h, good .distinct i h, h) nothing)
+
+  mutual
+    unfolding nodeText othersText
+
+    node-derives : {k : ℕ} {t : Tree} (rest : List ℕ) → Plain (length names) k t → Node (strict names) k (nodeText names t ++ rest) t rest
+    node-derives rest (plain-leaf {k} {i} {b} e h) = rw e (leaf-derives i rest h)
+    node-derives rest (plain-node {k} {t} {f} {b} d p q) =
+        let c = others-derive rest q in
+        let e : (nodeText names t ++ othersText names f ++ 41 ∷ []) ++ rest ≡ nodeText names t ++ (othersText names f ++ 41 ∷ rest) = simp append-assoc in
+        subst (λ (x : Behind). Node (strict names) (suc k) (nodeText names (node t f x) ++ rest) (node t f x) rest) (sym d)
+        (subst (λ (s : List ℕ). Node (strict names) (suc k) (40 ∷ s) (node t f bare) rest) (sym e)
+        (an-inner none (node-derives (othersText names f ++ 41 ∷ rest) p) (subst (λ (s : List ℕ). Blanks s (44 ∷ c .behind)) (sym (c .comma)) none) (c .derived) nameless nothing))
+
+    others-derive : {k : ℕ} {f : Forest} (rest : List ℕ) → PlainAll (length names) k f → Commaed names k f rest
+    others-derive rest (plain-last {k} {t} p) = record {
+      behind = nodeText names t ++ 41 ∷ rest;
+      comma = refl;
+      derived = the-last (node-derives (41 ∷ rest) p) none;
+    }
+    others-derive rest (plain-more {k} {t} {f} p q) =
+        let c = others-derive rest q in
+        record {
+          behind = nodeText names t ++ (othersText names f ++ 41 ∷ rest);
+          comma = simp append-assoc;
+          derived = one-more (node-derives (othersText names f ++ 41 ∷ rest) p) (subst (λ (s : List ℕ). Blanks s (44 ∷ c .behind)) (sym (c .comma)) none) (c .derived);
+        }
+
+-- ---- the tree that a record draws
+
+module _ {n k : ℕ} (draw : ℕ → Tree) where
+  forest-plain : (b : ℕ) (l : List ℕ) → ((x : ℕ) → Among x (b ∷ l) → Plain n k (draw x)) → PlainAll n k (forestOver draw b l)
+  forest-plain b [] p = plain-last (p b (here refl))
+  forest-plain b (c ∷ l) p = plain-more (p b (here refl)) (forest-plain c l (λ x h. p x (there h)))
+
+  over-plain : (l : List ℕ) → 2 ≤ length l → ((x : ℕ) → Among x l → Plain n k (draw x)) → Plain n (suc k) (nodeOver draw l)
+  over-plain [] h p = absurd (omega arith)
+  over-plain (b ∷ []) h p = absurd (omega arith)
+  over-plain (b ∷ c ∷ l) h p = plain-node refl (p b (here refl)) (forest-plain c l (λ x m. p x (there m)))
+
+module _ {s : ℕ} {cs : List ℕ} (h : Hierarchy s cs) (n : ℕ) (below : s < 2 ^ n) where
+  leaf-plain : {k : ℕ} (a : ℕ) → Among a cs → size a ≡ 1 → Plain n k (drawn cs a)
+  leaf-plain {k} a m e =
+      rw (drawn-leaf cs a e) (plain-leaf refl (lowest-below n (h .inside a m .0) (cluster-below h m) (within-below s n (h .inside a m .1) below)))
+
+  -- each child is smaller than its parent, so a cluster of k + 1 species opens at most k parentheses at once
+  drawn-plain : (k a : ℕ) → Among a cs → size a ≤ suc k → Plain n k (drawn cs a)
+  drawn-plain zero a m l = leaf-plain a m (let p = size-some (h .inside a m .0) in omega arith)
+  drawn-plain (suc k) a m l = go (ℕ-discrete (size a) 1) (λ x. drawn-plain k x)
+    where
+      go : Dec (size a ≡ 1) → ((x : ℕ) → Among x cs → size x ≤ suc k → Plain n k (drawn cs x)) → Plain n (suc k) (drawn cs a)
+      go (yes e) ih = leaf-plain a m e
+      go (no e) ih =
+          rw (drawn-node h m e)
+          (over-plain (λ b. drawn cs b) (children cs a) (children-two h m e)
+          (λ x i. let c = among-children cs a i in let q = size-within-lt x a (c .inside) (c .other) in ih x (c .among) (omega arith)))
+
+-- the text of a valid record derives the tree that the record draws
+pub derives-written : (names : List (List ℕ)) {r : List ℕ} → GoodNames names → ValidOn (whole (length names)) r
+    → Text (strict names) openMost (written names r) (drawn (listed r) (whole (length names))) []
+unfolding written treeText
+derives-written names {r} g v =
+    let n = length names in
+    let h = hierarchy-of-valid v (whole-below-sixteen n (g .few)) in
+    let l : size (whole n) ≤ suc openMost = let e = size-whole n in let f = g .few in omega arith in
+    text (node-derives g (59 ∷ []) (drawn-plain h n (whole-below n) openMost (whole n) (v .all) l)) none

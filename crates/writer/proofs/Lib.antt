@@ -1,0 +1,11 @@
+pub mod Lengths
+pub mod TableNames
+pub mod RosterNames
+pub mod Derives
+pub mod Stores
+pub mod Largest
+pub mod Childwise
+pub mod NodeText
+pub mod Outcomes
+pub mod RoundTrip
+pub mod WholeText

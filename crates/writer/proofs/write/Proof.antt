@@ -1,0 +1,111 @@
+-- `writer::write` meets its contract: each refusal has its own return, and the text is written once its length is judged.
+use Prim.Native.Nat.{_≤_}
+use mathlib.Core.Path.{_≡_, refl, sym, _∙_}
+use mathlib.Core.Bool.{true}
+use native.Mathlib.Omega.{arith}
+use borrow.Author.Needs.{needs}
+use borrow.Author.Tests.{not-true, not-false}
+use lib.ListN.{length}
+use Rattle.clusters.specs.Sets.{whole}
+use Rattle.trees.specs.Valid.{valid}
+use Rattle.trees.specs.Records.{ValidOn}
+use Rattle.roster.specs.Roster.{names}
+use Rattle.roster.specs.Judged.{speciesMost}
+use Rattle.roster.proofs.Judging.{read-good, read-faulty, read-room}
+use Rattle.writer.specs.Writing.{written}
+use Rattle.writer.proofs.WholeText.{Given, given-sixteen, given-table, given-test, given-listed, given-counts, given-length, given-room, end-room, given-stored}
+use Rattle.writer.proofs.Outcomes.{writes-faulty, writes-invalid, writes-short, writes-done}
+use Rattle.writer.proofs.write.Statement.{statement}
+use Rattle.writer.proofs.write.Tie as tie
+
+-- the roster is good
+given : (c : tie.After-whole)
+    → Given (c .before .before .before .before .before .before .args .line .now) (c .before .before .before .parse .result .count) (c .before .before .before .parse .result .table) (c .whole .result)
+given c =
+    let p = c .before .before .before .parse in
+    let g = read-good speciesMost (c .before .before .before .before .before .before .args .line .now) (p .result) (p .ensures) (c .before .before .if1 .left) in
+    record { good = g .0; counted = g .1; tabled = g .2; species = c .whole .ensures }
+
+-- the record is valid
+valid-there : (c : tie.Else2) → ValidOn (c .before .before .before .before .whole .result) (c .before .before .before .before .before .before .before .before .before .before .args .tree .numbers)
+valid-there c = rw (not-false (c .before .valid .result) (c .if2 .left)) at (c .before .valid .ensures)
+
+tested : (c : tie.Else2) → valid (whole (length (names (c .before .before .before .before .before .before .before .before .before .before .args .line .now)))) (c .before .before .before .before .before .before .before .before .before .before .args .tree .numbers) ≡ true
+tested c =
+    let v = c .before .valid in
+    sym (given-test (given (c .before .before .before .before)) (v .result) (c .before .before .before .before .before .before .before .before .before .before .args .tree .numbers) (v .ensures)) ∙ not-false (v .result) (c .if2 .left)
+
+-- the length is that of the text, and the text has room
+length-there : (c : tie.After-text-length) → c .text-length .result ≡ length (written (names (c .before .before .before .before .before .before .before .before .before .before .before .before .args .line .now)) (c .before .before .before .before .before .before .before .before .before .before .before .before .args .tree .numbers))
+length-there c = given-length (given (c .before .before .before .before .before .before)) (valid-there (c .before .before)) (c .text-length .ensures)
+
+room-there : (c : tie.Else3) → length (written (names (c .before .before .before .before .before .before .before .before .before .before .before .before .before .args .line .now)) (c .before .before .before .before .before .before .before .before .before .before .before .before .before .args .tree .numbers)) ≤ length (c .before .before .before .before .before .before .before .before .before .before .before .before .before .args .out .now)
+room-there c = let l = length-there (c .before) in omega arith
+
+returns : tie.Need-returns
+returns c =
+    let s = c .before .before .before .before .before .args in
+    let p = c .before .before .parse in
+    let f = read-faulty speciesMost (s .line .now) (p .result) (p .ensures) (c .before .if1 .taken) in
+    writes-faulty (s .line .now) (s .tree .numbers) (s .out .now) (f .0) (c .refused .ensures ∙ rw (f .2)) refl
+
+whole-requires : tie.Need-whole-requires
+whole-requires c κs =
+    let p = c .before .before .parse in
+    let r = read-room speciesMost (c .before .before .before .before .before .args .line .now) (p .result) (p .ensures) (omega arith) in
+    omega arith
+
+returns-2 : tie.Need-returns-2
+returns-2 c =
+    let s = c .before .before .before .before .before .before .before .before .before .before .before .args in
+    let g = given (c .before .before .before .before .before) in
+    let v = c .before .before .valid in
+    let t = sym (given-test g (v .result) (s .tree .numbers) (v .ensures)) ∙ not-true (v .result) (c .before .if2 .taken) in
+    writes-invalid (s .line .now) (s .tree .numbers) (s .out .now) (g .good) t (c .refused2 .ensures) refl
+
+returns-3 : tie.Need-returns-3
+returns-3 c =
+    let s = c .before .before .before .before .before .before .before .before .before .before .before .before .before .before .args in
+    let l = length-there (c .before .before) in
+    writes-short (s .line .now) (s .tree .numbers) (s .out .now) (given (c .before .before .before .before .before .before .before .before) .good) (tested (c .before .before .before .before)) (omega arith) (c .refused3 .ensures) refl
+
+node-requires : tie.Need-node-requires
+node-requires c κs =
+    let g = given (c .before .before .before .before .before .before .before .before .before) in
+    let v = valid-there (c .before .before .before .before .before) in
+    (given-listed g v, (given-table g, given-room g v (c .before .before .before .before .before .before .before .before .before .before .before .before .before .before .before .args .out .now) (room-there (c .before .before))))
+
+slice-write-out : tie.Need-slice-write-out
+slice-write-out c = end-room (given (c .before .before .before .before .before .before .before .before .before .before .before .before)) (valid-there (c .before .before .before .before .before .before .before .before)) (c .before .before .before .before .before .before .before .before .before .before .before .before .before .before .before .before .before .before .args .out .now) (room-there (c .before .before .before .before .before)) (c .before .before .node .ensures)
+
+returns-4 : tie.Need-returns-4
+returns-4 c =
+    let s = c .before .before .before .before .before .before .before .before .before .before .before .before .before .before .before .before .before .before .args in
+    let g = given (c .before .before .before .before .before .before .before .before .before .before .before .before) in
+    let r = room-there (c .before .before .before .before .before) in
+    let b = given-stored g (valid-there (c .before .before .before .before .before .before .before .before)) (s .out .now) r (c .before .before .node .ensures) in
+    writes-done (s .line .now) (s .tree .numbers) (s .out .now) (g .good) (tested (c .before .before .before .before .before .before .before .before)) r (rw (length-there (c .before .before .before .before .before .before))) b
+
+pub write-spec : {M : Type 1} → statement M
+write-spec =
+    tie.close
+    (tie.spec
+    (λ c κs. search needs)
+    (λ c κs. search needs)
+    returns
+    whole-requires
+    (λ c. search needs)
+    (λ c κs. let b = given-sixteen (given (c .before .before)) in (search needs, omega arith))
+    (λ c κs. search needs)
+    returns-2
+    (λ c. search needs)
+    (λ c. search needs)
+    (λ c. search needs)
+    (λ c κs. given-counts (given (c .before .before .before .before .before)) (valid-there (c .before)))
+    (λ c κs. search needs)
+    returns-3
+    (λ c. search needs)
+    node-requires
+    slice-write-out
+    (λ c. search needs)
+    returns-4)

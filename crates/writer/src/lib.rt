@@ -1,0 +1,50 @@
+// A record written back as tree text, in the one form.
+mod child;
+mod label;
+mod node;
+
+ghost use mathlib.Core.Path.{_≡_};
+ghost use Rattle.roster.specs.Judged.{refusal};
+ghost use Rattle.writer.specs.Promise.{Writes};
+use roster::Reply;
+use trees::Record;
+
+// A refused call: number and place, and no value.
+fn refused(number: u32, place: usize) -> Reply
+    ensures { λ q. ⌜ q ≡ refusal number place ⌝ }
+{
+    Reply {
+        number: number,
+        place: place,
+        value: 0,
+    }
+}
+
+// Writes the text of the tree into out, and answers its length. What is refused leaves out as it was: the length is judged before a byte is written.
+pub fn write(line: &[u8], tree: Record, out: &mut [u8]) -> Reply
+    ensures { λ q. ⌜ Writes (now (line .entry)) (tree .numbers) (now (out .entry)) q (now (out .exit)) ⌝ }
+{
+    let roster = roster::parse(line, 16);
+    let number = roster.number;
+    if number != 0 {
+        return refused(1, roster.place);
+    }
+    let n = roster.count;
+    let table = roster.table;
+    let all = clusters::whole(n);
+    let numbers = tree.numbers;
+    if !trees::valid(&numbers, all) {
+        return refused(15, 0);
+    }
+    let length = label::text_length(&table, n, numbers[0] as usize);
+    if out.len() < length {
+        return refused(12, 0);
+    }
+    let end = node::node(out, 0, &table, tree, all);
+    out[end] = b';';
+    Reply {
+        number: 0,
+        place: 0,
+        value: length,
+    }
+}
