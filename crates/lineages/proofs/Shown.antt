@@ -102,7 +102,7 @@ unfolding upTo
 length-upTo zero = refl
 length-upTo (suc n) = omega (arith, length-append (upTo n) (n ∷ []), length-upTo n)
 
-map-upTo : (f : ℕ → ℕ) (n a : ℕ) → a < n → getD (map f (upTo n)) a 0 ≡ f a
+pub map-upTo : (f : ℕ → ℕ) (n a : ℕ) → a < n → getD (map f (upTo n)) a 0 ≡ f a
 unfolding upTo
 map-upTo f zero a h = absurd (omega arith)
 map-upTo f (suc n) a h =

@@ -2,7 +2,7 @@
 use Prim.Native.Nat.{ℕ, zero, suc, _+_, _-_, _*_, _/_, _%_, _^_, _≤_, _<_}
 use mathlib.Core.Path.{_≡_, refl, sym, ap, ap₂, _∙_, subst}
 use mathlib.Core.Logic.{_⊎_, inl, inr}
-use mathlib.Core.Bool.{Bool, true, false, not, _&&_, _||_, false≢true}
+use mathlib.Core.Bool.{Bool, true, false, not, _&&_, _||_, true≢false, false≢true}
 use mathlib.Core.List.{List, [], _∷_, List·Memᴰ·head as here, List·Memᴰ·tail as there, List·Memᴰ·not-nil, List·Memᴰ·cases-cons}
 use native.Mathlib.Decide.{ℕ-discrete}
 use native.Mathlib.Omega.{arith}
@@ -23,6 +23,10 @@ use Rattle.trees.specs.Decides.{Decides}
 pub record Tells (test : Bool) (P : Type 0) : Type 0 where
   pub holds : test ≡ true → P
   pub told : P → test ≡ true
+
+-- where the test is false, P does not hold
+pub denied : {test : Bool} {P : Type 0} → Tells test P → test ≡ false → P → ⊥
+denied d e p = true≢false (sym (d .told p) ∙ e)
 
 tells-also : {test : Bool} {P Q : Type 0} → (P → Q) → (Q → P) → Tells test P → Tells test Q
 tells-also f g d = record { holds = λ e. f (d .holds e); told = λ q. d .told (g q) }

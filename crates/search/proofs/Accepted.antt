@@ -1,0 +1,145 @@
+-- When the tests before the search all pass, and which numbers they can give.
+use Prim.Native.Nat.{ℕ, suc, _*_, _^_, _≤_, _<_}
+use mathlib.Core.Path.{_≡_, refl, ap, _∙_}
+use mathlib.Core.Logic.{_⊎_, inl, inr}
+use mathlib.Core.Bool.{Bool, true, false, not, _&&_, true≢false}
+use mathlib.Core.List.{List, [], _∷_, List·Memᴰ, List·Memᴰ·head as here, List·Memᴰ·tail as there, List·Memᴰ·not-nil, List·Memᴰ·cases-cons}
+use native.Mathlib.Omega.{arith}
+use lib.Dec.{leb}
+use lib.ListN.{length, getD}
+use borrow.Author.Tests.{ltb-false, leb-true, le-leb, le-ltb, not-false}
+use Rattle.clusters.specs.Sets.{whole}
+use Rattle.trees.specs.Valid.{valid}
+use Rattle.roster.proofs.Least.{least-first, least-none}
+use Rattle.lineages.specs.Count.{recordsIn}
+use Rattle.roster.specs.Verdict.{Test, verdict, verdictBy, lengthTest}
+use Rattle.lineages.specs.Checks.{speciesTest, countTest, firstBad, countOn, recordsTest}
+use Rattle.search.specs.Promise.{firstStrange, allowedTest, searchTests}
+
+-- ---- a list of tests passes when each does
+
+pub verdict-passed : (t : Test) (l : List Test) → (t .number ≡ 0 → ⊥) → verdict (t ∷ l) .number ≡ 0 → (t .fault ≡ false) × (verdict l .number ≡ 0)
+unfolding verdict
+verdict-passed t l f e = go (t .fault) e
+  where
+    go : (b : Bool) → verdictBy b t (verdict l) .number ≡ 0 → (b ≡ false) × (verdict l .number ≡ 0)
+    go true e = absurd (f e)
+    go false e = (refl, e)
+
+pub verdict-passes : (t : Test) (l : List Test) → t .fault ≡ false → verdict (t ∷ l) ≡ verdict l
+unfolding verdict
+verdict-passes t l e = ap (λ b. verdictBy b t (verdict l)) e
+
+-- a number that no test has is never given
+unfoldable pub NoneGives : ℕ → List Test → Type 0
+NoneGives m [] = Unit {0}
+NoneGives m (t ∷ l) = (t .number ≡ m → ⊥) × NoneGives m l
+
+verdict-never : (m : ℕ) (l : List Test) → (0 ≡ m → ⊥) → NoneGives m l → verdict l .number ≡ m → ⊥
+unfolding verdict NoneGives
+verdict-never m [] z n e = z e
+verdict-never m (t ∷ l) z n e = go (t .fault) e (λ k. verdict-never m l z (n .1) k)
+  where
+    go : (b : Bool) → verdictBy b t (verdict l) .number ≡ m → (verdict l .number ≡ m → ⊥) → ⊥
+    go true e ih = n .0 e
+    go false e ih = ih e
+
+-- ---- the tests one by one
+
+both : (a b : Bool) → not (a && b) ≡ false → (a ≡ true) × (b ≡ true)
+both true true e = (refl, refl)
+both true false e = absurd (true≢false e)
+both false b e = absurd (true≢false e)
+
+first-bad-all : (n : ℕ) (genes : List (List ℕ)) → length genes ≤ firstBad n genes → (g : List ℕ) → List·Memᴰ g genes → valid (whole n) g ≡ true
+unfolding firstBad
+first-bad-all n [] h g m = absurd (List·Memᴰ·not-nil m)
+first-bad-all n (x ∷ l) h g m = go (valid (whole n) x) refl h (List·Memᴰ·cases-cons m) (λ k p. first-bad-all n l k g p)
+  where
+    go : (b : Bool) → valid (whole n) x ≡ b → suc (length l) ≤ countOn b (firstBad n l) → (g ≡ x) ⊎ List·Memᴰ g l
+        → (length l ≤ firstBad n l → List·Memᴰ g l → valid (whole n) g ≡ true) → valid (whole n) g ≡ true
+    go true e k (inl p) ih = ap (valid (whole n)) p ∙ e
+    go true e k (inr p) ih = ih (omega arith) p
+    go false e k p ih = absurd (omega arith)
+
+pub all-first-bad : (n : ℕ) (genes : List (List ℕ)) → ((g : List ℕ) → List·Memᴰ g genes → valid (whole n) g ≡ true) → firstBad n genes ≡ length genes
+unfolding firstBad
+all-first-bad n [] h = refl
+all-first-bad n (x ∷ l) h = rw (h x (here refl)) (ap suc (all-first-bad n l (λ g m. h g (there m))))
+
+strange-none : (n : ℕ) (bytes : List ℕ) → 2 ^ n ≤ firstStrange n bytes → (a : ℕ) → a < 2 ^ n → getD bytes a 0 ≤ 1
+unfolding firstStrange
+strange-none n bytes h a l =
+    leb-true (getD bytes a 0) 1 (not-false (leb (getD bytes a 0) 1) (least-first (λ a. not (leb (getD bytes a 0) 1)) (2 ^ n) 0 .1 a (omega arith) (omega arith)))
+
+none-strange : (n : ℕ) (bytes : List ℕ) → ((a : ℕ) → a < 2 ^ n → getD bytes a 0 ≤ 1) → 2 ^ n ≤ firstStrange n bytes
+unfolding firstStrange
+none-strange n bytes h =
+    let e = least-none (λ a. not (leb (getD bytes a 0) 1)) (2 ^ n) 0 (λ a p q. ap not (le-leb (getD bytes a 0) 1 (h a (omega arith)))) in
+    omega arith
+
+-- ---- accepted input
+
+-- no test finds a fault
+pub record Accepted (n : ℕ) (genes : List ℕ) (count : ℕ) (allowed scores splits : List ℕ) : Type 0 where
+  pub some-species : 1 ≤ n
+  pub few-species : n ≤ 16
+  pub some-genes : 1 ≤ count
+  pub few-genes : count ≤ 4096
+  pub genes-fit : 32 * count ≤ length genes
+  pub allowed-fits : 2 ^ n ≤ length allowed
+  pub scores-fit : 2 ^ n ≤ length scores
+  pub splits-fit : 2 ^ n ≤ length splits
+  pub genes-valid : (g : List ℕ) → List·Memᴰ g (recordsIn count genes) → valid (whole n) g ≡ true
+  pub allowed-bytes : (a : ℕ) → a < 2 ^ n → getD allowed a 0 ≤ 1
+
+module _ (n : ℕ) (genes : List ℕ) (count : ℕ) (allowed scores splits : List ℕ) where
+  pub accepted : verdict (searchTests n genes count allowed scores splits) .number ≡ 0 → Accepted n genes count allowed scores splits
+  unfolding searchTests speciesTest countTest lengthTest recordsTest allowedTest
+  accepted e =
+      let a = verdict-passed _ _ (λ z. omega arith) e in
+      let b = verdict-passed _ _ (λ z. omega arith) (a .1) in
+      let c = verdict-passed _ _ (λ z. omega arith) (b .1) in
+      let d = verdict-passed _ _ (λ z. omega arith) (c .1) in
+      let f = verdict-passed _ _ (λ z. omega arith) (d .1) in
+      let g = verdict-passed _ _ (λ z. omega arith) (f .1) in
+      let h = verdict-passed _ _ (λ z. omega arith) (g .1) in
+      let k = verdict-passed _ _ (λ z. omega arith) (h .1) in
+      let species = both (leb 1 n) (leb n 16) (a .0) in
+      let trees = both (leb 1 count) (leb count 4096) (b .0) in
+      record {
+        some-species = leb-true 1 n (species .0);
+        few-species = leb-true n 16 (species .1);
+        some-genes = leb-true 1 count (trees .0);
+        few-genes = leb-true count 4096 (trees .1);
+        genes-fit = ltb-false (length genes) (32 * count) (c .0);
+        allowed-fits = ltb-false (length allowed) (2 ^ n) (d .0);
+        scores-fit = ltb-false (length scores) (2 ^ n) (f .0);
+        splits-fit = ltb-false (length splits) (2 ^ n) (g .0);
+        genes-valid = first-bad-all n (recordsIn count genes) (ltb-false (firstBad n (recordsIn count genes)) (length (recordsIn count genes)) (h .0));
+        allowed-bytes = strange-none n allowed (ltb-false (firstStrange n allowed) (2 ^ n) (k .0));
+      }
+
+  pub accepts : Accepted n genes count allowed scores splits → verdict (searchTests n genes count allowed scores splits) .number ≡ 0
+  unfolding searchTests speciesTest countTest lengthTest recordsTest allowedTest verdict
+  accepts a =
+      rw (
+        le-leb 1 n (a .some-species),
+        le-leb n 16 (a .few-species),
+        le-leb 1 count (a .some-genes),
+        le-leb count 4096 (a .few-genes),
+        le-ltb (length genes) (32 * count) (a .genes-fit),
+        le-ltb (length allowed) (2 ^ n) (a .allowed-fits),
+        le-ltb (length scores) (2 ^ n) (a .scores-fit),
+        le-ltb (length splits) (2 ^ n) (a .splits-fit),
+        le-ltb (firstBad n (recordsIn count genes)) (length (recordsIn count genes)) (let e = all-first-bad n (recordsIn count genes) (a .genes-valid) in omega arith),
+        le-ltb (firstStrange n allowed) (2 ^ n) (none-strange n allowed (a .allowed-bytes)),
+      )
+
+  -- 14 is no number of these tests: it comes from the search alone
+  pub no-fourteen : verdict (searchTests n genes count allowed scores splits) .number ≡ 14 → ⊥
+  unfolding searchTests speciesTest countTest lengthTest recordsTest allowedTest NoneGives
+  no-fourteen e =
+      verdict-never 14 (searchTests n genes count allowed scores splits) (λ z. omega arith)
+      (λ z. omega arith, (λ z. omega arith, (λ z. omega arith, (λ z. omega arith, (λ z. omega arith, (λ z. omega arith, (λ z. omega arith, (λ z. omega arith, tt))))))))
+      e

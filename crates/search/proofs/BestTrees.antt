@@ -1,0 +1,282 @@
+-- What the best tree is, for any weights and any allowed set: over allowed clusters, least, the first of the least; and how it changes with both.
+use Prim.Native.Nat.{ℕ, _+_, _-_, _^_, _≤_, _<_}
+use mathlib.Core.Path.{_≡_, refl, sym, ap, ap₂, _∙_, subst}
+use mathlib.Core.Logic.{_⊎_, inl, inr}
+use mathlib.Core.Bool.{Bool, true, false, _&&_, true≢false, false≢true}
+use mathlib.Core.Option.{Option, some, none}
+use mathlib.Core.List.{List, [], _∷_, map, List·Memᴰ, List·Memᴰ·head as here, List·Memᴰ·tail as there, List·Memᴰ·not-nil, List·Memᴰ·cases-cons}
+use native.Mathlib.Omega.{arith}
+use lib.Dec.{leb}
+use borrow.Author.Tests.{leb-false}
+use native.Mathlib.Nat.{add-comm}
+use Rattle.clusters.specs.Sets.{Has, Within, size, lowest}
+use Rattle.clusters.proofs.Members.{has-dec}
+use Rattle.clusters.proofs.Sets.{minus-within, minus-has}
+use Rattle.clusters.proofs.LowestSpecies.{lowest-has}
+use Rattle.trees.specs.Lists.{Among}
+use Rattle.trees.specs.Valid.{every}
+use Rattle.lineages.specs.Count.{total}
+use Rattle.search.specs.BinaryTrees.{Binary, clustersIn, treesOn}
+use Rattle.search.specs.BinaryTrees.Binary.{fork}
+use Rattle.search.specs.WellFormed.{LowPart, TreeOn}
+use Rattle.search.specs.WellFormed.TreeOn.{one, two}
+use Rattle.search.specs.Order.{Earlier, Ordered}
+use Rattle.search.specs.Least.{scoreOf, best, scoreEntry, splitEntry}
+use Rattle.search.proofs.FirstLeast.{chosen, pick, pickAll, pickAll-same, gateBy, pickAll-least, pickAll-missed, pickAll-scores}
+use Rattle.search.proofs.LowParts.{low-some}
+use Rattle.search.proofs.Membership.{listed-well-formed, well-formed-listed, tree-root}
+use Rattle.search.proofs.Enumeration.{treesOn-ordered}
+use Rattle.search.proofs.Recurrence.{total-same, gated, gated-same, best-choice, best-listed, best-on, best-fork, allowed-of-best, score-fork}
+use Rattle.search.proofs.DrawnBinary.{InFork, among-fork, tree-inside}
+use Rattle.search.proofs.DrawnBinary.InFork.{at-root, in-low, in-other}
+
+-- ---- lists of which all pass a test
+
+pub every-among : (ok : ℕ → Bool) (l : List ℕ) → every ok l ≡ true → (x : ℕ) → Among x l → ok x ≡ true
+unfolding every
+every-among ok [] e x h = absurd (List·Memᴰ·not-nil h)
+every-among ok (y ∷ l) e x h = go (ok y) refl e (List·Memᴰ·cases-cons h) (λ p k. every-among ok l p x k)
+  where
+    go : (b : Bool) → ok y ≡ b → (b && every ok l) ≡ true → (x ≡ y) ⊎ Among x l → (every ok l ≡ true → Among x l → ok x ≡ true) → ok x ≡ true
+    go true p e (inl q) ih = ap ok q ∙ p
+    go true p e (inr k) ih = ih e k
+    go false p e d ih = absurd (false≢true e)
+
+pub among-every : (ok : ℕ → Bool) (l : List ℕ) → ((x : ℕ) → Among x l → ok x ≡ true) → every ok l ≡ true
+unfolding every
+among-every ok [] h = refl
+among-every ok (y ∷ l) h = rw (h y (here refl)) (among-every ok l (λ x m. h x (there m)))
+
+every-same : (ok may : ℕ → Bool) (l : List ℕ) → ((x : ℕ) → Among x l → ok x ≡ may x) → every ok l ≡ every may l
+unfolding every
+every-same ok may [] h = refl
+every-same ok may (y ∷ l) h = ap₂ _&&_ (h y (here refl)) (every-same ok may l (λ x m. h x (there m)))
+
+-- ---- the first of the least
+
+pub pickAll-first : (s : Binary → ℕ) (test : Binary → Bool) (R : Binary → Binary → Type 0) (l : List Binary) → Ordered R l
+    → (t : Binary) → pickAll s (λ t. gateBy (test t) t) l ≡ some t → (u : Binary) → List·Memᴰ u l → test u ≡ true → s u ≡ s t → (t ≡ u) ⊎ R t u
+unfolding pickAll pick Ordered
+pickAll-first s test R [] o t e u m p q = absurd (List·Memᴰ·not-nil m)
+pickAll-first s test R (x ∷ l) o t e u m p q =
+    go (test x) refl (pickAll s (λ t. gateBy (test t) t) l) refl e (List·Memᴰ·cases-cons m) (λ v r k j. pickAll-first s test R l (o .1) v r u k p j)
+  where
+    front : x ≡ t → (u ≡ x) ⊎ List·Memᴰ u l → (t ≡ u) ⊎ R t u
+    front r (inl k) = inl (sym r ∙ sym k)
+    front r (inr k) = inr (subst (λ v. R v u) r (o .0 u k))
+
+    by : (b : Bool) (v : Binary) → leb (s x) (s v) ≡ b → pickAll s (λ t. gateBy (test t) t) l ≡ some v → chosen b x v ≡ some t → (u ≡ x) ⊎ List·Memᴰ u l
+        → ((v : Binary) → pickAll s (λ t. gateBy (test t) t) l ≡ some v → List·Memᴰ u l → s u ≡ s v → (v ≡ u) ⊎ R v u) → (t ≡ u) ⊎ R t u
+    by true v c r e d ih = front (cc) d
+    by false v c r e (inl k) ih =
+        let i : v ≡ t = cc in
+        absurd (omega (arith, leb-false (s x) (s v) c, ap s i, ap s k))
+    by false v c r e (inr k) ih = ih t (r ∙ e) k q
+
+    go : (b : Bool) → test x ≡ b → (c : Option Binary) → pickAll s (λ t. gateBy (test t) t) l ≡ c → pick s (gateBy b x) c ≡ some t → (u ≡ x) ⊎ List·Memᴰ u l
+        → ((v : Binary) → pickAll s (λ t. gateBy (test t) t) l ≡ some v → List·Memᴰ u l → s u ≡ s v → (v ≡ u) ⊎ R v u) → (t ≡ u) ⊎ R t u
+    go true b none r e d ih = front (cc) d
+    go true b (some v) r e d ih = by (leb (s x) (s v)) v refl r e d ih
+    go false b c r e (inl k) ih = absurd (true≢false (sym p ∙ ap test k ∙ b))
+    go false b c r e (inr k) ih = ih t (r ∙ e) k q
+
+-- ---- the best tree
+
+-- all clusters of the tree are allowed
+abbrev pub Over : (ℕ → Bool) → Binary → Type 0
+Over ok t = (x : ℕ) → Among x (clustersIn t) → ok x ≡ true
+
+gated-over : (ok : ℕ → Bool) (t : Binary) → Over ok t → gated ok t ≡ some t
+unfolding gated
+gated-over ok t h = ap (λ b. gateBy b t) (among-every ok (clustersIn t) h)
+
+module _ (w : ℕ → ℕ) (ok : ℕ → Bool) (a : ℕ) where
+  pub best-over : (t : Binary) → best w ok a ≡ some t → Over ok t
+  best-over t e = every-among ok (clustersIn t) (best-listed w ok a t e .1)
+
+  -- "least score": no binary tree on a over allowed clusters scores less
+  pub best-least : (t : Binary) → best w ok a ≡ some t → (u : Binary) → TreeOn a u → Over ok u → scoreOf w t ≤ scoreOf w u
+  best-least t e u v h = pickAll-least (scoreOf w) (gated ok) (treesOn a) t (sym (best-choice w ok a) ∙ e) u (well-formed-listed v) u (gated-over ok u h)
+
+  -- "The first least-scoring tree is the answer"
+  pub best-first : (t : Binary) → best w ok a ≡ some t → (u : Binary) → TreeOn a u → Over ok u → scoreOf w u ≡ scoreOf w t → (t ≡ u) ⊎ Earlier t u
+  unfolding gated
+  best-first t e u v h q =
+      pickAll-first (scoreOf w) (λ x. every ok (clustersIn x)) Earlier (treesOn a) (treesOn-ordered a) t (sym (best-choice w ok a) ∙ e) u (well-formed-listed v)
+      (among-every ok (clustersIn u) h) q
+
+  -- there is none exactly where there is no tree over allowed clusters
+  pub best-missed : best w ok a ≡ none → (u : Binary) → TreeOn a u → Over ok u → ⊥
+  best-missed e u v h =
+      let n = pickAll-missed (scoreOf w) (gated ok) (treesOn a) (sym (best-choice w ok a) ∙ e) u (well-formed-listed v) in
+      let k = gated-over ok u h in
+      let z : _≡_ {A = ℕ} 0 1 = cc in omega arith
+
+  pub best-there : (u : Binary) → TreeOn a u → Over ok u → (t : Binary) × (best w ok a ≡ some t)
+  best-there u v h = go (best w ok a) refl
+    where
+      go : (o : Option Binary) → best w ok a ≡ o → (t : Binary) × (best w ok a ≡ some t)
+      go none e = absurd (best-missed e u v h)
+      go (some t) e = (t, e)
+
+  pub best-nowhere : ((u : Binary) → TreeOn a u → Over ok u → ⊥) → best w ok a ≡ none
+  best-nowhere f = go (best w ok a) refl
+    where
+      go : (o : Option Binary) → best w ok a ≡ o → o ≡ none
+      go none e = refl
+      go (some t) e = absurd (f t (best-on w ok a t e) (best-over t e))
+
+-- ---- more allowed clusters, other weights
+
+-- what is better or equal: a tree, with no greater score
+pub record Answered (w : ℕ → ℕ) (o : Option Binary) (m : ℕ) : Type 0 where
+  pub tree : Binary
+  pub found : o ≡ some tree
+  pub score : scoreOf w tree ≤ m
+
+-- more allowed clusters: an answer stays, and its score does not rise
+pub more-allowed : (w : ℕ → ℕ) (ok may : ℕ → Bool) → ((x : ℕ) → ok x ≡ true → may x ≡ true) → (a : ℕ) (t : Binary)
+    → best w ok a ≡ some t → Answered w (best w may a) (scoreOf w t)
+more-allowed w ok may h a t e =
+    let v = best-on w ok a t e in
+    let o : Over may t = λ x m. h x (best-over w ok a t e x m) in
+    let r = best-there w may a t v o in
+    record { tree = r .0; found = r .1; score = best-least w may a (r .0) (r .1) t v o }
+
+total-mono : (w v : ℕ → ℕ) → ((x : ℕ) → w x ≤ v x) → (l : List ℕ) → total (map w l) ≤ total (map v l)
+unfolding total
+total-mono w v h [] = omega arith
+total-mono w v h (x ∷ l) = omega (arith, h x, total-mono w v h l)
+
+score-mono : (w v : ℕ → ℕ) → ((x : ℕ) → w x ≤ v x) → (t : Binary) → scoreOf w t ≤ scoreOf v t
+unfolding scoreOf
+score-mono w v h t = total-mono w v h (clustersIn t)
+
+-- whether there is a tree does not depend on the weights
+pub weights-no-matter : (w v : ℕ → ℕ) (ok : ℕ → Bool) (a : ℕ) → best w ok a ≡ none → best v ok a ≡ none
+weights-no-matter w v ok a e = best-nowhere v ok a (λ u t h. best-missed w ok a e u t h)
+
+-- greater weights: the least score does not fall
+pub more-weight : (w v : ℕ → ℕ) → ((x : ℕ) → w x ≤ v x) → (ok : ℕ → Bool) (a : ℕ) (t u : Binary)
+    → best w ok a ≡ some t → best v ok a ≡ some u → scoreOf w t ≤ scoreOf v u
+more-weight w v h ok a t u e q =
+    let l = best-least w ok a t e u (best-on v ok a u q) (best-over v ok a u q) in
+    let m = score-mono w v h u in
+    omega arith
+
+-- only the clusters within a are asked for
+pub best-local : (w : ℕ → ℕ) (ok may : ℕ → Bool) (a : ℕ) → ((x : ℕ) → Within x a → ok x ≡ may x) → best w ok a ≡ best w may a
+unfolding gated
+best-local w ok may a h =
+    best-choice w ok a
+    ∙ pickAll-same (scoreOf w) (gated ok) (gated may) (treesOn a)
+    (λ t m. ap (λ b. gateBy b t) (every-same ok may (clustersIn t) (λ x k. h x (tree-inside (listed-well-formed t a m) x k .1))))
+    ∙ sym (best-choice w may a)
+
+-- and only their weights
+pub score-local : (w v : ℕ → ℕ) {a : ℕ} {t : Binary} → TreeOn a t → ((x : ℕ) → Within x a → w x ≡ v x) → scoreOf w t ≡ scoreOf v t
+unfolding scoreOf
+score-local w v {a} {t} o h = total-same w v (clustersIn t) (λ x m. h x (tree-inside o x m .1))
+
+pub weights-local : (w v : ℕ → ℕ) (ok : ℕ → Bool) (a : ℕ) → ((x : ℕ) → Within x a → w x ≡ v x) → best w ok a ≡ best v ok a
+weights-local w v ok a h =
+    best-choice w ok a
+    ∙ pickAll-scores (scoreOf w) (scoreOf v) (gated ok) (treesOn a)
+    (λ x m t e. let i = gated-same ok x t e .0 in score-local w v (subst (TreeOn a) i (listed-well-formed x a m)) h)
+    ∙ sym (best-choice v ok a)
+
+pub entry-local : (w v : ℕ → ℕ) (ok : ℕ → Bool) (a : ℕ) → ((x : ℕ) → Within x a → w x ≡ v x) → scoreEntry w (best w ok a) ≡ scoreEntry v (best v ok a)
+entry-local w v ok a h = go (best w ok a) refl ∙ ap (scoreEntry v) (weights-local w v ok a h)
+  where
+    go : (o : Option Binary) → best w ok a ≡ o → scoreEntry w o ≡ scoreEntry v o
+    go none e = refl
+    go (some t) e = score-local w v (best-on w ok a t e) h
+
+-- ---- source document 001, Lemma 2
+
+-- a tree on a over allowed clusters, with the own weight of a and the scores of two trees
+record Joined (w : ℕ → ℕ) (ok : ℕ → Bool) (a : ℕ) (t u : Binary) : Type 0 where
+  tree : Binary
+  on : TreeOn a tree
+  over : Over ok tree
+  score : scoreOf w tree ≡ w a + (scoreOf w t + scoreOf w u)
+
+module _ (w : ℕ → ℕ) (ok : ℕ → Bool) (a : ℕ) (allowed : ok a ≡ true) where
+  join-low : (l : ℕ) (t u : Binary) → LowPart a l → best w ok l ≡ some t → best w ok (a - l) ≡ some u → Joined w ok a t u
+  join-low l t u p q r =
+      let x = best-on w ok l t q in
+      let i = sym (tree-root x) in
+      record {
+        tree = fork a t u;
+        on = two (subst (LowPart a) i p) (subst (λ b. TreeOn b t) i x) (subst (λ b. TreeOn (a - b) u) i (best-on w ok (a - l) u r));
+        over = λ y m. go y (among-fork {t = t} {u = u} m);
+        score = score-fork w a t u;
+      }
+    where
+      go : (y : ℕ) → InFork a t u y → ok y ≡ true
+      go y (at-root i) = ap ok i ∙ allowed
+      go y (in-low k) = best-over w ok l t q y k
+      go y (in-other k) = best-over w ok (a - l) u r y k
+
+  -- of a part and the rest, one is low
+  join-parts : (b : ℕ) (t u : Binary) → 1 ≤ b → b < a → a < 2 ^ 32 → Within b a → best w ok b ≡ some t → best w ok (a - b) ≡ some u → Joined w ok a t u
+  join-parts b t u species less below v q r = go (has-dec b (lowest a))
+    where
+      back : a - (a - b) ≡ b
+      back = omega arith
+
+      go : Dec (Has b (lowest a)) → Joined w ok a t u
+      go (yes h) = join-low b t u (record { inside = v; holds = h; less = less }) q r
+      go (no f) =
+          let low : LowPart a (a - b) = record {
+            inside = minus-within a b v;
+            holds = minus-has a b (lowest a) v (lowest-has (omega arith) below) f;
+            less = omega arith;
+          } in
+          let j = join-low (a - b) u t low r (ap (best w ok) back ∙ q) in
+          record { tree = j .tree; on = j .on; over = j .over; score = j .score ∙ ap (λ n. w a + n) (add-comm (scoreOf w u) (scoreOf w t)) }
+
+-- a part of a that is neither empty nor all of it, with a best tree on it and one on the rest
+pub record Splits (w : ℕ → ℕ) (ok : ℕ → Bool) (a b : ℕ) (t u : Binary) : Type 0 where
+  pub some-species : 1 ≤ b
+  pub not-all : b < a
+  pub inside : Within b a
+  pub part-best : best w ok b ≡ some t
+  pub rest-best : best w ok (a - b) ≡ some u
+
+-- "l*(A) = min over A1 in A of l*(A1) + l*(A - A1) + the weight of A": some split reaches it, and none is below
+pub record LeastSplit (w : ℕ → ℕ) (ok : ℕ → Bool) (a : ℕ) (v : Binary) : Type 0 where
+  pub part : ℕ
+  pub part-tree : Binary
+  pub rest-tree : Binary
+  pub splits : Splits w ok a part part-tree rest-tree
+  pub reached : scoreOf w v ≡ w a + (scoreOf w part-tree + scoreOf w rest-tree)
+  pub least : (b : ℕ) (t u : Binary) → Splits w ok a b t u → scoreOf w v ≤ w a + (scoreOf w t + scoreOf w u)
+
+module _ (w : ℕ → ℕ) (ok : ℕ → Bool) (a : ℕ) (below : a < 2 ^ 32) where
+  pub lemma-two : (v : Binary) → 2 ≤ size a → best w ok a ≡ some v → LeastSplit w ok a v
+  lemma-two v h e =
+      let f = best-fork w ok a v h e in
+      let p = f .part in
+      record {
+        part = splitEntry (best w ok a);
+        part-tree = f .low-tree;
+        rest-tree = f .other-tree;
+        splits = record { some-species = low-some p; not-all = p .less; inside = p .inside; part-best = f .low-best; rest-best = f .other-best };
+        reached = ap (scoreOf w) (unique (f .whole-best)) ∙ score-fork w a (f .low-tree) (f .other-tree);
+        least = λ b t u s. no-less b t u s;
+      }
+    where
+      unique : {u : Binary} → best w ok a ≡ some u → v ≡ u
+      unique p = cc
+
+      no-less : (b : ℕ) (t u : Binary) → Splits w ok a b t u → scoreOf w v ≤ w a + (scoreOf w t + scoreOf w u)
+      no-less b t u s =
+          let j = join-parts w ok a (allowed-of-best w ok a v e) b t u (s .some-species) (s .not-all) below (s .inside) (s .part-best) (s .rest-best) in
+          subst (λ n. scoreOf w v ≤ n) (j .score) (best-least w ok a v e (j .tree) (j .on) (j .over))
+
+  -- there is a tree on a where it is allowed and some split has trees on both sides
+  pub split-gives-tree : ok a ≡ true → (b : ℕ) (t u : Binary) → Splits w ok a b t u → (v : Binary) × (best w ok a ≡ some v)
+  split-gives-tree allowed b t u s =
+      let j = join-parts w ok a allowed b t u (s .some-species) (s .not-all) below (s .inside) (s .part-best) (s .rest-best) in
+      best-there w ok a (j .tree) (j .on) (j .over)

@@ -1,0 +1,156 @@
+-- The promise of the search, one law for each way through its checks.
+use Prim.Native.Nat.{ℕ, zero, suc, _*_, _^_, _≤_, _<_}
+use mathlib.Core.Path.{_≡_, refl, sym, ap, _∙_}
+use mathlib.Core.Bool.{Bool, true, false, not}
+use mathlib.Core.List.{List, [], _∷_, _++_}
+use native.Mathlib.Decide.{decLe}
+use native.Mathlib.Omega.{arith}
+use lib.ListN.{length, getD}
+use lib.Dec.{leb, ltb}
+use borrow.Author.Tests.{lt-ltb, le-ltb}
+use Rattle.clusters.specs.Sets.{whole}
+use Rattle.roster.specs.Roster.{least}
+use Rattle.roster.specs.Verdict.{Test, verdict, lengthTest}
+use Rattle.lineages.specs.Count.{weight, recordsIn}
+use Rattle.lineages.specs.Checks.{firstBad, recordsTest}
+use Rattle.lineages.specs.Work.{shapeTests, said}
+use Rattle.lineages.proofs.Lent.{length-recordsIn}
+use Rattle.lineages.proofs.Verdicts.{verdict-first, Shaped, shape-passed}
+use Rattle.lineages.proofs.FirstBad.{checked-countable}
+use Rattle.search.specs.Least.{scoreEntry, splitEntry}
+use Rattle.search.specs.Promise.{allowedIn, firstStrange, allowedTest, searchTests, bestFor, foundBy, foundOr, filledBy, Finds}
+use Rattle.search.specs.Work.{without, LongEnough, Checked, Solves}
+use Rattle.search.specs.declared.Found.{Found}
+
+-- what is judged after the shape
+searchRest : ℕ → List ℕ → ℕ → List ℕ → List ℕ → List ℕ → List Test
+searchRest n genes count allowed scores splits =
+    lengthTest (length allowed) (2 ^ n) ∷ lengthTest (length scores) (2 ^ n) ∷ lengthTest (length splits) (2 ^ n)
+    ∷ recordsTest n (recordsIn count genes)
+    ∷ allowedTest n allowed
+    ∷ []
+
+-- ---- 12
+
+module _ (n : ℕ) (genes : List ℕ) (count : ℕ) (allowed scores splits : List ℕ) where
+  long-passed : LongEnough (2 ^ n) allowed scores splits → verdict (searchRest n genes count allowed scores splits) ≡ verdict (recordsTest n (recordsIn count genes) ∷ allowedTest n allowed ∷ [])
+  unfolding searchRest verdict lengthTest
+  long-passed l =
+      rw (
+        le-ltb (length allowed) (2 ^ n) (l .allowed-long),
+        le-ltb (length scores) (2 ^ n) (l .scores-long),
+        le-ltb (length splits) (2 ^ n) (l .splits-long),
+      )
+
+  short-refused : (LongEnough (2 ^ n) allowed scores splits → ⊥) → verdict (searchRest n genes count allowed scores splits) ≡ said 12 0
+  unfolding searchRest verdict lengthTest
+  short-refused f = go (decLe (2 ^ n) (length allowed)) (decLe (2 ^ n) (length scores)) (decLe (2 ^ n) (length splits))
+    where
+      go : Dec (2 ^ n ≤ length allowed) → Dec (2 ^ n ≤ length scores) → Dec (2 ^ n ≤ length splits) → verdict (searchRest n genes count allowed scores splits) ≡ said 12 0
+      go (no a) b c = rw (lt-ltb (length allowed) (2 ^ n) (omega arith))
+      go (yes a) (no b) c = rw (le-ltb (length allowed) (2 ^ n) a, lt-ltb (length scores) (2 ^ n) (omega arith))
+      go (yes a) (yes b) (no c) = rw (le-ltb (length allowed) (2 ^ n) a, le-ltb (length scores) (2 ^ n) b, lt-ltb (length splits) (2 ^ n) (omega arith))
+      go (yes a) (yes b) (yes c) = absurd (f (record { allowed-long = a; scores-long = b; splits-long = c }))
+
+-- ---- 15 and 13
+
+module _ (n : ℕ) (genes : List ℕ) (count : ℕ) (rest : List Test) {bad : ℕ} (found : bad ≡ firstBad n (recordsIn count genes)) where
+  record-refused : bad < count → verdict (recordsTest n (recordsIn count genes) ∷ rest) ≡ said 15 bad
+  unfolding verdict recordsTest
+  record-refused l =
+      rw (lt-ltb (firstBad n (recordsIn count genes)) (length (recordsIn count genes)) (omega (arith, length-recordsIn count genes)), found)
+
+  records-passed : count ≤ bad → verdict (recordsTest n (recordsIn count genes) ∷ rest) ≡ verdict rest
+  unfolding verdict recordsTest
+  records-passed l =
+      rw (le-ltb (firstBad n (recordsIn count genes)) (length (recordsIn count genes)) (omega (arith, length-recordsIn count genes)))
+
+module _ (n : ℕ) (allowed : List ℕ) {strange : ℕ} (found : strange ≡ firstStrange n allowed) where
+  byte-refused : strange < 2 ^ n → verdict (allowedTest n allowed ∷ []) ≡ said 13 strange
+  unfolding verdict allowedTest
+  byte-refused l = rw (lt-ltb (firstStrange n allowed) (2 ^ n) (omega arith), found)
+
+  bytes-passed : 2 ^ n ≤ strange → verdict (allowedTest n allowed ∷ []) ≡ said 0 0
+  unfolding verdict allowedTest
+  bytes-passed l = rw (le-ltb (firstStrange n allowed) (2 ^ n) (omega arith))
+
+-- what the code looks for is the definition's first strange byte
+pub strange-is : (n : ℕ) (allowed : List ℕ) {entries strange : ℕ} → entries ≡ 2 ^ n → strange ≡ least (λ a. not (leb (getD allowed a 0) 1)) 0 entries → strange ≡ firstStrange n allowed
+unfolding firstStrange
+strange-is n allowed p e = e ∙ ap (least (λ a. not (leb (getD allowed a 0) 1)) 0) p
+
+-- ---- the checks that were passed
+
+module _ (n : ℕ) (genes : List ℕ) (count : ℕ) (allowed scores splits : List ℕ) (shaped : Shaped n genes count) where
+  -- behind the shape the rest decides
+  shape-told : verdict (searchTests n genes count allowed scores splits) ≡ verdict (searchRest n genes count allowed scores splits)
+  unfolding searchTests shapeTests searchRest
+  shape-told = shape-passed n genes count (searchRest n genes count allowed scores splits) shaped
+
+  module _ (long : LongEnough (2 ^ n) allowed scores splits) where
+    -- behind the lengths the records and the allowed bytes do
+    long-told : verdict (searchTests n genes count allowed scores splits) ≡ verdict (recordsTest n (recordsIn count genes) ∷ allowedTest n allowed ∷ [])
+    long-told = shape-told ∙ long-passed n genes count allowed scores splits long
+
+    pub checked : {bad : ℕ} → bad ≡ firstBad n (recordsIn count genes) → count ≤ bad → Checked n genes count allowed scores splits
+    checked found l = record {
+      some-species = shaped .some-species;
+      few-species = shaped .few-species;
+      few-genes = shaped .few-genes;
+      genes-long = shaped .fits;
+      countable = checked-countable n genes count (shaped .few-species) found l;
+      long = long;
+    }
+
+-- ---- the ways
+
+module _ (n : ℕ) (genes : List ℕ) (count : ℕ) (allowed scores splits : List ℕ) {r : Found} {scoresAfter splitsAfter : List ℕ} where
+  -- a refusal: no tree, and both tables as they were lent
+  finds-refused : {number place : ℕ} → verdict (searchTests n genes count allowed scores splits) ≡ said number place → (number ≡ 0 → ⊥)
+      → r ≡ without number place → scoresAfter ≡ scores → splitsAfter ≡ splits
+      → Finds n genes count allowed scores splits r scoresAfter splitsAfter
+  finds-refused {number} {place} e f p q s =
+      record {
+        reply = p ∙ rw e (told number f (foundBy (bestFor n (recordsIn count genes) allowed (whole n)) (recordsIn count genes)));
+        scoreTable = q ∙ rw e (kept number f (λ a. scoreEntry (weight (recordsIn count genes)) (bestFor n (recordsIn count genes) allowed a)) scores);
+        splitTable = s ∙ rw e (kept number f (λ a. splitEntry (bestFor n (recordsIn count genes) allowed a)) splits);
+      }
+    where
+      told : (k : ℕ) → (k ≡ 0 → ⊥) → (found : Found) → without k place ≡ foundOr k place found
+      told zero f found = absurd (f refl)
+      told (suc k) f found = refl
+
+      kept : (k : ℕ) → (k ≡ 0 → ⊥) → (entry : ℕ → ℕ) (lent : List ℕ) → lent ≡ filledBy k n entry lent
+      kept zero f entry lent = absurd (f refl)
+      kept (suc k) f entry lent = refl
+
+  pub finds-shape : {number : ℕ} → verdict (shapeTests n genes count) ≡ said number 0 → (number ≡ 0 → ⊥) → r ≡ without number 0 → scoresAfter ≡ scores → splitsAfter ≡ splits
+      → Finds n genes count allowed scores splits r scoresAfter splitsAfter
+  unfolding searchTests shapeTests searchRest
+  finds-shape e f p q s = finds-refused (verdict-first (shapeTests n genes count) (searchRest n genes count allowed scores splits) e f) f p q s
+
+  module _ (shaped : Shaped n genes count) where
+    pub finds-short : (LongEnough (2 ^ n) allowed scores splits → ⊥) → r ≡ without 12 0 → scoresAfter ≡ scores → splitsAfter ≡ splits
+        → Finds n genes count allowed scores splits r scoresAfter splitsAfter
+    finds-short f p q s =
+        finds-refused (shape-told n genes count allowed scores splits shaped ∙ short-refused n genes count allowed scores splits f) (λ z. omega arith) p q s
+
+    module _ (long : LongEnough (2 ^ n) allowed scores splits) {bad : ℕ} (found : bad ≡ firstBad n (recordsIn count genes)) where
+      pub finds-bad : bad < count → r ≡ without 15 bad → scoresAfter ≡ scores → splitsAfter ≡ splits
+          → Finds n genes count allowed scores splits r scoresAfter splitsAfter
+      finds-bad l p q s =
+          finds-refused (long-told n genes count allowed scores splits shaped long ∙ record-refused n genes count (allowedTest n allowed ∷ []) found l) (λ z. omega arith) p q s
+
+      pub finds-strange : {strange : ℕ} → count ≤ bad → strange ≡ firstStrange n allowed → strange < 2 ^ n → r ≡ without 13 strange → scoresAfter ≡ scores → splitsAfter ≡ splits
+          → Finds n genes count allowed scores splits r scoresAfter splitsAfter
+      finds-strange l e m p q s =
+          finds-refused
+          (long-told n genes count allowed scores splits shaped long ∙ records-passed n genes count (allowedTest n allowed ∷ []) found l ∙ byte-refused n allowed e m)
+          (λ z. omega arith) p q s
+
+      pub finds-solved : {strange : ℕ} → count ≤ bad → strange ≡ firstStrange n allowed → 2 ^ n ≤ strange
+          → Solves n (recordsIn count genes) allowed scores splits r scoresAfter splitsAfter
+          → Finds n genes count allowed scores splits r scoresAfter splitsAfter
+      finds-solved l e m s =
+          let told = long-told n genes count allowed scores splits shaped long ∙ records-passed n genes count (allowedTest n allowed ∷ []) found l ∙ bytes-passed n allowed e m in
+          record { reply = s .reply ∙ rw told; scoreTable = s .scoreTable ∙ rw told; splitTable = s .splitTable ∙ rw told }

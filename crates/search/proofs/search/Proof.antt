@@ -1,0 +1,91 @@
+-- `search::search` meets its contract: one law for each way through its checks.
+use Prim.Native.Nat.{_^_}
+use mathlib.Core.Path.{_≡_, refl}
+use borrow.Author.Needs.{needs}
+use borrow.Author.Tests.{not-true, not-false}
+use native.Mathlib.Omega.{arith}
+use Rattle.clusters.specs.Sets.{single}
+use Rattle.lineages.proofs.Verdicts.{Shaped, shaped-at}
+use Rattle.search.specs.Work.{LongEnough}
+use Rattle.search.proofs.Finding.{strange-is, checked, finds-shape, finds-short, finds-bad, finds-strange, finds-solved}
+use Rattle.search.proofs.search.Statement.{statement}
+use Rattle.search.proofs.search.Tie as tie
+
+-- behind the first check
+passed : (c : tie.Else1) → Shaped (c .before .before .before .before .before .before .args .n) (c .before .before .before .before .before .before .args .genes .now) (c .before .before .before .before .before .before .args .count)
+passed c = shaped-at _ _ _ (c .before .shape .ensures) (omega arith)
+
+-- so many entries are needed
+power : (c : tie.After-single) → c .single .result ≡ 2 ^ c .before .before .before .before .before .before .before .args .n
+unfolding single
+power c = c .single .ensures
+
+-- behind the second check
+long : (c : tie.Else2) → LongEnough (2 ^ c .before .before .before .before .before .before .before .before .before .before .before .args .n) (c .before .before .before .before .before .before .before .before .before .before .before .args .allowed .now) (c .before .before .before .before .before .before .before .before .before .before .before .args .scores .now) (c .before .before .before .before .before .before .before .before .before .before .before .args .splits .now)
+long c = rw (power (c .before .before .before .before)) at (rw (not-false (c .before .long-enough .result) (c .if2 .left)) at (c .before .long-enough .ensures))
+
+returns : tie.Need-returns
+returns c =
+    finds-shape _ _ _ _ _ _ (c .before .before .shape .ensures) (λ z. omega arith) (c .refused .ensures) refl refl
+
+single-requires : tie.Need-single-requires
+single-requires c κs = let few = passed c .few-species in omega arith
+
+returns-2 : tie.Need-returns-2
+returns-2 c =
+    finds-short _ _ _ _ _ _ (passed (c .before .before .before .before .before .before)) (rw (power (c .before .before .before .before .before)) at (rw (not-true (c .before .before .long-enough .result) (c .before .if2 .taken)) at (c .before .before .long-enough .ensures))) (c .refused2 .ensures) refl refl
+
+first-bad-requires : tie.Need-first-bad-requires
+first-bad-requires c κs = let s = passed (c .before .before .before .before .before) in (s .few-species, s .fits)
+
+returns-3 : tie.Need-returns-3
+returns-3 c =
+    finds-bad _ _ _ _ _ _ (passed (c .before .before .before .before .before .before .before .before)) (long (c .before .before .before)) (c .before .before .first-bad .ensures) (search needs) (c .refused3 .ensures) refl refl
+
+first-strange-requires : tie.Need-first-strange-requires
+first-strange-requires c κs = let enough = long (c .before .before) .allowed-long in omega (arith, power (c .before .before .before .before .before .before))
+
+returns-4 : tie.Need-returns-4
+returns-4 c =
+    let entries = power (c .before .before .before .before .before .before .before .before .before) in
+    finds-strange _ _ _ _ _ _ (passed (c .before .before .before .before .before .before .before .before .before .before)) (long (c .before .before .before .before .before)) (c .before .before .before .before .first-bad .ensures) (search needs) (strange-is _ _ entries (c .before .before .first-strange .ensures)) (omega arith)
+    (c .refused4 .ensures) refl refl
+
+solve-requires : tie.Need-solve-requires
+solve-requires c κs =
+    checked _ _ _ _ _ _ (passed (c .before .before .before .before .before .before .before .before .before .before .before)) (long (c .before .before .before .before .before .before)) (c .before .before .before .before .before .first-bad .ensures) (search needs)
+
+returns-5 : tie.Need-returns-5
+returns-5 c =
+    let entries = power (c .before .before .before .before .before .before .before .before .before .before .before .before .before .before .before) in
+    finds-solved _ _ _ _ _ _ (passed (c .before .before .before .before .before .before .before .before .before .before .before .before .before .before .before .before)) (long (c .before .before .before .before .before .before .before .before .before .before .before)) (c .before .before .before .before .before .before .before .before .before .before .first-bad .ensures) (search needs) (strange-is _ _ entries (c .before .before .before .before .before .before .before .before .first-strange .ensures)) (omega arith)
+    (c .before .before .before .before .solve .ensures)
+
+pub search-spec : {M : Type 1} → statement M
+search-spec =
+    tie.close
+    (tie.spec
+    (λ c κs. search needs)
+    (λ c κs. search needs)
+    returns
+    single-requires
+    (λ c. search needs)
+    (λ c κs. search needs)
+    (λ c κs. search needs)
+    (λ c. search needs)
+    (λ c. search needs)
+    returns-2
+    first-bad-requires
+    (λ c κs. search needs)
+    (λ c. search needs)
+    (λ c. search needs)
+    returns-3
+    first-strange-requires
+    (λ c κs. search needs)
+    (λ c. search needs)
+    (λ c. search needs)
+    returns-4
+    solve-requires
+    (λ c. search needs)
+    (λ c. search needs)
+    returns-5)

@@ -1,0 +1,72 @@
+-- What `search` promises (01, "The count" and "Numbers returned").
+use Prim.Native.Nat.{ℕ, zero, suc, _+_, _*_, _^_}
+use mathlib.Core.Path.{_≡_}
+use mathlib.Core.Bool.{Bool, true, false, not, _||_}
+use mathlib.Core.Option.{Option, some, none}
+use mathlib.Core.List.{List, [], _∷_, _++_, map}
+use lib.ListN.{length, getD, take, drop, replicate}
+use lib.Dec.{eqb, leb, ltb}
+use Rattle.clusters.specs.Sets.{whole, size}
+use Rattle.trees.specs.Records.{recordOf}
+use Rattle.roster.specs.Roster.{upTo, least}
+use Rattle.lineages.specs.Count.{weight, recordsIn}
+use Rattle.roster.specs.Verdict.{Test, verdict, lengthTest}
+use Rattle.lineages.specs.Checks.{speciesTest, countTest, recordsTest}
+use Rattle.search.specs.BinaryTrees.{Binary, clustersIn}
+use Rattle.search.specs.Least.{best, scoreOf, scoreEntry, splitEntry}
+use Rattle.search.specs.declared.Found.{Found}
+
+-- "Single species and the whole are allowed whether marked or not"
+unfoldable pub allowedIn : ℕ → List ℕ → ℕ → Bool
+allowedIn n bytes a = eqb (size a) 1 || eqb a (whole n) || eqb (getD bytes a 0) 1
+
+-- the first of the 2^n bytes that is not 0 or 1; 2^n where there is none
+unfoldable pub firstStrange : ℕ → List ℕ → ℕ
+firstStrange n bytes = least (λ a. not (leb (getD bytes a 0) 1)) 0 (2 ^ n)
+
+-- "13 | .. allowed byte not 0 or 1 | .. first such index"
+unfoldable pub allowedTest : ℕ → List ℕ → Test
+allowedTest n bytes = record { fault = ltb (firstStrange n bytes) (2 ^ n); number = 13; place = firstStrange n bytes }
+
+-- the tests before the search itself: "1, 11, 12, 16, 15, 13, 14, each where it applies"
+unfoldable pub searchTests : ℕ → List ℕ → ℕ → List ℕ → List ℕ → List ℕ → List Test
+searchTests n genes count allowed scores splits =
+    speciesTest n ∷ countTest count ∷ lengthTest (length genes) (32 * count) ∷ lengthTest (length allowed) (2 ^ n)
+    ∷ lengthTest (length scores) (2 ^ n)
+    ∷ lengthTest (length splits) (2 ^ n)
+    ∷ recordsTest n (recordsIn count genes)
+    ∷ allowedTest n allowed
+    ∷ []
+
+-- the best tree on a for these gene trees and this allowed set
+unfoldable pub bestFor : ℕ → List (List ℕ) → List ℕ → ℕ → Option Binary
+bestFor n genes allowed a = best (weight genes) (allowedIn n allowed) a
+
+-- "The search returns the score and the record of its tree"; "14 | no binary tree over the allowed clusters | 0"
+abbrev pub foundBy : Option Binary → List (List ℕ) → Found
+foundBy (some t) genes = record { number = 0; place = 0; score = scoreOf (weight genes) t; numbers = recordOf (clustersIn t) }
+foundBy none genes = record { number = 14; place = 0; score = 0; numbers = replicate 32 0 }
+
+-- a refusal before the search: "A refused call returns score 0, .. an all-zero record"
+abbrev pub foundOr : ℕ → ℕ → Found → Found
+foundOr zero place found = found
+foundOr (suc number) place found = record { number = suc number; place = place; score = 0; numbers = replicate 32 0 }
+
+-- "Lent slices keep every byte, with one exception: on 14 both tables are filled"; "Entries from 2^n on stay"
+abbrev pub filledBy : ℕ → ℕ → (ℕ → ℕ) → List ℕ → List ℕ
+filledBy zero n entry lent = map entry (upTo (2 ^ n)) ++ drop (2 ^ n) lent
+filledBy (suc number) n entry lent = lent
+
+-- the promise of `search`: its reply, and what stands in both tables then
+pub record Finds (n : ℕ) (genes : List ℕ) (count : ℕ) (allowed scores splits : List ℕ) (r : Found) (scoresAfter splitsAfter : List ℕ) : Type 0 where
+  pub reply :
+      r ≡ foundOr (verdict (searchTests n genes count allowed scores splits) .number) (verdict (searchTests n genes count allowed scores splits) .place)
+      (foundBy (bestFor n (recordsIn count genes) allowed (whole n)) (recordsIn count genes))
+  pub scoreTable :
+      scoresAfter ≡ filledBy (verdict (searchTests n genes count allowed scores splits) .number) n
+      (λ a. scoreEntry (weight (recordsIn count genes)) (bestFor n (recordsIn count genes) allowed a))
+      scores
+  pub splitTable :
+      splitsAfter ≡ filledBy (verdict (searchTests n genes count allowed scores splits) .number) n
+      (λ a. splitEntry (bestFor n (recordsIn count genes) allowed a))
+      splits
