@@ -1,0 +1,73 @@
+// The library for C and Rust: each name has the promise of the call that it wraps. include/speciestree.h declares the same.
+use reader::Reading;
+use roster::Reply;
+use search::Found;
+use trees::Record;
+ghost use Rattle.roster.specs.Judged.{Judged};
+ghost use Rattle.reader.specs.Promise.{Reads};
+ghost use Rattle.writer.specs.Promise.{Writes};
+ghost use Rattle.lineages.specs.Promise.{Weighs, Scores, Marks};
+ghost use Rattle.search.specs.Promise.{Finds};
+
+// Judges a roster line; the value is how many species it has.
+#[no_mangle]
+pub extern "C" fn st_roster(line: &[u8]) -> Reply
+    ensures { λ r. ⌜ Judged (now (line .entry)) r ⌝ }
+{
+    roster::judge(line)
+}
+
+// Reads the tree that begins at `start`.
+#[no_mangle]
+pub extern "C" fn st_read(line: &[u8], text: &[u8], start: usize) -> Reading
+    ensures { λ r. ⌜ Reads (now (line .entry)) (now (text .entry)) start r ⌝ }
+{
+    reader::read(line, text, start)
+}
+
+// Writes a tree's text into `out`; the value is its length.
+#[no_mangle]
+pub extern "C" fn st_write(line: &[u8], tree: Record, out: &mut [u8]) -> Reply
+    ensures { λ r. ⌜ Writes (now (line .entry)) (tree .numbers) (now (out .entry)) r (now (out .exit)) ⌝ }
+{
+    writer::write(line, tree, out)
+}
+
+// The weight of a cluster.
+#[no_mangle]
+pub extern "C" fn st_weight(n: usize, genes: &[u16], count: usize, cluster: usize) -> Reply
+    ensures { λ r. ⌜ Weighs n (now (genes .entry)) count cluster r ⌝ }
+{
+    lineages::weight(n, genes, count, cluster)
+}
+
+// The score of a species tree.
+#[no_mangle]
+pub extern "C" fn st_score(n: usize, genes: &[u16], count: usize, species: Record) -> Reply
+    ensures { λ r. ⌜ Scores n (now (genes .entry)) count (species .numbers) r ⌝ }
+{
+    lineages::score(n, genes, count, species)
+}
+
+// Marks the clusters that the gene trees show.
+#[no_mangle]
+pub extern "C" fn st_mark(n: usize, genes: &[u16], count: usize, out: &mut [u8]) -> Reply
+    ensures { λ r. ⌜ Marks n (now (genes .entry)) count (now (out .entry)) r (now (out .exit)) ⌝ }
+{
+    lineages::mark(n, genes, count, out)
+}
+
+// The first least-scoring species tree over the allowed clusters; fills both tables.
+#[no_mangle]
+pub extern "C" fn st_search(
+    n: usize,
+    genes: &[u16],
+    count: usize,
+    allowed: &[u8],
+    scores: &mut [u32],
+    splits: &mut [u16],
+) -> Found
+    ensures { λ r. ⌜ Finds n (now (genes .entry)) count (now (allowed .entry)) (now (scores .entry)) (now (splits .entry)) r (now (scores .exit)) (now (splits .exit)) ⌝ }
+{
+    search::search(n, genes, count, allowed, scores, splits)
+}

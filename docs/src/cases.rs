@@ -1,0 +1,156 @@
+//! The case file: one call a line, and the answer that is printed for it. README.md beside this file says how a line is written.
+use crate::trees::Record;
+use crate::{lineages, reader, report, roster, search, writer, Refusal};
+use std::fmt::Write;
+
+/// What lent buffers hold before a call.
+const BYTE: u8 = 238;
+const SCORE: u32 = 7;
+const SPLIT: u16 = 9;
+
+fn decimal(s: &[u8], at: &mut usize) -> usize {
+    let mut value = 0;
+    while *at < s.len() && s[*at].is_ascii_digit() {
+        value = value * 10 + (s[*at] - b'0') as usize;
+        *at += 1;
+    }
+    value
+}
+
+fn hex(b: u8) -> u8 {
+    if b.is_ascii_digit() {
+        b - b'0'
+    } else {
+        b - b'a' + 10
+    }
+}
+
+/// Bytes stand for themselves; `\hh` is a byte in hexadecimal, `\*N.` the byte before N times more.
+fn bytes(field: &[u8]) -> Vec<u8> {
+    let mut out = Vec::new();
+    let mut at = 0;
+    while at < field.len() {
+        if field[at] != b'\\' {
+            out.push(field[at]);
+            at += 1;
+        } else if field[at + 1] == b'*' {
+            at += 2;
+            let times = decimal(field, &mut at);
+            let last = *out.last().unwrap();
+            out.extend(std::iter::repeat(last).take(times));
+            at += 1;
+        } else {
+            out.push(hex(field[at + 1]) * 16 + hex(field[at + 2]));
+            at += 3;
+        }
+    }
+    out
+}
+
+/// Numbers with a space before each but the first; `*N` is the number before N times more, `#N` the 32 before N times more.
+fn numbers(field: &[u8]) -> Vec<u16> {
+    let mut out: Vec<u16> = Vec::new();
+    let mut at = 0;
+    while at < field.len() {
+        match field[at] {
+            b'*' => {
+                at += 1;
+                let times = decimal(field, &mut at);
+                let last = *out.last().unwrap();
+                out.extend(std::iter::repeat(last).take(times));
+            }
+            b'#' => {
+                at += 1;
+                let times = decimal(field, &mut at);
+                let last = out[out.len() - 32..].to_vec();
+                for _ in 0..times {
+                    out.extend_from_slice(&last);
+                }
+            }
+            b' ' => at += 1,
+            _ => out.push(decimal(field, &mut at) as u16),
+        }
+    }
+    out
+}
+
+fn number(field: &[u8]) -> usize {
+    decimal(field, &mut 0)
+}
+
+fn record(field: &[u8]) -> Record {
+    numbers(field).try_into().unwrap()
+}
+
+/// A buffer's fingerprint.
+fn mixed(values: impl Iterator<Item = usize>) -> usize {
+    values.fold(7, |h, x| (h * 31 + x + 1) % 1_000_003)
+}
+
+fn reply(line: &mut String, answer: &Result<usize, Refusal>) {
+    match answer {
+        Ok(value) => write!(line, "0 0 {value}").unwrap(),
+        Err((number, place)) => write!(line, "{number} {place} 0").unwrap(),
+    }
+}
+
+/// A record's numbers up to its last that is not 0.
+fn listed(line: &mut String, r: &Record) {
+    let upto = r.iter().rposition(|&x| x != 0).map_or(0, |i| i + 1);
+    for x in &r[..upto] {
+        write!(line, " {x}").unwrap();
+    }
+}
+
+/// The answer to a case, with its line feed.
+pub fn answer(case: &[u8]) -> Vec<u8> {
+    let field: Vec<&[u8]> = case[1..].split(|&b| b == b'|').collect();
+    let mut line = String::new();
+    match case[0] {
+        b'J' => reply(&mut line, &roster::names(&bytes(field[0])).map(|names| names.len())),
+        b'R' => {
+            let start = number(field[2]);
+            match reader::read(&bytes(field[0]), &bytes(field[1]), start) {
+                Ok((record, next)) => {
+                    write!(line, "0 0 {next}").unwrap();
+                    listed(&mut line, &record);
+                }
+                Err((number, place)) => write!(line, "{number} {place} {start}").unwrap(),
+            }
+        }
+        b'W' => {
+            let mut out = vec![BYTE; number(field[2])];
+            let answer = writer::write(&bytes(field[0]), &record(field[1]), &mut out);
+            reply(&mut line, &answer);
+            write!(line, " {} ", mixed(out.iter().map(|&b| b as usize))).unwrap();
+            line.push_str(std::str::from_utf8(&out[..answer.unwrap_or(0)]).unwrap());
+        }
+        b'K' => reply(&mut line, &lineages::weight(number(field[0]), &numbers(field[1]), number(field[2]), number(field[3]))),
+        b'S' => reply(&mut line, &lineages::score(number(field[0]), &numbers(field[1]), number(field[2]), &record(field[3]))),
+        b'M' => {
+            let mut out = vec![BYTE; number(field[3])];
+            let answer = lineages::mark(number(field[0]), &numbers(field[1]), number(field[2]), &mut out);
+            reply(&mut line, &answer.map(|()| 0));
+            write!(line, " {}", mixed(out.iter().map(|&b| b as usize))).unwrap();
+        }
+        b'F' => {
+            let allowed: Vec<u8> = numbers(field[3]).into_iter().map(|x| x as u8).collect();
+            let mut scores = vec![SCORE; number(field[4])];
+            let mut splits = vec![SPLIT; number(field[5])];
+            match search::search(number(field[0]), &numbers(field[1]), number(field[2]), &allowed, &mut scores, &mut splits) {
+                Ok((score, record)) => {
+                    write!(line, "0 0 {score}").unwrap();
+                    listed(&mut line, &record);
+                }
+                Err((number, place)) => write!(line, "{number} {place} 0").unwrap(),
+            }
+            let score_mix = mixed(scores.iter().map(|&x| x as usize));
+            let split_mix = mixed(splits.iter().map(|&x| x as usize));
+            write!(line, " : {score_mix} {split_mix}").unwrap();
+        }
+        b'P' => return report::report(&bytes(field[0])),
+        other => panic!("no call is named {}", other as char),
+    }
+    line.push('\n');
+    line.into_bytes()
+}

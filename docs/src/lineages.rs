@@ -1,0 +1,75 @@
+//! Extra lineages: the weight of a cluster, the score of a species tree, the clusters that gene trees show.
+use crate::trees::{binary, clusters, valid, Record};
+use crate::{Refusal, GENES, SPECIES};
+
+/// How many clusters of the gene tree are maximal within a.
+pub fn k(gene: &Record, a: u16) -> usize {
+    let inside: Vec<u16> = clusters(gene).iter().copied().filter(|&x| x & a == x).collect();
+    inside.iter().filter(|&&x| !inside.iter().any(|&y| y != x && x & y == x)).count()
+}
+
+/// The same by one pass from the largest cluster down: one within a is maximal when nothing that was counted before holds it.
+pub fn k_by_pass(gene: &Record, a: u16) -> usize {
+    let (mut count, mut covered) = (0, 0);
+    for &x in clusters(gene).iter().rev() {
+        if x & a == x && x & covered == 0 {
+            count += 1;
+            covered |= x;
+        }
+    }
+    count
+}
+
+pub fn weight_of(genes: &[Record], a: u16) -> usize {
+    genes.iter().map(|gene| k(gene, a) - 1).sum()
+}
+
+/// 1 and 11, then 12 for the gene records and for each slice with its need, which is known only behind 1.
+pub fn shape(n: usize, genes: &[u16], count: usize, lent: &[usize]) -> Result<(), Refusal> {
+    if !(1..=SPECIES).contains(&n) {
+        return Err((1, 0));
+    }
+    if !(1..=GENES).contains(&count) {
+        return Err((11, 0));
+    }
+    if genes.len() < 32 * count || lent.iter().any(|&length| length < 1 << n) {
+        return Err((12, 0));
+    }
+    Ok(())
+}
+
+/// The gene records, or 15 at the first that is not valid.
+pub fn records(n: usize, genes: &[u16], count: usize) -> Result<Vec<Record>, Refusal> {
+    let all: Vec<Record> = (0..count).map(|i| genes[32 * i..32 * i + 32].try_into().unwrap()).collect();
+    match all.iter().position(|r| !valid(n, r)) {
+        Some(index) => Err((15, index)),
+        None => Ok(all),
+    }
+}
+
+pub fn weight(n: usize, genes: &[u16], count: usize, cluster: usize) -> Result<usize, Refusal> {
+    shape(n, genes, count, &[])?;
+    let genes = records(n, genes, count)?;
+    if cluster < 1 || cluster >= 1 << n {
+        return Err((13, cluster));
+    }
+    Ok(weight_of(&genes, cluster as u16))
+}
+
+pub fn score(n: usize, genes: &[u16], count: usize, species: &Record) -> Result<usize, Refusal> {
+    shape(n, genes, count, &[])?;
+    if !valid(n, species) || !binary(n, species) {
+        return Err((16, 0));
+    }
+    let genes = records(n, genes, count)?;
+    Ok(clusters(species).iter().map(|&a| weight_of(&genes, a)).sum())
+}
+
+pub fn mark(n: usize, genes: &[u16], count: usize, out: &mut [u8]) -> Result<(), Refusal> {
+    shape(n, genes, count, &[out.len()])?;
+    let genes = records(n, genes, count)?;
+    for a in 0..1usize << n {
+        out[a] = genes.iter().any(|gene| clusters(gene).contains(&(a as u16))) as u8;
+    }
+    Ok(())
+}

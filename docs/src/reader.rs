@@ -1,0 +1,179 @@
+//! Tree text read from the left, to a record or the first fault met.
+use crate::roster::{is_name, names};
+use crate::trees::{record, Record};
+use crate::{Refusal, NAME, NUMBER, OPEN, TEXT};
+
+struct Reader<'a> {
+    text: &'a [u8],
+    at: usize,
+    names: &'a [Vec<u8>],
+    seen: u32,
+    clusters: Vec<u16>,
+}
+
+type Read<T> = Result<T, Refusal>;
+
+impl Reader<'_> {
+    fn blanks(&mut self) {
+        while self.at < self.text.len() && matches!(self.text[self.at], b' ' | b'\t' | b'\n' | b'\r') {
+            self.at += 1;
+        }
+    }
+
+    /// The next byte behind blanks; 10 where the text ends.
+    fn next(&mut self) -> Read<u8> {
+        self.blanks();
+        match self.text.get(self.at) {
+            Some(&b) => Ok(b),
+            None => Err((10, self.text.len())),
+        }
+    }
+
+    fn run(&mut self) -> Read<&[u8]> {
+        let from = self.at;
+        while self.at < self.text.len() && is_name(self.text[self.at]) {
+            if self.at - from == NAME {
+                return Err((4, self.at));
+            }
+            self.at += 1;
+        }
+        Ok(&self.text[from..self.at])
+    }
+
+    fn number(&mut self) -> Read<()> {
+        let from = self.at;
+        let (mut point, mut digit) = (false, false);
+        loop {
+            let byte = self.text.get(self.at).copied();
+            let goes_on = match byte {
+                Some(b) if b.is_ascii_digit() => true,
+                Some(b'.') => digit && !point,
+                _ => false,
+            };
+            if !goes_on {
+                return match (digit, byte) {
+                    (true, _) => Ok(()),
+                    (false, None) => Err((10, self.text.len())),
+                    (false, Some(_)) => Err((3, self.at)),
+                };
+            }
+            if self.at - from == NUMBER {
+                return Err((4, self.at));
+            }
+            if byte == Some(b'.') {
+                point = true;
+                digit = false;
+            } else {
+                digit = true;
+            }
+            self.at += 1;
+        }
+    }
+
+    /// `:d`, `:d:b` or `::b`, where one follows.
+    fn behind(&mut self) -> Read<()> {
+        if !self.colon() {
+            return Ok(());
+        }
+        if self.colon() {
+            self.next()?;
+            return self.number();
+        }
+        self.next()?;
+        self.number()?;
+        if self.colon() {
+            self.next()?;
+            self.number()?;
+        }
+        Ok(())
+    }
+
+    /// Takes a colon behind blanks, if one stands there.
+    fn colon(&mut self) -> bool {
+        let back = self.at;
+        self.blanks();
+        if self.text.get(self.at) == Some(&b':') {
+            self.at += 1;
+            return true;
+        }
+        self.at = back;
+        false
+    }
+
+    fn leaf(&mut self) -> Read<u16> {
+        let from = self.at;
+        let name = self.run()?.to_vec();
+        let Some(i) = self.names.iter().position(|known| *known == name) else {
+            return Err((5, from));
+        };
+        if self.seen >> i & 1 == 1 {
+            return Err((6, from));
+        }
+        self.seen |= 1 << i;
+        Ok(1 << i)
+    }
+
+    fn node(&mut self, open: usize) -> Read<u16> {
+        let first = self.next()?;
+        let cluster = if is_name(first) {
+            self.leaf()?
+        } else if first == b'(' {
+            if open == OPEN {
+                return Err((8, self.at));
+            }
+            self.at += 1;
+            let joined = self.list(open + 1)?;
+            self.blanks();
+            if self.at < self.text.len() && is_name(self.text[self.at]) {
+                self.run()?;
+            }
+            joined
+        } else {
+            return Err((3, self.at));
+        };
+        self.behind()?;
+        self.clusters.push(cluster);
+        Ok(cluster)
+    }
+
+    /// The children, up to and with the `)`.
+    fn list(&mut self, open: usize) -> Read<u16> {
+        let mut joined = self.node(open)?;
+        let mut children = 1;
+        loop {
+            match self.next()? {
+                b',' => {
+                    self.at += 1;
+                    joined |= self.node(open)?;
+                    children += 1;
+                }
+                b')' if children == 1 => return Err((7, self.at)),
+                b')' => {
+                    self.at += 1;
+                    return Ok(joined);
+                }
+                _ => return Err((3, self.at)),
+            }
+        }
+    }
+}
+
+/// The record of the tree that begins at `start`, and the offset behind its `;`.
+pub fn read(line: &[u8], text: &[u8], start: usize) -> Result<(Record, usize), Refusal> {
+    let names = names(line)?;
+    if text.len() > TEXT {
+        return Err((2, TEXT));
+    }
+    if start > text.len() {
+        return Err((10, text.len()));
+    }
+    let mut reader = Reader { text, at: start, names: &names, seen: 0, clusters: Vec::new() };
+    let cluster = reader.node(0)?;
+    if reader.next()? != b';' {
+        return Err((3, reader.at));
+    }
+    if cluster as u32 != (1u32 << names.len()) - 1 {
+        return Err((9, reader.at));
+    }
+    Ok((record(&reader.clusters), reader.at + 1))
+}

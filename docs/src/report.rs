@@ -1,0 +1,64 @@
+//! The program: input bytes to output bytes.
+use crate::reader::read;
+use crate::roster::names;
+use crate::search::search;
+use crate::writer::text;
+use crate::{lineages, Refusal, TEXT};
+
+fn line_end(input: &[u8], from: usize) -> Option<usize> {
+    input[from..].iter().position(|&b| b == b'\n').map(|i| from + i)
+}
+
+fn solve(input: &[u8]) -> Result<Vec<u8>, Refusal> {
+    if input.len() > TEXT {
+        return Err((2, TEXT));
+    }
+    let first = line_end(input, 0);
+    let line = &input[..first.unwrap_or(input.len())];
+    let names = names(line)?;
+    let n = names.len();
+    if n > 12 {
+        return Err((17, 0));
+    }
+    let missing = (10, input.len());
+    let mode_at = first.ok_or(missing)? + 1;
+    let mode_end = line_end(input, mode_at).ok_or(missing)?;
+    let all = match &input[mode_at..mode_end] {
+        b"all" => true,
+        b"genes" => false,
+        _ => return Err((3, mode_at)),
+    };
+    let mut at = mode_end + 1;
+    let mut genes: Vec<u16> = Vec::new();
+    let mut count = 0;
+    loop {
+        while at < input.len() && matches!(input[at], b' ' | b'\t' | b'\n' | b'\r') {
+            at += 1;
+        }
+        if at == input.len() {
+            break;
+        }
+        if count == 512 {
+            return Err((17, at));
+        }
+        let (record, next) = read(line, input, at)?;
+        genes.extend_from_slice(&record);
+        count += 1;
+        at = next;
+    }
+    if count == 0 {
+        return Err((11, 0));
+    }
+    let mut allowed = vec![1u8; 1 << n];
+    if !all {
+        lineages::mark(n, &genes, count, &mut allowed)?;
+    }
+    let (mut scores, mut splits) = (vec![0; 1 << n], vec![0; 1 << n]);
+    let (score, record) = search(n, &genes, count, &allowed, &mut scores, &mut splits)?;
+    let tree = String::from_utf8(text(&names, &record)).unwrap();
+    Ok(format!("taxa {n} genes {count}\nscore {score}\n{tree}\n").into_bytes())
+}
+
+pub fn report(input: &[u8]) -> Vec<u8> {
+    solve(input).unwrap_or_else(|(number, place)| format!("refused {number} at {place}\n").into_bytes())
+}

@@ -1,0 +1,46 @@
+//! A record written in the one form.
+use crate::roster::names;
+use crate::trees::{clusters, valid, Record};
+use crate::Refusal;
+
+/// The children of a cluster: the largest listed ones within it, by lowest species.
+fn children(list: &[u16], a: u16) -> Vec<u16> {
+    let inside: Vec<u16> = list.iter().copied().filter(|&x| x != a && x & a == x).collect();
+    let mut found: Vec<u16> = inside.iter().copied().filter(|&x| !inside.iter().any(|&y| y != x && x & y == x)).collect();
+    found.sort_by_key(|x| x.trailing_zeros());
+    found
+}
+
+fn node(names: &[Vec<u8>], list: &[u16], a: u16, text: &mut Vec<u8>) {
+    if a.count_ones() == 1 {
+        text.extend_from_slice(&names[a.trailing_zeros() as usize]);
+        return;
+    }
+    for (i, child) in children(list, a).into_iter().enumerate() {
+        text.push(if i == 0 { b'(' } else { b',' });
+        node(names, list, child, text);
+    }
+    text.push(b')');
+}
+
+/// The text of a record on a good roster.
+pub fn text(names: &[Vec<u8>], r: &Record) -> Vec<u8> {
+    let mut written = Vec::new();
+    node(names, clusters(r), ((1u32 << names.len()) - 1) as u16, &mut written);
+    written.push(b';');
+    written
+}
+
+/// Writes the text into `out`, and answers its length.
+pub fn write(line: &[u8], r: &Record, out: &mut [u8]) -> Result<usize, Refusal> {
+    let names = names(line)?;
+    if !valid(names.len(), r) {
+        return Err((15, 0));
+    }
+    let written = text(&names, r);
+    if out.len() < written.len() {
+        return Err((12, 0));
+    }
+    out[..written.len()].copy_from_slice(&written);
+    Ok(written.len())
+}

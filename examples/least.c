@@ -1,0 +1,36 @@
+/* Reads two gene trees, searches the least species tree and prints it: a use of the library from C.
+   Build from the project's root, on x86-64: rt staticlib capi && cc -Iinclude examples/least.c target/staticlib/libcapi.a -o target/least */
+#include <stdio.h>
+#include <string.h>
+
+#include "speciestree.h"
+
+int main(void) {
+    const char *roster = "a b c";
+    const char *texts[2] = {"((a,b),c);", "((a,c),b);"};
+    const size_t roster_length = strlen(roster);
+    uint16_t genes[2 * 32];
+    uint8_t allowed[8], text[286];
+    uint32_t scores[8];
+    uint16_t splits[8];
+
+    for (size_t i = 0; i < 2; i++) {
+        st_Reading read = st_read((const uint8_t *)roster, roster_length, (const uint8_t *)texts[i], strlen(texts[i]), 0);
+        if (read.number != 0) {
+            printf("refused %u at %zu\n", read.number, read.place);
+            return 1;
+        }
+        memcpy(genes + 32 * i, read.numbers, sizeof read.numbers);
+    }
+    memset(allowed, 1, sizeof allowed);
+    st_Found found = st_search(3, genes, 64, 2, allowed, 8, scores, 8, splits, 8);
+    if (found.number != 0) {
+        printf("refused %u at %zu\n", found.number, found.place);
+        return 1;
+    }
+    st_Record tree;
+    memcpy(tree.numbers, found.numbers, sizeof tree.numbers);
+    st_Reply written = st_write((const uint8_t *)roster, roster_length, tree, text, sizeof text);
+    printf("score %zu\n%.*s\n", found.score, (int)written.value, (const char *)text);
+    return 0;
+}

@@ -1,0 +1,55 @@
+/* The library for C: crates/capi/src/lib.rt has the same names, with the promise of each. Link target/staticlib/libcapi.a,
+   which `rt staticlib capi` writes. A slice is a pointer and a length. Numbers and places are those of docs/RULES.md. */
+#ifndef SPECIESTREE_H
+#define SPECIESTREE_H
+
+#include <stddef.h>
+#include <stdint.h>
+
+/* A tree's record: the count, the clusters in rising order, zeros. */
+typedef struct {
+    uint16_t numbers[32];
+} st_Record;
+
+typedef struct {
+    uint32_t number;
+    size_t place;
+    size_t value;
+} st_Reply;
+
+typedef struct {
+    uint32_t number;
+    size_t place;
+    size_t next;
+    uint16_t numbers[32];
+} st_Reading;
+
+typedef struct {
+    uint32_t number;
+    size_t place;
+    size_t score;
+    uint16_t numbers[32];
+} st_Found;
+
+/* value: how many species the roster line has */
+st_Reply st_roster(const uint8_t *line, size_t line_length);
+
+/* the record of the tree that begins at start, and the offset just after its `;` */
+st_Reading st_read(const uint8_t *line, size_t line_length, const uint8_t *text, size_t text_length, size_t start);
+
+/* value: the length of the text */
+st_Reply st_write(const uint8_t *line, size_t line_length, st_Record tree, uint8_t *out, size_t out_length);
+
+/* value: the weight of the cluster */
+st_Reply st_weight(size_t n, const uint16_t *genes, size_t genes_length, size_t count, size_t cluster);
+
+/* value: the score of the species tree */
+st_Reply st_score(size_t n, const uint16_t *genes, size_t genes_length, size_t count, st_Record species);
+
+/* value: 0 */
+st_Reply st_mark(size_t n, const uint16_t *genes, size_t genes_length, size_t count, uint8_t *out, size_t out_length);
+
+st_Found st_search(size_t n, const uint16_t *genes, size_t genes_length, size_t count, const uint8_t *allowed, size_t allowed_length,
+                   uint32_t *scores, size_t scores_length, uint16_t *splits, size_t splits_length);
+
+#endif
