@@ -1,14 +1,15 @@
 -- The laws of the lowest species of a set.
 use Prim.Native.Nat.{ℕ, zero, suc, _-_, _/_, _%_, _^_, _≤_, _<_}
-use mathlib.Core.Path.{_≡_, sym, ap, subst}
+use mathlib.Core.Path.{_≡_, sym, ap, _∙_, subst}
 use native.Mathlib.Nat.{pow-suc}
 use native.Mathlib.Decide.{ℕ-discrete}
 use native.Mathlib.Omega.{arith}
 use lib.Bits.{bitAnd, and-step, and-self}
 use lib.Count.{trailingZeros, under, trailing-of-zero}
-use Rattle.clusters.specs.Sets.{Has, Within, Apart, single, lowest}
-use Rattle.clusters.proofs.Members.{has-odd, odd-has, has-half, half-has, half-below, has-below, has-single, has-of-within, has-of-apart}
+use Rattle.clusters.specs.Sets.{Has, Within, Apart, single, size, lowest}
+use Rattle.clusters.proofs.Members.{has-odd, odd-has, has-half, half-has, half-below, has-below, single-has, has-single, has-of-within, has-of-apart}
 use Rattle.clusters.proofs.Sets.{single-below, single-some}
+use Rattle.clusters.proofs.Sizes.{size-one}
 
 -- ---- the count of trailing zeros, of any number of digits
 
@@ -98,3 +99,12 @@ lowest-apart {a} {b} l k p q d e =
 pub lowest-off : {a : ℕ} → 1 ≤ a → a < 2 ^ 32 → a - single (lowest a) ≡ bitAnd (a - 1) a
 unfolding lowest single
 lowest-off p l = trailing-off 32 p l
+
+-- a set of one species is that of its lowest
+pub single-lowest : {a : ℕ} → a < 2 ^ 32 → size a ≡ 1 → a ≡ single (lowest a)
+single-lowest {a} b e = go (size-one e .0) (size-one e .1)
+  where
+    go : (i : ℕ) → a ≡ single i → a ≡ single (lowest a)
+    go i p =
+        let l : i < 32 = has-below 32 b (rw p (single-has i)) in
+        p ∙ ap single (sym (ap lowest p ∙ lowest-single l))

@@ -34,12 +34,12 @@ done-reply w e = rw e
 -- ---- 15
 
 module _ (n : ℕ) (genes : List ℕ) (count : ℕ) (rest : List Test) {bad : ℕ} (found : bad ≡ firstBad n (recordsIn count genes)) where
-  record-refused : bad < count → verdict (recordsTest n (recordsIn count genes) ∷ rest) ≡ said 15 bad
+  pub record-refused : bad < count → verdict (recordsTest n (recordsIn count genes) ∷ rest) ≡ said 15 bad
   unfolding verdict recordsTest
   record-refused l =
       rw (lt-ltb (firstBad n (recordsIn count genes)) (length (recordsIn count genes)) (omega (arith, length-recordsIn count genes)), found)
 
-  records-passed : count ≤ bad → verdict (recordsTest n (recordsIn count genes) ∷ rest) ≡ verdict rest
+  pub records-passed : count ≤ bad → verdict (recordsTest n (recordsIn count genes) ∷ rest) ≡ verdict rest
   unfolding verdict recordsTest
   records-passed l =
       rw (le-ltb (firstBad n (recordsIn count genes)) (length (recordsIn count genes)) (omega (arith, length-recordsIn count genes)))

@@ -19,6 +19,7 @@ use Rattle.lineages.specs.Promise.{shown, flag, marks}
 use Rattle.lineages.specs.Work.{AllMarkable, markedOne, markedAll, marksBelow}
 use Rattle.lineages.proofs.Lent.{recordsFrom, records-from-first, records-next, records-from-last}
 use Rattle.lineages.proofs.Checked.{listed-from, listed-none}
+use Rattle.roster.proofs.UpTo.{length-upTo}
 
 -- ---- one gene tree after the other
 
@@ -96,11 +97,6 @@ all-at (g ∷ l) out a h =
     go false false = refl
 
 -- ---- the marks
-
-length-upTo : (n : ℕ) → length (upTo n) ≡ n
-unfolding upTo
-length-upTo zero = refl
-length-upTo (suc n) = omega (arith, length-append (upTo n) (n ∷ []), length-upTo n)
 
 pub map-upTo : (f : ℕ → ℕ) (n a : ℕ) → a < n → getD (map f (upTo n)) a 0 ≡ f a
 unfolding upTo

@@ -24,6 +24,5 @@ pub mod Pieces
 pub mod Places
 pub mod Rests
 pub mod Sound
-pub mod Stores
 pub mod TreeWays
 pub mod Unique

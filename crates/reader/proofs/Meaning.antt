@@ -32,7 +32,7 @@ use Rattle.reader.specs.Grammar.Text.{text}
 use Rattle.reader.specs.Meaning.{IsNode, IsName, IsNumber, BeginsText, MayStand, NodeMayStand, NameMayStand, NumberMayStand, ByteAt, count, opens, Stray, LongName, LongNumber, UnknownName, RepeatedName, SingleChild, TooDeep, Missing, EndsFirst, Means, Refusal, reach}
 use Rattle.reader.specs.Meaning.Means.{stray, long-name, long-number, unknown-name, repeated-name, single-child, too-deep, missing, ends-first}
 use Rattle.reader.proofs.Answers.{Reached, parsed-refused, andThen-refused, unexpected-refused, AtEnd, AtByte}
-use Rattle.reader.proofs.Rests.{advances-shorter, skip-tail, run-le, readNode-advances}
+use Rattle.reader.proofs.Rests.{advances-shorter, skip-tail, readNode-advances}
 use Rattle.reader.proofs.Sound.{skip-blanks, nextIs-cons, skip-byte, run-derives, name-read, readNode-sound}
 use Rattle.reader.proofs.Exact.{stopped-name, comma-follows, closing-follows, run-some, run-splits}
 use Rattle.reader.proofs.Derivations.{Steps, over-node}
@@ -42,6 +42,7 @@ use Rattle.reader.proofs.MeaningLifted.{text-limits}
 use Rattle.reader.proofs.MeaningCounts.{evenly-blanks, evenly-digits, node-level, count-append, no-semicolon}
 use Rattle.reader.proofs.MeaningContexts.{front-shorter, stand-on, stand-before, stand-begins, stand-begins-with, stand-as, begins-by, begins-less, blanks-node, opened-node, comma-children, children-closing, first-child, last-child, child-comma, child-blanks, leaf-numbers, closing-name, closing-numbers, blanks-name, name-node, blanks-number, colon-number, colons-number, second-number, point-number, node-at-front, a-node, IsChildren, IsNumbers, IsClosing, NodeOf, ChildrenOf}
 use Rattle.reader.proofs.MeaningSteps.{zeroed, point-behind, thirteen-pointed, TooLong, limited-refused, numeral-refused, Step, step-then, step-skip, step-byte, step-colon, step-inner, step-here, same-position, name-word, step-name, has-seen, lacking, whole-word, numbers-stop, same-bytes, step-node, step-forest}
+use Rattle.roster.proofs.Runs.{run-within}
 
 -- ---- the text s₀, which begins at place p₀
 
@@ -136,7 +137,7 @@ module _ (names : List (List ℕ)) (needed : ℕ) (s₀ : List ℕ) (p₀ : ℕ)
   long-pointed-says {s = s} d f st may is some point digits l =
       let mid = drop (d + 1) s in
       let behind : length (drop d s) ≡ suc (length mid) = ap length (point-behind d s point) in
-      long-number-says (d + 1 + f) st may l (omega (arith, length-drop d s, run-le isDigit mid)) (go (decLe d 12))
+      long-number-says (d + 1 + f) st may l (omega (arith, length-drop d s, run-within isDigit mid)) (go (decLe d 12))
     where
       go : Dec (d ≤ 12) → Number (take 13 s ++ 48 ∷ []) (take 13 s ++ 48 ∷ []) []
       go (yes fits) = thirteen-pointed d s is some fits point (omega (arith, l .long))
@@ -179,7 +180,7 @@ module _ (names : List (List ℕ)) (needed : ℕ) (s₀ : List ℕ) (p₀ : ℕ)
       go true point h = pointed-says (suc d) (run isDigit (drop (suc d + 1) s)) st may is (omega arith) point refl h
       go false point h =
           let l = numeral-refused (suc d) s p h in
-          long-number-says (suc d) st may l (omega (arith, run-le isDigit s)) (whole (zeroed 13 s (omega (arith, l .long))))
+          long-number-says (suc d) st may l (omega (arith, run-within isDigit s)) (whole (zeroed 13 s (omega (arith, l .long))))
 
   number-says : {u s : List ℕ} {p n q : ℕ} → Stands u s p → NumberMayStand u → number s p ≡ refused n q → Says n q
   unfolding number
@@ -851,7 +852,7 @@ module _ {names : List (List ℕ)} {needed : ℕ} {s : List ℕ} {d : ℕ} where
   pub refusal-inside : {number : ℕ} → Means names needed s d number → number ≤ 9 → d < length s
   unfolding word
   refusal-inside (stray r) l = r .inside
-  refusal-inside (long-name r) l = omega (arith, r .all-name, r .sixteenth, run-le isName (drop (r .c) s), length-drop (r .c) s)
+  refusal-inside (long-name r) l = omega (arith, r .all-name, r .sixteenth, run-within isName (drop (r .c) s), length-drop (r .c) s)
   refusal-inside (long-number r) l = r .inside
   refusal-inside (unknown-name r) l = omega (arith, r .some, length-take (run isName (drop d s)) (drop d s), length-drop d s)
   refusal-inside (repeated-name r) l = omega (arith, r .some, length-take (run isName (drop d s)) (drop d s), length-drop d s)

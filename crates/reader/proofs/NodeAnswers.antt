@@ -18,7 +18,7 @@ use Rattle.reader.specs.declared.answer.BehindRead.the-variants.{Behind 
 use Rattle.reader.specs.declared.answer.NodeRead.{NodeRead}
 use Rattle.reader.specs.declared.answer.NodeRead.the-variants.{Node, Refused as NoNode}
 use Rattle.reader.proofs.Answers.{refused-parsed, andThen-parsed, Reached}
-use Rattle.reader.proofs.Stores.{sets-append}
+use Rattle.trees.proofs.Stores.{sets-append}
 
 module _ (text : List ℕ) (seen stored : ℕ) (before after : List ℕ) where
   -- a refusal is passed up, whatever the table has

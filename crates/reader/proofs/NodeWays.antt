@@ -27,7 +27,7 @@ use Rattle.reader.proofs.NodeAnswers.{node-refused, list-refused, refus
 use Rattle.reader.proofs.NodeSteps.{node-is-leaf, node-stray, node-full, node-opened, comma-follows, comma-missing, list-begins, list-goes-on, list-closes, list-stray}
 use Rattle.reader.proofs.Places.{next-is-inside}
 use Rattle.reader.proofs.Rests.{Advances, readNode-advances, readForest-advances}
-use Rattle.reader.proofs.Stores.{sets-append}
+use Rattle.trees.proofs.Stores.{sets-append}
 
 -- ---- what a reading leaves room for
 

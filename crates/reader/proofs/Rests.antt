@@ -19,6 +19,7 @@ use Rattle.reader.specs.Answers.Answer.{parsed}
 use Rattle.reader.specs.Tokens.{numberBytes, nextIs, nextName, blanks, skip, limited, numeral, pointed, fraction, digits, number, numberBehind, secondNumber, firstNumber, numbersBy, numbers, shortName, name, innerNameBy, innerName}
 use Rattle.reader.specs.Reading.{openMost, leafNew, leafKnown, leafAt, closing, afterFirst, opened, nodeBy, afterChild, readNode, readForest, complete, ended, readTreeTo, readTree}
 use Rattle.reader.proofs.Answers.{refused-parsed, andThen-parsed, unexpected-parsed}
+use Rattle.roster.proofs.Runs.{run-within}
 
 -- rest at place q is what count bytes fewer leave of s at place p
 pub record Moves (s : List ℕ) (p : ℕ) (rest : List ℕ) (q : ℕ) : Type 0 where
@@ -68,21 +69,12 @@ advances-shorter a = omega (arith, moves-length (a .moves), a .some, a .moves .p
 
 -- ---- runs, blanks, one byte
 
-pub run-le : (test : ℕ → Bool) (s : List ℕ) → run test s ≤ length s
-unfolding run
-run-le test [] = omega arith
-run-le test (b ∷ s) = go (test b) (run-le test s)
-  where
-    go : (t : Bool) → run test s ≤ length s → oneMore t (run test s) ≤ suc (length s)
-    go true l = omega arith
-    go false l = omega arith
-
 pub run-drop : (test : ℕ → Bool) (s : List ℕ) (p : ℕ) → Moves s p (drop (run test s) s) (p + run test s)
-run-drop test s p = record { count = run test s; fits = run-le test s; left = refl; place = refl }
+run-drop test s p = record { count = run test s; fits = run-within test s; left = refl; place = refl }
 
 pub blanks-le : (s : List ℕ) → blanks s ≤ length s
 unfolding blanks
-blanks-le s = run-le isBlank s
+blanks-le s = run-within isBlank s
 
 pub skip-drop : (s : List ℕ) → skip s ≡ drop (blanks s) s
 unfolding blanks skip
@@ -133,7 +125,7 @@ pointed-advances :
 pointed-advances d zero s p is h =
     absurd (unexpected-parsed (drop (d + 1) s) (p + (d + 1)) (limited-parsed (leb (d + 1) numberBytes) p (unexpected (drop (d + 1) s) (p + (d + 1))) h))
 pointed-advances d (suc e) s p is h =
-    let l = run-le isDigit (drop (d + 1) s) in
+    let l = run-within isDigit (drop (d + 1) s) in
     let m = length-drop (d + 1) s in
     numeral-advances (d + 1 + suc e) s p (omega arith) (omega arith) h
 
@@ -147,7 +139,7 @@ digits-advances :
     (d : ℕ) (s : List ℕ) (p : ℕ) {x rest : List ℕ} {q : ℕ} → d ≡ run isDigit s → digits d s p ≡ parsed x rest q → Advances s p rest q
 digits-advances zero s p is h = absurd (unexpected-parsed s p h)
 digits-advances (suc d) s p is h =
-    fraction-advances (nextIs 46 (drop (suc d) s)) (suc d) s p (omega arith) (omega (arith, run-le isDigit s)) h
+    fraction-advances (nextIs 46 (drop (suc d) s)) (suc d) s p (omega arith) (omega (arith, run-within isDigit s)) h
 
 pub number-advances : (s : List ℕ) (p : ℕ) {x rest : List ℕ} {q : ℕ} → number s p ≡ parsed x rest q → Advances s p rest q
 unfolding number

@@ -29,7 +29,7 @@ use Rattle.reader.proofs.Growth.{Fresh, FreshTree, readNode-fresh}
 use Rattle.reader.proofs.NodeAnswers.{node-refused, refused-node, TreeRead, node-read, read-node}
 use Rattle.reader.proofs.NodeSteps.{end-missing, species-missing, tree-ends}
 use Rattle.reader.proofs.NodeWays.{NodeCall, Followed, node-told}
-use Rattle.reader.proofs.Stores.{getD-sets, take-sets}
+use Rattle.trees.proofs.Stores.{getD-sets, take-sets}
 
 -- ---- a node and `;`
 

@@ -4,7 +4,7 @@ use native.Mathlib.Nat.{add-zero, add-suc}
 use native.Mathlib.Omega.{arith}
 use mathlib.Core.Path.{_≡_, refl, ap, _∙_}
 use mathlib.Core.Bool.{Bool, true, false}
-use mathlib.Core.List.{List, [], _∷_, _++_, map, append-nil}
+use mathlib.Core.List.{List, [], _∷_, _++_, map, append-nil, map-append}
 use lib.ListN.{length, getD, drop, length-map, length-take}
 use lib.Seq.{getD-take}
 use Rattle.trees.specs.Lists.{keep, keepIf}
@@ -23,10 +23,6 @@ keep-append test (x ∷ k) l = by (test x) (keep-append test k l)
     by : (t : Bool) → keep test (k ++ l) ≡ keep test k ++ keep test l → keepIf t x (keep test (k ++ l)) ≡ keepIf t x (keep test k) ++ keep test l
     by true e = rw e
     by false e = e
-
-map-append : (f : ℕ → List ℕ) (k l : List ℕ) → map f (k ++ l) ≡ map f k ++ map f l
-map-append f [] l = refl
-map-append f (x ∷ k) l = rw (map-append f k l)
 
 pub word-lettered : (s : List ℕ) → Lettered (word s)
 unfolding word

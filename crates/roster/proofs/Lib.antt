@@ -16,3 +16,4 @@ pub mod Names
 pub mod Words
 pub mod Scans
 pub mod Slots
+pub mod UpTo

@@ -33,6 +33,7 @@ use Rattle.search.proofs.Recurrence.{best-on}
 use Rattle.search.proofs.RecordsOfTrees.{tree-valid, tree-binary, tree-of-record, TreeOfRecord, score-of-record, whole-narrow}
 use Rattle.search.proofs.BestTrees.{Over, best-over, best-least, best-first, best-missed, best-local, LeastSplit, lemma-two}
 use Rattle.search.proofs.Accepted.{Accepted, accepted, accepts, no-fourteen}
+use Rattle.roster.proofs.UpTo.{length-upTo}
 
 -- ---- the records that compete
 
@@ -243,11 +244,6 @@ least-same test other p (suc k) h =
 map-same : (f g : ℕ → ℕ) (l : List ℕ) → ((a : ℕ) → Among a l → f a ≡ g a) → map f l ≡ map g l
 map-same f g [] h = refl
 map-same f g (x ∷ l) h = ap₂ _∷_ (h x (here refl)) (map-same f g l (λ a m. h a (there m)))
-
-length-upTo : (n : ℕ) → length (upTo n) ≡ n
-unfolding upTo
-length-upTo zero = refl
-length-upTo (suc n) = omega (arith, length-append (upTo n) (n ∷ []), length-upTo n)
 
 -- the first 2^n entries of a table that was filled
 filled-first : (n k : ℕ) (entry : ℕ → ℕ) (lent after : List ℕ) → after ≡ filledBy k n entry lent → k ≡ 0 → take (2 ^ n) after ≡ map entry (upTo (2 ^ n))

@@ -9,6 +9,7 @@ use lib.ListN.{length, getD, set, take, drop, length-append, length-set, List·g
 use lib.Seq.{sets, length-sets, sets-eq, take-at}
 use Rattle.trees.specs.Lists.{Among}
 use Rattle.trees.proofs.Places.{at-among}
+use Rattle.trees.proofs.Stores.{sets-append, sets-front}
 use Rattle.search.specs.BinaryTrees.{Binary, root, clustersIn}
 use Rattle.search.specs.BinaryTrees.Binary.{tip, fork}
 use Rattle.search.specs.Work.{Chosen, Chooses}
@@ -26,11 +27,6 @@ clusters-fork a t u = refl
 
 count-fork : (a : ℕ) (t u : Binary) → length (clustersIn (fork a t u)) ≡ 1 + (length (clustersIn t) + length (clustersIn u))
 count-fork a t u = ap length (clusters-fork a t u) ∙ omega (arith, length-append (clustersIn t) (clustersIn u))
-
-sets-append : (l : List ℕ) (i : ℕ) (vs us : List ℕ) → sets l i (vs ++ us) ≡ sets (sets l i vs) (i + length vs) us
-sets-append l i [] us = ap (λ k. sets l k us) {x = i} {y = i + 0} (omega arith)
-sets-append l i (v ∷ vs) us =
-    sets-append (set l i v) (suc i) vs us ∙ ap (λ k. sets (sets (set l i v) (suc i) vs) k us) {x = suc i + length vs} {y = i + suc (length vs)} (omega arith)
 
 -- ---- a chosen tree, by the split entry of its cluster
 
@@ -136,7 +132,7 @@ module _ (splits clusters : List ℕ) (a place : ℕ) where
         where
           together : (v u : Binary) → sets (sets (set clusters place a) (place + 1) (clustersIn v)) (place + 1 + length (clustersIn v)) (clustersIn u) ≡ sets clusters place (clustersIn (fork a v u))
           together v u =
-              sym (sets-append (set clusters place a) (place + 1) (clustersIn v) (clustersIn u))
+              sets-append (set clusters place a) (place + 1) (clustersIn v) (clustersIn u)
               ∙ ap (λ i. sets (set clusters place a) i (clustersIn v ++ clustersIn u)) (add-one place)
               ∙ ap (sets clusters place) (sym (clusters-fork a v u))
 
@@ -158,9 +154,6 @@ clusters-le splits (fork a t u) h x m = go (List·Memᴰ·cases-cons m) (λ k. c
     go : (x ≡ a) ⊎ Among x (clustersIn t ++ clustersIn u) → (Among x (clustersIn t) → x ≤ root t) → (Among x (clustersIn u) → x ≤ root u) → x ≤ a
     go (inl e) p q = omega arith
     go (inr k) p q = below (List·Memᴰ·append-cases (clustersIn t) k) p q
-
-sets-front : (l vs : List ℕ) → length vs ≤ length l → sets l 0 vs ≡ vs ++ drop (length vs) l
-sets-front l vs h = sets-eq vs l 0 (omega arith) ∙ ap (λ k. vs ++ drop k l) {x = 0 + length vs} {y = length vs} (omega arith)
 
 module _ {splits : List ℕ} {a next : ℕ} {after : List ℕ} (lent : List ℕ) (h : Chooses splits a (length lent)) (s : Stored splits lent a 0 next after) where
   count : next ≡ length (clustersIn (h .tree))

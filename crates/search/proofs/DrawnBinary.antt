@@ -11,7 +11,7 @@ use Rattle.clusters.specs.Sets.{Has, Within, Apart, size, single, union, lowest
 use Rattle.clusters.proofs.Members.{has-of-apart, has-union, single-has, has-below}
 use Rattle.clusters.proofs.Sets.{within-refl, within-trans, within-le, within-apart, within-union-left, within-union-right, union-comm, union-some-left, apart-sym, apart-within, apart-union-sum, minus-apart, minus-union, minus-within, union-minus-left, within-below}
 use Rattle.clusters.proofs.Sizes.{size-one, size-single, some-of-size}
-use Rattle.clusters.proofs.LowestSpecies.{lowest-has, lowest-least, lowest-single, lowest-apart, lowest-within}
+use Rattle.clusters.proofs.LowestSpecies.{lowest-has, lowest-least, lowest-single, lowest-apart, lowest-within, single-lowest}
 use Rattle.trees.specs.Lists.{Among, NoneTwice}
 use Rattle.trees.specs.Tree.{Tree, Forest, leaves, leavesOf, cluster, clusterOf, clusters, clustersOf, On, Binary as BinaryDrawn, OneBinary}
 use Rattle.trees.specs.Tree.Tree.{leaf, node}
@@ -92,15 +92,9 @@ unfoldable pub drawing : Binary → Tree
 drawing (tip a) = leaf (lowest a) bare
 drawing (fork a t u) = node (drawing t) (last (drawing u)) bare
 
-single-lowest : {a : ℕ} → size a ≡ 1 → a < 2 ^ 32 → single (lowest a) ≡ a
-single-lowest {a} e l =
-    let s = size-one e in
-    let i = has-below 32 l (subst (λ x. Has x (s .0)) (sym (s .1)) (single-has (s .0))) in
-    ap single (ap lowest (s .1) ∙ lowest-single i) ∙ sym (s .1)
-
 pub drawing-cluster : {a : ℕ} {t : Binary} → TreeOn a t → a < 2 ^ 32 → cluster (drawing t) ≡ a
 unfolding drawing cluster clusterOf
-drawing-cluster (one e) l = single-lowest e l
+drawing-cluster (one e) l = sym (single-lowest l e)
 drawing-cluster {a} (two {t = t} p v w) l =
     let m = p .less in
     ap₂ union (drawing-cluster v (omega arith)) (drawing-cluster w (omega arith)) ∙ minus-union (root t) (p .inside)
@@ -121,7 +115,7 @@ drawing-on v l = record { once = drawing-once v l; all = drawing-cluster v l }
 
 pub drawing-among : {a x : ℕ} {t : Binary} → TreeOn a t → a < 2 ^ 32 → Among x (clustersIn t) → Among x (clusters (drawing t))
 unfolding drawing clusters clustersOf clustersIn cluster clusterOf
-drawing-among {x = x} (one e) l h = subst (λ y. Among x (y ∷ [])) (sym (single-lowest e l)) h
+drawing-among {x = x} (one e) l h = subst (λ y. Among x (y ∷ [])) (single-lowest l e) h
 drawing-among {a} {x} (two {t = t} {u = u} p v w) l h =
     go (among-fork {t = t} {u = u} h) (λ k. drawing-among v (let m = p .less in omega arith) k) (λ k. drawing-among w (let m = p .less in omega arith) k)
   where
@@ -136,7 +130,7 @@ drawing-among {a} {x} (two {t = t} {u = u} p v w) l h =
 
 pub among-drawing : {a x : ℕ} {t : Binary} → TreeOn a t → a < 2 ^ 32 → Among x (clusters (drawing t)) → Among x (clustersIn t)
 unfolding drawing clusters clustersOf clustersIn cluster clusterOf
-among-drawing {x = x} (one e) l h = subst (λ y. Among x (y ∷ [])) (single-lowest e l) h
+among-drawing {x = x} (one e) l h = subst (λ y. Among x (y ∷ [])) (sym (single-lowest l e)) h
 among-drawing {a} {x} (two {t = t} {u = u} p v w) l h =
     go (List·Memᴰ·append-cases (clusters (drawing t) ++ clusters (drawing u)) h)
     (λ k. among-drawing v (let m = p .less in omega arith) k) (λ k. among-drawing w (let m = p .less in omega arith) k)

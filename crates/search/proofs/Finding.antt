@@ -21,6 +21,7 @@ use Rattle.search.specs.Least.{scoreEntry, splitEntry}
 use Rattle.search.specs.Promise.{allowedIn, firstStrange, allowedTest, searchTests, bestFor, foundBy, foundOr, filledBy, Finds}
 use Rattle.search.specs.Work.{without, LongEnough, Checked, Solves}
 use Rattle.search.specs.declared.Found.{Found}
+use Rattle.lineages.proofs.Calls.{record-refused, records-passed}
 
 -- what is judged after the shape
 searchRest : ℕ → List ℕ → ℕ → List ℕ → List ℕ → List ℕ → List Test
@@ -53,17 +54,6 @@ module _ (n : ℕ) (genes : List ℕ) (count : ℕ) (allowed scores splits : Lis
       go (yes a) (yes b) (yes c) = absurd (f (record { allowed-long = a; scores-long = b; splits-long = c }))
 
 -- ---- 15 and 13
-
-module _ (n : ℕ) (genes : List ℕ) (count : ℕ) (rest : List Test) {bad : ℕ} (found : bad ≡ firstBad n (recordsIn count genes)) where
-  record-refused : bad < count → verdict (recordsTest n (recordsIn count genes) ∷ rest) ≡ said 15 bad
-  unfolding verdict recordsTest
-  record-refused l =
-      rw (lt-ltb (firstBad n (recordsIn count genes)) (length (recordsIn count genes)) (omega (arith, length-recordsIn count genes)), found)
-
-  records-passed : count ≤ bad → verdict (recordsTest n (recordsIn count genes) ∷ rest) ≡ verdict rest
-  unfolding verdict recordsTest
-  records-passed l =
-      rw (le-ltb (firstBad n (recordsIn count genes)) (length (recordsIn count genes)) (omega (arith, length-recordsIn count genes)))
 
 module _ (n : ℕ) (allowed : List ℕ) {strange : ℕ} (found : strange ≡ firstStrange n allowed) where
   byte-refused : strange < 2 ^ n → verdict (allowedTest n allowed ∷ []) ≡ said 13 strange

@@ -19,6 +19,7 @@ use Rattle.trees.proofs.Order.{rising-below}
 use Rattle.roster.specs.Roster.{upTo}
 use Rattle.search.specs.BinaryTrees.{isLow, lows}
 use Rattle.search.specs.WellFormed.{LowPart}
+use Rattle.roster.proofs.Booleans.{both}
 
 -- ---- the numbers below a bound
 
@@ -41,10 +42,6 @@ upTo-among {x} (suc n) l = go (decLt x n) (λ k. upTo-among n k)
     go (no f) ih = Memᴰ·append-right (upTo n) (here (omega (arith, f)))
 
 -- ---- the tests as facts
-
-both : (a b : Bool) → (a && b) ≡ true → (a ≡ true) × (b ≡ true)
-both true b e = (refl, e)
-both false b e = absurd (false≢true e)
 
 pub has-true : (a i : ℕ) → has a i ≡ true → Has a i
 unfolding has Has

@@ -1,7 +1,7 @@
 -- The table of the weights, gene tree by gene tree.
 use Prim.Native.Nat.{ℕ, zero, suc, _+_, _-_, _*_, _≤_, _<_}
 use mathlib.Core.Path.{_≡_, refl, sym, ap, ap₂, _∙_, subst}
-use mathlib.Core.List.{List, [], _∷_, _++_, map}
+use mathlib.Core.List.{List, [], _∷_, _++_, map, map-append}
 use native.Mathlib.Numerals.{add-one}
 use native.Mathlib.Omega.{arith}
 use lib.ListN.{length, getD, set, take, drop, replicate, replicate-append-replicate}
@@ -12,7 +12,7 @@ use Rattle.lineages.specs.Work.{Countable, AllCountable}
 use Rattle.lineages.proofs.Sums.{weight-none, weight-cons}
 use Rattle.lineages.proofs.Checked.{extra-le}
 use Rattle.lineages.proofs.Lent.{record-among}
-use Rattle.search.proofs.Written.{map-append, written, written-none, written-next, written-length, written-at, written-behind, written-same, written-again, written-entries}
+use Rattle.search.proofs.Written.{written, written-none, written-next, written-length, written-at, written-behind, written-same, written-again, written-entries}
 
 -- ---- one gene tree is added
 

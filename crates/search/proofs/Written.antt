@@ -2,22 +2,14 @@
 use Prim.Native.Nat.{ℕ, zero, suc, _+_, _-_, _≤_, _<_}
 use mathlib.Core.Path.{_≡_, refl, sym, ap, ap₂, _∙_, subst}
 use mathlib.Core.Logic.{_⊎_, inl, inr}
-use mathlib.Core.List.{List, [], _∷_, _++_, map, append-assoc}
+use mathlib.Core.List.{List, [], _∷_, _++_, map, append-assoc, map-append}
 use native.Mathlib.Decide.{decLt}
 use native.Mathlib.Numerals.{add-one}
 use native.Mathlib.Omega.{arith}
 use lib.ListN.{length, getD, set, take, drop, length-append, length-drop, length-map, List·getD-append}
 use lib.Seq.{drop-cons, append-snoc, set-at, getD-at, getD-append-add, getD-drop, drop-at}
 use Rattle.roster.specs.Roster.{upTo}
-
-pub map-append : (f : ℕ → ℕ) (l k : List ℕ) → map f (l ++ k) ≡ map f l ++ map f k
-map-append f [] k = refl
-map-append f (x ∷ l) k = ap (λ r. f x ∷ r) (map-append f l k)
-
-length-upTo : (n : ℕ) → length (upTo n) ≡ n
-unfolding upTo
-length-upTo zero = refl
-length-upTo (suc n) = omega (arith, length-append (upTo n) (n ∷ []), length-upTo n)
+use Rattle.roster.proofs.UpTo.{length-upTo}
 
 pub length-entries : (f : ℕ → ℕ) (n : ℕ) → length (map f (upTo n)) ≡ n
 length-entries f n = length-map (upTo n) f ∙ length-upTo n

@@ -13,7 +13,7 @@ use Rattle.clusters.specs.Sets.{Within, Apart, single, union, size, lowest}
 use Rattle.clusters.proofs.Members.{has-of-apart, single-has, has-below}
 use Rattle.clusters.proofs.Sets.{within-single, union-zero}
 use Rattle.clusters.proofs.Sizes.{size-one, size-some, size-within-lt}
-use Rattle.clusters.proofs.LowestSpecies.{lowest-single}
+use Rattle.clusters.proofs.LowestSpecies.{single-lowest}
 use Rattle.trees.specs.Lists.{Among, NoneTwice}
 use Rattle.trees.specs.Records.{listed, recordOf, ValidOn}
 use Rattle.trees.specs.Tree.{Tree, Forest, leaves, leavesOf, cluster, clusterOf, clusters, clustersOf, On}
@@ -96,15 +96,6 @@ module _ (cs : List ℕ) (draw : ℕ → Tree) where
       reached : (x : ℕ) → DrawsAll cs (b ∷ c ∷ l) (forestOver draw b (c ∷ l)) → Among x cs → Within x a → Dec (x ≡ a) → Among x (clusters (draw b) ++ clustersOf (forestOver draw c l) ++ (top ∷ []))
       reached x f h k (yes p) = Memᴰ·append-right (clusters (draw b) ++ clustersOf (forestOver draw c l)) (here (p ∙ sym e ∙ sym (f .all)))
       reached x f h k (no p) = let y = v x h k p in Memᴰ·append-left (top ∷ []) (f .every x (y .0) h (y .1) (y .2))
-
--- a set of one species is that of its lowest
-single-lowest : {a : ℕ} → a < 2 ^ 32 → size a ≡ 1 → a ≡ single (lowest a)
-single-lowest {a} b e = go (size-one e .0) (size-one e .1)
-  where
-    go : (i : ℕ) → a ≡ single i → a ≡ single (lowest a)
-    go i p =
-        let l : i < 32 = has-below 32 b (rw p (single-has i)) in
-        p ∙ ap single (sym (ap lowest p ∙ lowest-single l))
 
 module _ {s : ℕ} {cs : List ℕ} (h : Hierarchy s cs) where
   leaf-draws : {a : ℕ} → Among a cs → size a ≡ 1 → Draws cs a (leaf (lowest a) bare)

@@ -15,3 +15,4 @@ pub mod Present
 pub mod Recorded
 pub mod Sorting
 pub mod ValidTest
+pub mod Stores

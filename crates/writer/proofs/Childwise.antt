@@ -21,7 +21,7 @@ use Rattle.trees.proofs.Children.{Hierarchy, Child, among-children, together, h
 use Rattle.trees.proofs.Drawing.{drawn-node}
 use Rattle.writer.specs.Writing.{nodeText, othersText}
 use Rattle.writer.specs.Work.{Put}
-use Rattle.writer.proofs.Stores.{sets-append}
+use Rattle.trees.proofs.Stores.{sets-append}
 
 -- the texts of some children, with a mark before the first and a comma before each other
 unfoldable pub listText : List (List ℕ) → (ℕ → Tree) → ℕ → List ℕ → List ℕ

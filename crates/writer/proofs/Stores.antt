@@ -7,10 +7,7 @@ use native.Mathlib.Numerals.{add-one}
 use native.Mathlib.Omega.{arith}
 use lib.ListN.{length, getD, take, drop, set}
 use lib.Seq.{sets, sets-eq, length-take-le, take-suc}
-
-pub sets-append : (l : List ℕ) (i : ℕ) (a b : List ℕ) → sets (sets l i a) (i + length a) b ≡ sets l i (a ++ b)
-sets-append l i [] b = rw add-zero
-sets-append l i (x ∷ a) b = rw (add-suc, ← suc-add) (sets-append (set l i x) (suc i) a b)
+use Rattle.trees.proofs.Stores.{sets-append}
 
 -- one store behind a run
 pub set-behind : (l : List ℕ) (i x : ℕ) (a : List ℕ) → set (sets l i a) (i + length a) x ≡ sets l i (a ++ (x ∷ []))
@@ -21,7 +18,3 @@ pub copy-more : (l w : List ℕ) (i k : ℕ) → k < length w → set (sets l i 
 copy-more l w i k h =
     let e : length (take k w) ≡ k = length-take-le k w (omega arith) in
     rw (add-one, take-suc w k 0 h) (ap (λ (j : ℕ). set (sets l i (take k w)) (i + j) (getD w k 0)) (sym e) ∙ set-behind l i (getD w k 0) (take k w))
-
--- a run from the front of a list that has room for it
-pub sets-front : (l a : List ℕ) → length a ≤ length l → sets l 0 a ≡ a ++ drop (length a) l
-sets-front l a h = let e : 0 + length a ≡ length a = omega arith in sets-eq a l 0 (omega arith) ∙ ap (λ (k : ℕ). a ++ drop k l) e

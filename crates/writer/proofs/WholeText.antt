@@ -33,7 +33,8 @@ use Rattle.writer.specs.Work.{namesIn, labels, clusterText, Listed, Put}
 use Rattle.writer.proofs.Lengths.{text-length}
 use Rattle.writer.proofs.TableNames.{names-at}
 use Rattle.writer.proofs.RosterNames.{GoodNames, good-names, table-name, table-names}
-use Rattle.writer.proofs.Stores.{set-behind, sets-front}
+use Rattle.trees.proofs.Stores.{sets-front}
+use Rattle.writer.proofs.Stores.{set-behind}
 
 -- two lists of names that agree on a tree's leaves give it one text
 mutual
