@@ -1,21 +1,20 @@
 -- What stands behind a node, read from a place of the text, for each way that it can go on.
-use Prim.Native.Nat.{ℕ, _+_, _-_, _≤_, _<_}
+use Prim.Native.Nat.{ℕ, _+_, _-_}
 use native.Mathlib.Omega.{arith}
-use mathlib.Core.Path.{_≡_, refl, sym, ap, _∙_}
+use mathlib.Core.Path.{_≡_, refl}
 use mathlib.Core.Bool.{Bool, true, false}
-use mathlib.Core.List.{List, [], _∷_, tail}
-use lib.ListN.{length, take, drop}
+use mathlib.Core.List.{List, []}
+use lib.ListN.{drop}
 use lib.Seq.{drop-drop}
 use lib.Dec.{leb}
-use Rattle.trees.specs.Tree.{Behind}
 use Rattle.roster.specs.Bytes.{isName, run}
 use Rattle.roster.specs.Labels.{labelBytes, word, scannedBy, scannedAt}
-use Rattle.reader.specs.Answers.{Answer, andThen}
-use Rattle.reader.specs.Answers.Answer.{parsed, refused}
-use Rattle.reader.specs.Tokens.{nextIs, nextName, blanks, skip, number, numberBehind, secondNumber, firstNumber, numbersBy, numbers, shortName, name, innerNameBy, innerName}
-use Rattle.reader.specs.Core.{between, nameSays, innerWordBy, innerWord}
+use Rattle.reader.specs.Answers.{andThen}
+use Rattle.reader.specs.Answers.Answer.{parsed}
+use Rattle.reader.specs.Tokens.{nextIs, nextName, blanks, skip, number, numberBehind, secondNumber, firstNumber, numbers, shortName, name, innerName}
+use Rattle.reader.specs.Core.{between, nameSays, innerWord}
 use Rattle.reader.specs.declared.answer.Extent.{Extent}
-use Rattle.reader.proofs.Places.{skip-at, tail-at}
+use Rattle.reader.proofs.Places.{skip-to, tail-at}
 
 -- no bytes
 pub between-none : (text : List ℕ) (p : ℕ) → between text (record { from = p; to = p }) ≡ []
@@ -23,13 +22,10 @@ between-none text p = let e : p - p ≡ 0 = omega arith in rw e
 
 -- the blanks from `at` on end at `colon`
 module _ (text : List ℕ) (at colon : ℕ) (skipped : colon ≡ at + blanks (drop at text)) where
-  skip-to : skip (drop at text) ≡ drop colon text
-  skip-to = rw skipped (skip-at text at)
-
   -- the number behind a colon begins behind the blanks
   pub number-behind : numberBehind (drop at text) at ≡ number (drop colon text) colon
   unfolding numberBehind
-  number-behind = rw (skip-to, ← skipped)
+  number-behind = rw (skip-to text at colon skipped, ← skipped)
 
 module _ (text : List ℕ) (at colon : ℕ) (skipped : colon ≡ at + blanks (drop at text)) where
   -- a second number follows a first, or none does

@@ -1,22 +1,19 @@
 -- The whole call: the roster, the text's length and the start are judged before the tree is read.
 use Prim.Native.Nat.{ℕ, _+_, _-_, _*_, _≤_, _<_}
 use native.Mathlib.Omega.{arith}
-use mathlib.Core.Path.{_≡_, refl, sym, ap, _∙_}
-use mathlib.Core.Bool.{Bool, true, false}
+use mathlib.Core.Path.{_≡_, sym}
 use mathlib.Core.List.{List}
 use lib.ListN.{length, drop, length-drop}
-use lib.Dec.{leb}
 use borrow.Author.Tests.{le-leb, lt-leb}
 use Rattle.clusters.specs.Sets.{whole}
-use Rattle.roster.specs.Bytes.{isName, run}
-use Rattle.roster.specs.Labels.{labelBytes, word, padded}
-use Rattle.roster.specs.Roster.{names, faulty, firstFault, position}
-use Rattle.roster.specs.Table.{table, slots}
+use Rattle.roster.specs.Labels.{word}
+use Rattle.roster.specs.Roster.{names, faulty}
+use Rattle.roster.specs.Table.{table}
 use Rattle.roster.specs.Judged.{speciesMost, rosterOf}
 use Rattle.roster.specs.declared.Roster.{Roster}
-use Rattle.roster.proofs.Judging.{read-good, read-faulty, read-room}
+use Rattle.roster.proofs.Judging.{read-good, read-faulty}
 use Rattle.roster.proofs.Names.{word-fits, table-tells}
-use Rattle.reader.specs.Answers.Answer.{parsed, refused}
+use Rattle.reader.specs.Answers.Answer.{refused}
 use Rattle.reader.specs.Reading.{openMost, readTree, readTreeTo}
 use Rattle.reader.specs.Core.{Holds, treeAnswer, ReadsRecord}
 use Rattle.reader.specs.Promise.{textMost, readingOf, answerTo, Reads}

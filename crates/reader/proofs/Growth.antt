@@ -2,7 +2,7 @@
 use Prim.Native.Nat.{ℕ, zero, suc, _+_, _-_, _*_, _^_, _≤_, _<_}
 use native.Mathlib.Omega.{arith}
 use native.Mathlib.Decide.{decLt}
-use mathlib.Core.Path.{_≡_, refl, sym, ap, _∙_}
+use mathlib.Core.Path.{_≡_, refl}
 use mathlib.Core.Bool.{Bool, true, false}
 use mathlib.Core.List.{List, [], _∷_, _++_, tail}
 use lib.ListN.{length, getD, length-append, List·getD-append}
@@ -10,14 +10,14 @@ use lib.Seq.{getD-append-add}
 use lib.Dec.{ltb}
 use borrow.Author.Tests.{ltb-true}
 use Rattle.clusters.specs.Sets.{Apart, single, union, apart, size}
-use Rattle.clusters.proofs.Sets.{single-below, union-below, apart-true, apart-sym, apart-union, union-apart, apart-within, within-union-left, within-union-right}
+use Rattle.clusters.proofs.Sets.{single-below, union-below, apart-true, apart-sym, union-apart, apart-within, within-union-left, within-union-right}
 use Rattle.clusters.proofs.Sizes.{size-apart, size-single}
 use Rattle.trees.specs.Tree.{Tree, Forest, cluster, clusterOf, clusters, clustersOf}
 use Rattle.trees.specs.Tree.Tree.{leaf, node}
 use Rattle.trees.specs.Tree.Forest.{last, more}
 use Rattle.roster.specs.Roster.{position}
 use Rattle.reader.specs.Answers.{Answer, andThen}
-use Rattle.reader.specs.Answers.Answer.{parsed, refused}
+use Rattle.reader.specs.Answers.Answer.{parsed}
 use Rattle.reader.specs.Tokens.{nextIs, nextName, blanks, skip, numbers, name, innerName}
 use Rattle.reader.specs.Reading.{leafNew, leafKnown, leafAt, closing, afterFirst, opened, nodeBy, afterChild, readNode, readForest}
 use Rattle.reader.proofs.Answers.{refused-parsed, andThen-parsed, unexpected-parsed}

@@ -1,28 +1,27 @@
 -- A leaf read from a place of the text, for each way that its name is judged.
-use Prim.Native.Nat.{ℕ, _+_, _*_, _^_, _≤_, _<_}
+use Prim.Native.Nat.{ℕ, _≤_, _<_}
 use native.Mathlib.Omega.{arith}
-use mathlib.Core.Path.{_≡_, refl, sym, ap, _∙_}
+use mathlib.Core.Path.{_≡_, refl, sym, _∙_}
 use mathlib.Core.Bool.{Bool, true, false}
-use mathlib.Core.List.{List, [], _∷_}
+use mathlib.Core.List.{List, []}
 use lib.ListN.{length, drop}
 use lib.Dec.{leb, ltb}
 use borrow.Author.Tests.{leb-true, lt-ltb, le-ltb}
-use Rattle.clusters.specs.Sets.{single, union, apart, size}
+use Rattle.clusters.specs.Sets.{single, union, apart}
 use Rattle.clusters.proofs.Sets.{single-below, union-below, apart-true, apart-sym}
 use Rattle.clusters.proofs.Sizes.{size-apart, size-single, size-le}
-use Rattle.trees.specs.Tree.{Tree, Behind, cluster, clusters}
+use Rattle.trees.specs.Tree.{Tree, cluster, clusters}
 use Rattle.trees.specs.Tree.Tree.{leaf}
 use Rattle.roster.specs.Bytes.{isName, run}
 use Rattle.roster.specs.Labels.{labelBytes, word, padded, scannedBy, scannedAt}
 use Rattle.roster.specs.Roster.{position}
 use Rattle.roster.specs.Table.{slots}
 use Rattle.roster.specs.declared.label.Scanned.{Scanned}
-use Rattle.roster.specs.declared.label.Label.{Label}
 use Rattle.roster.specs.declared.label.Label.the-variants.{Ended, TooLong}
 use Rattle.reader.specs.Answers.{Answer, andThen}
 use Rattle.reader.specs.Answers.Answer.{parsed, refused}
 use Rattle.reader.specs.Tokens.{name, numbers}
-use Rattle.reader.specs.Reading.{leafNew, leafKnown, leafAt}
+use Rattle.reader.specs.Reading.{leafKnown, leafAt}
 use Rattle.reader.specs.Core.{refusal, nameSays, nameFault, behindSays, endedAs, keptAs, Holds, Given, NodeReads}
 use Rattle.reader.specs.declared.answer.Refusal.{Refusal}
 use Rattle.reader.specs.declared.answer.BehindRead.{BehindRead}

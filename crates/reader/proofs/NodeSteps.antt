@@ -1,41 +1,37 @@
 -- One step of reading a node, and of reading a list of nodes, from a place of the text.
-use Prim.Native.Nat.{ℕ, zero, suc, _+_, _-_, _*_, _≤_, _<_}
-use native.Mathlib.Omega.{arith}
-use mathlib.Core.Path.{_≡_, refl, sym, ap, _∙_}
+use Prim.Native.Nat.{ℕ, suc, _+_}
+use mathlib.Core.Path.{_≡_, refl}
 use mathlib.Core.Bool.{Bool, true, false}
-use mathlib.Core.List.{List, [], _∷_, tail}
-use lib.ListN.{length, drop}
+use mathlib.Core.List.{List}
+use lib.ListN.{drop}
 use Rattle.clusters.specs.Sets.{union, within}
 use Rattle.trees.specs.Tree.{Tree, Forest, cluster}
 use Rattle.trees.specs.Tree.Forest.{last, more}
-use Rattle.reader.specs.Answers.{Answer, andThen, unexpected}
+use Rattle.reader.specs.Answers.{Answer, andThen}
 use Rattle.reader.specs.Answers.Answer.{parsed, refused}
 use Rattle.reader.specs.Tokens.{nextIs, nextName, blanks, skip}
-use Rattle.reader.specs.Reading.{leafAt, closing, afterFirst, opened, nodeBy, afterChild, readNode, readForest, complete, ended}
+use Rattle.reader.specs.Reading.{leafAt, closing, afterFirst, afterChild, readNode, readForest, ended}
 use Rattle.reader.specs.Core.{refusal, strayAt, noCommaAt, noCommaBy}
-use Rattle.reader.proofs.Places.{skip-at, tail-at, stray-unexpected}
+use Rattle.reader.proofs.Places.{skip-to, tail-at, stray-unexpected}
 
 -- the blanks from `at` on end at `here`
 module _ (text : List ℕ) (at here : ℕ) (skipped : here ≡ at + blanks (drop at text)) where
-  skip-to : skip (drop at text) ≡ drop here text
-  skip-to = rw skipped (skip-at text at)
-
   module _ (names : List (List ℕ)) (k seen : ℕ) where
     pub node-is-leaf :
         (room : ℕ) → nextName (drop here text) ≡ true → readNode (suc k) names room seen (drop at text) at ≡ leafAt names seen (drop here text) here
     unfolding readNode
-    node-is-leaf room t = rw (skip-to, t, ← skipped)
+    node-is-leaf room t = rw (skip-to text at here skipped, t, ← skipped)
 
     module _ (leafless : nextName (drop here text) ≡ false) where
       pub node-stray :
           (room : ℕ) → nextIs 40 (drop here text) ≡ false → refusal (strayAt (drop here text) here) ≡ readNode (suc k) names room seen (drop at text) at
       unfolding readNode
-      node-stray room t = rw (skip-to, leafless, t, ← skipped) (stray-unexpected (drop here text) here)
+      node-stray room t = rw (skip-to text at here skipped, leafless, t, ← skipped) (stray-unexpected (drop here text) here)
 
       module _ (opens : nextIs 40 (drop here text) ≡ true) where
         pub node-full : refused 8 here ≡ readNode (suc k) names 0 seen (drop at text) at
         unfolding readNode
-        node-full = rw (skip-to, leafless, opens, ← skipped)
+        node-full = rw (skip-to text at here skipped, leafless, opens, ← skipped)
 
         pub node-opened :
             (room : ℕ)
@@ -43,7 +39,7 @@ module _ (text : List ℕ) (at here : ℕ) (skipped : here ≡ at + blanks (drop
             ≡ andThen (readNode k names room seen (drop (here + 1) text) (here + 1))
             (λ t s p. afterFirst (nextIs 44 (skip s)) (nextIs 41 (skip s)) (λ e s p. readForest k names room e s p) seen t (skip s) (p + blanks s))
         unfolding readNode
-        node-opened room = rw (skip-to, leafless, opens, ← skipped, tail-at text here)
+        node-opened room = rw (skip-to text at here skipped, leafless, opens, ← skipped, tail-at text here)
 
   module _ (others : ℕ → List ℕ → ℕ → Answer Forest) (seen : ℕ) (t : Tree) where
     -- behind a first child
@@ -51,14 +47,14 @@ module _ (text : List ℕ) (at here : ℕ) (skipped : here ≡ at + blanks (drop
         nextIs 44 (drop here text) ≡ true
         → afterFirst (nextIs 44 (skip (drop at text))) (nextIs 41 (skip (drop at text))) others seen t (skip (drop at text)) (at + blanks (drop at text))
         ≡ andThen (others (union seen (cluster t)) (drop (here + 1) text) (here + 1)) (λ f s p. closing t f s p)
-    comma-follows c = rw (skip-to, c, ← skipped, tail-at text here)
+    comma-follows c = rw (skip-to text at here skipped, c, ← skipped, tail-at text here)
 
     pub comma-missing :
         nextIs 44 (drop here text) ≡ false
         → refusal (noCommaAt (drop here text) here)
         ≡ afterFirst (nextIs 44 (skip (drop at text))) (nextIs 41 (skip (drop at text))) others seen t (skip (drop at text)) (at + blanks (drop at text))
     unfolding noCommaAt
-    comma-missing c = rw (skip-to, c, ← skipped) (by-byte (nextIs 41 (drop here text)))
+    comma-missing c = rw (skip-to text at here skipped, c, ← skipped) (by-byte (nextIs 41 (drop here text)))
       where
         by-byte : (u : Bool) → refusal (noCommaBy u (drop here text) here) ≡ afterFirst false u others seen t (drop here text) here
         by-byte true = refl
@@ -69,36 +65,36 @@ module _ (text : List ℕ) (at here : ℕ) (skipped : here ≡ at + blanks (drop
         nextIs 44 (drop here text) ≡ true
         → afterChild (nextIs 44 (skip (drop at text))) (nextIs 41 (skip (drop at text))) others seen t (skip (drop at text)) (at + blanks (drop at text))
         ≡ andThen (others (union seen (cluster t)) (drop (here + 1) text) (here + 1)) (λ f s p. parsed (more t f) s p)
-    list-goes-on c = rw (skip-to, c, ← skipped, tail-at text here)
+    list-goes-on c = rw (skip-to text at here skipped, c, ← skipped, tail-at text here)
 
     pub list-closes :
         nextIs 44 (drop here text) ≡ false → nextIs 41 (drop here text) ≡ true
         → afterChild (nextIs 44 (skip (drop at text))) (nextIs 41 (skip (drop at text))) others seen t (skip (drop at text)) (at + blanks (drop at text))
         ≡ parsed (last t) (drop (here + 1) text) (here + 1)
-    list-closes c d = rw (skip-to, c, d, ← skipped, tail-at text here)
+    list-closes c d = rw (skip-to text at here skipped, c, d, ← skipped, tail-at text here)
 
     pub list-stray :
         nextIs 44 (drop here text) ≡ false → nextIs 41 (drop here text) ≡ false
         → refusal (strayAt (drop here text) here)
         ≡ afterChild (nextIs 44 (skip (drop at text))) (nextIs 41 (skip (drop at text))) others seen t (skip (drop at text)) (at + blanks (drop at text))
-    list-stray c d = rw (skip-to, c, d, ← skipped) (stray-unexpected (drop here text) here)
+    list-stray c d = rw (skip-to text at here skipped, c, d, ← skipped) (stray-unexpected (drop here text) here)
 
   -- behind the root
   module _ (needed : ℕ) (t : Tree) where
     pub end-missing :
         nextIs 59 (drop here text) ≡ false
         → refusal (strayAt (drop here text) here) ≡ ended (nextIs 59 (skip (drop at text))) needed t (skip (drop at text)) (at + blanks (drop at text))
-    end-missing c = rw (skip-to, c, ← skipped) (stray-unexpected (drop here text) here)
+    end-missing c = rw (skip-to text at here skipped, c, ← skipped) (stray-unexpected (drop here text) here)
 
     pub species-missing :
         nextIs 59 (drop here text) ≡ true → within needed (cluster t) ≡ false
         → refused 9 here ≡ ended (nextIs 59 (skip (drop at text))) needed t (skip (drop at text)) (at + blanks (drop at text))
-    species-missing c d = rw (skip-to, c, d, ← skipped)
+    species-missing c d = rw (skip-to text at here skipped, c, d, ← skipped)
 
     pub tree-ends :
         nextIs 59 (drop here text) ≡ true → within needed (cluster t) ≡ true
         → ended (nextIs 59 (skip (drop at text))) needed t (skip (drop at text)) (at + blanks (drop at text)) ≡ parsed t (drop (here + 1) text) (here + 1)
-    tree-ends c d = rw (skip-to, c, d, ← skipped, tail-at text here)
+    tree-ends c d = rw (skip-to text at here skipped, c, d, ← skipped, tail-at text here)
 
 -- a list begins with a node
 pub list-begins :

@@ -1,32 +1,32 @@
 -- The ways through reading a node and a list of nodes: what each call told, and what the whole then answers.
-use Prim.Native.Nat.{ℕ, zero, suc, _+_, _-_, _*_, _^_, _≤_, _<_}
+use Prim.Native.Nat.{ℕ, suc, _+_, _-_, _*_, _^_, _≤_, _<_}
 use native.Mathlib.Omega.{arith}
 use mathlib.Core.Path.{_≡_, refl, sym, ap, ap₂, _∙_}
-use mathlib.Core.Bool.{Bool, true, false}
-use mathlib.Core.List.{List, [], _∷_, _++_}
+use mathlib.Core.Bool.{true, false}
+use mathlib.Core.List.{List, _++_}
 use lib.ListN.{length, drop, length-append, length-drop}
 use lib.Seq.{sets, length-sets}
 use Rattle.clusters.specs.Sets.{union, size}
 use Rattle.clusters.proofs.Sets.{union-below, union-assoc, apart-sym}
 use Rattle.clusters.proofs.Sizes.{size-apart, size-le}
-use Rattle.trees.specs.Tree.{Tree, Forest, Behind, cluster, clusterOf, clusters, clustersOf}
+use Rattle.trees.specs.Tree.{Forest, cluster, clusterOf, clusters, clustersOf}
 use Rattle.trees.specs.Tree.Tree.{node}
 use Rattle.trees.specs.Tree.Forest.{last, more}
 use Rattle.reader.specs.Answers.{Answer, andThen}
 use Rattle.reader.specs.Answers.Answer.{parsed, refused}
 use Rattle.reader.specs.Tokens.{nextIs, nextName, blanks, skip, numbers, innerName}
 use Rattle.reader.specs.Reading.{leafAt, closing, afterFirst, afterChild, readNode, readForest}
-use Rattle.reader.specs.Core.{refusal, strayAt, noCommaAt, behindSays, innerWord, endedAs, keptAs, Holds, Given, NodeReads, ListReads, ReadsLeaf, ReadsNode, ReadsList}
+use Rattle.reader.specs.Core.{strayAt, noCommaAt, behindSays, innerWord, endedAs, keptAs, Holds, Given, NodeReads, ListReads, ReadsLeaf, ReadsNode, ReadsList}
 use Rattle.reader.specs.declared.answer.Refusal.{Refusal}
 use Rattle.reader.specs.declared.answer.Cursor.{Cursor}
 use Rattle.reader.specs.declared.answer.BehindRead.{BehindRead}
 use Rattle.reader.specs.declared.answer.NodeRead.{NodeRead}
 use Rattle.reader.specs.declared.answer.NodeRead.the-variants.{Node, Refused as NoNode}
 use Rattle.reader.proofs.Growth.{Fresh, readNode-fresh, readForest-fresh}
-use Rattle.reader.proofs.NodeAnswers.{node-refused, list-refused, refused-node, refused-list, TreeRead, ForestRead, node-read, list-read, read-node, read-list, node-ended}
+use Rattle.reader.proofs.NodeAnswers.{node-refused, list-refused, refused-node, refused-list, TreeRead, ForestRead, list-read, read-node, read-list, node-ended}
 use Rattle.reader.proofs.NodeSteps.{node-is-leaf, node-stray, node-full, node-opened, comma-follows, comma-missing, list-begins, list-goes-on, list-closes, list-stray}
 use Rattle.reader.proofs.Places.{next-is-inside}
-use Rattle.reader.proofs.Rests.{Advances, readNode-advances, readForest-advances}
+use Rattle.reader.proofs.Rests.{readNode-advances, readForest-advances}
 use Rattle.trees.proofs.Stores.{sets-append}
 
 -- ---- what a reading leaves room for
@@ -91,20 +91,57 @@ pub given-moved :
     → Given count table found seen stored → Given count table found (m .seen) (m .stored)
 given-moved count table found m at seen stored is g = rw is g
 
--- a reading of a node, or of a list of nodes, that was called from a place on
-pub record NodeCall (text table : List ℕ) (count at seen stored room : ℕ) (before : List ℕ) : Type 0 where
-  pub cursor : Cursor
-  pub cursor-is : cursor ≡ record { at = at; seen = seen; stored = stored }
-  pub after : List ℕ
-  pub result : NodeRead
-  pub reads : ReadsNode text table count cursor room before after result
+-- what a reading of a node, or of a list of nodes, is handed
+pub record Asked : Type 0 where
+  pub text : List ℕ
+  pub table : List ℕ
+  pub count : ℕ
+  pub at : ℕ
+  pub seen : ℕ
+  pub stored : ℕ
+  pub room : ℕ
+  pub before : List ℕ
 
-pub record ListCall (text table : List ℕ) (count at seen stored room : ℕ) (before : List ℕ) : Type 0 where
+-- a first child is read behind the parenthesis at `here`
+abbrev pub inside : Asked → ℕ → Asked
+inside a here = record {
+  text = a .text;
+  table = a .table;
+  count = a .count;
+  at = here + 1;
+  seen = a .seen;
+  stored = a .stored;
+  room = a .room - 1;
+  before = a .before;
+}
+
+-- the next one is read behind the comma at `comma`, where the one before left the cursor and the table
+abbrev pub onwards : Asked → Cursor → List ℕ → ℕ → Asked
+onwards a next mid comma = record {
+  text = a .text;
+  table = a .table;
+  count = a .count;
+  at = comma + 1;
+  seen = next .seen;
+  stored = next .stored;
+  room = a .room;
+  before = mid;
+}
+
+-- such a reading was called, and answered
+pub record NodeCall (a : Asked) : Type 0 where
   pub cursor : Cursor
-  pub cursor-is : cursor ≡ record { at = at; seen = seen; stored = stored }
+  pub cursor-is : cursor ≡ record { at = a .at; seen = a .seen; stored = a .stored }
   pub after : List ℕ
   pub result : NodeRead
-  pub reads : ReadsList text table count cursor room before after result
+  pub reads : ReadsNode (a .text) (a .table) (a .count) cursor (a .room) (a .before) after result
+
+pub record ListCall (a : Asked) : Type 0 where
+  pub cursor : Cursor
+  pub cursor-is : cursor ≡ record { at = a .at; seen = a .seen; stored = a .stored }
+  pub after : List ℕ
+  pub result : NodeRead
+  pub reads : ReadsList (a .text) (a .table) (a .count) cursor (a .room) (a .before) after result
 
 -- it read something, and the blanks behind that end at `here`
 pub record Followed (text : List ℕ) (result : NodeRead) : Type 0 where
@@ -115,12 +152,12 @@ pub record Followed (text : List ℕ) (result : NodeRead) : Type 0 where
   pub passed : here ≡ next .at + blanks (drop (next .at) text)
 
 -- a parenthesis opens at `here`, behind blanks, and there is room for it
-pub record Opening (text : List ℕ) (at room : ℕ) : Type 0 where
+pub record Opening (a : Asked) : Type 0 where
   pub here : ℕ
-  pub skipped : here ≡ at + blanks (drop at text)
-  pub leafless : nextName (drop here text) ≡ false
-  pub opens : nextIs 40 (drop here text) ≡ true
-  pub some : room ≡ 0 → ⊥
+  pub skipped : here ≡ a .at + blanks (drop (a .at) (a .text))
+  pub leafless : nextName (drop here (a .text)) ≡ false
+  pub opens : nextIs 40 (drop here (a .text)) ≡ true
+  pub some : a .room ≡ 0 → ⊥
 
 module _ (text table : List ℕ) (count : ℕ) (names : List (List ℕ)) (holds : Holds names count table) where
   -- ---- what a call told
@@ -173,15 +210,20 @@ module _ (text table : List ℕ) (count : ℕ) (names : List (List ℕ)) (holds 
         grown count table before after seen stored (next .seen) (next .stored) (clusterOf (h .forest)) (clustersOf (h .forest)) g f (h .seen-is) (h .stored-is)
         (h .table-is)
 
+-- ---- the ways
+
+module _ (a : Asked) (names : List (List ℕ)) (holds : Holds names (a .count) (a .table)) where
+  open Asked a using (text, table, count, at, seen, stored, room, before)
+
   -- ---- a node that is a leaf, or none
 
-  module _ (at seen stored : ℕ) (before : List ℕ) (here : ℕ) (skipped : here ≡ at + blanks (drop at text)) (room k : ℕ) (deep : 2 * (length text - at) < k) where
+  module _ (here : ℕ) (skipped : here ≡ at + blanks (drop at text)) (k : ℕ) (deep : 2 * (length text - at) < k) where
     pub leaf-way :
         (m : Cursor) (after : List ℕ) (r : NodeRead) → nextName (drop here text) ≡ true → m ≡ record { at = here; seen = seen; stored = stored }
         → ReadsLeaf text table count m before after r → NodeReads text seen stored before after (readNode k names room seen (drop at text) at) r
     leaf-way m after r t m-is reads =
         let e : k ≡ suc (k - 1) = omega arith in
-        rw (e, node-is-leaf text at here skipped names (k - 1) seen room t) (leaf-told m here seen stored m-is before after r reads)
+        rw (e, node-is-leaf text at here skipped names (k - 1) seen room t) (leaf-told text table count names holds m here seen stored m-is before after r reads)
 
     pub stray-way :
         (after : List ℕ) (f : Refusal) → nextName (drop here text) ≡ false → nextIs 40 (drop here text) ≡ false → f ≡ strayAt (drop here text) here
@@ -201,7 +243,7 @@ module _ (text table : List ℕ) (count : ℕ) (names : List (List ℕ)) (holds 
 
   -- ---- a node that opens a parenthesis
 
-  module _ (at seen stored room : ℕ) (before : List ℕ) (o : Opening text at room) where
+  module _ (o : Opening a) where
     open Opening o using (here, skipped, leafless, opens, some)
 
     pub opening-inside : here < length text
@@ -217,18 +259,18 @@ module _ (text table : List ℕ) (count : ℕ) (names : List (List ℕ)) (holds 
           (λ t s p.
           afterFirst (nextIs 44 (skip s)) (nextIs 41 (skip s)) (λ e s p. readForest (k - 1) names (room - 1) e s p) seen t (skip s) (p + blanks s))
       opened-is =
-          let a : k ≡ suc (k - 1) = omega arith in
-          let b : room ≡ suc (room - 1) = let h = some in omega arith in
-          ap₂ (λ (a b : ℕ). readNode a names b seen (drop at text) at) a b
+          let deeper : k ≡ suc (k - 1) = omega arith in
+          let roomier : room ≡ suc (room - 1) = let h = some in omega arith in
+          ap₂ (λ (i j : ℕ). readNode i names j seen (drop at text) at) deeper roomier
           ∙ node-opened text at here skipped names (k - 1) seen leafless opens (room - 1)
 
       -- its first child
-      module _ (one : NodeCall text table count (here + 1) seen stored (room - 1) before) where
+      module _ (one : NodeCall (inside a here)) where
         open NodeCall one using (cursor, cursor-is, after as mid, result, reads)
 
         first-told : NodeReads text seen stored before mid (readNode (k - 1) names (room - 1) seen (drop (here + 1) text) (here + 1)) result
         first-told =
-            node-told cursor (here + 1) seen stored cursor-is before mid result (room - 1) (k - 1) reads (let f = first-falls in omega arith)
+            node-told text table count names holds cursor (here + 1) seen stored cursor-is before mid result (room - 1) (k - 1) reads (let f = first-falls in omega arith)
 
         pub first-refused-way :
             (e : Refusal) → result ≡ NoNode e → NodeReads text seen stored before mid (readNode k names room seen (drop at text) at) result
@@ -264,15 +306,15 @@ module _ (text table : List ℕ) (count : ℕ) (names : List (List ℕ)) (holds 
               (comma-missing text (next .at) comma passed (λ e s p. readForest (k - 1) names (room - 1) e s p) seen (first .tree) t))
 
           pub first-grown : Given count table before seen stored → Grown count table mid (next .seen) (next .stored)
-          first-grown g = tree-grown (here + 1) seen stored before mid mask next (room - 1) (k - 1) g first
+          first-grown g = tree-grown text table count names holds (here + 1) seen stored before mid mask next (room - 1) (k - 1) g first
 
           -- a comma, and the other children
           module _ (t : nextIs 44 (drop comma text) ≡ true) where
             pub comma-inside : (here + 1 < comma) × (comma < length text)
             comma-inside =
                 let i = next-is-inside text comma 44 t in
-                let a = tree-moves (here + 1) seen stored before mid mask next (room - 1) (k - 1) first in
-                (omega (arith, passed, a .0), i)
+                let m = tree-moves text table count names holds (here + 1) seen stored before mid mask next (room - 1) (k - 1) first in
+                (omega (arith, passed, m .0), i)
 
             pub others-fall : 2 * (length text - (comma + 1)) + 1 < 2 * (length text - at) - 1
             others-fall = let i = comma-inside in omega (arith, i .0, i .1, skipped)
@@ -288,13 +330,13 @@ module _ (text table : List ℕ) (count : ℕ) (names : List (List ℕ)) (holds 
                 andThen (readForest (k - 1) names (room - 1) e (drop (comma + 1) text) (comma + 1)) (λ f s p. closing (first .tree) f s p))
                 (sym (first .seen-is))
 
-            module _ (rest : ListCall text table count (comma + 1) (next .seen) (next .stored) (room - 1) mid) where
+            module _ (rest : ListCall (onwards (inside a here) next mid comma)) where
               open ListCall rest using (cursor as cursor₂, cursor-is as cursor₂-is, after as mid₂, result as result₂, reads as reads₂)
 
               others-told :
                   ListReads text (next .seen) (next .stored) mid mid₂ (readForest (k - 1) names (room - 1) (next .seen) (drop (comma + 1) text) (comma + 1)) result₂
               others-told =
-                  list-told cursor₂ (comma + 1) (next .seen) (next .stored) cursor₂-is mid mid₂ result₂ (room - 1) (k - 1) reads₂
+                  list-told text table count names holds cursor₂ (comma + 1) (next .seen) (next .stored) cursor₂-is mid mid₂ result₂ (room - 1) (k - 1) reads₂
                   (let f = others-fall in omega arith)
 
               pub others-refused-way :
@@ -318,7 +360,7 @@ module _ (text table : List ℕ) (count : ℕ) (names : List (List ℕ)) (holds 
 
                 pub others-grown : Given count table before seen stored → Grown count table mid₂ (end .seen) (end .stored)
                 others-grown g =
-                    forest-grown (comma + 1) (next .seen) (next .stored) mid mid₂ mask₂ end (room - 1) (k - 1) (first-grown g .given) others
+                    forest-grown text table count names holds (comma + 1) (next .seen) (next .stored) mid mid₂ mask₂ end (room - 1) (k - 1) (first-grown g .given) others
 
                 closing-is :
                     andThen (andThen (innerName (drop (end .at) text) (end .at)) (λ w s p. numbers w s p)) (λ b s p. parsed (node (first .tree) (others .forest) b) s p)
@@ -358,20 +400,20 @@ module _ (text table : List ℕ) (count : ℕ) (names : List (List ℕ)) (holds 
 
   -- ---- a list of nodes, up to its closing parenthesis
 
-  module _ (at seen stored room : ℕ) (before : List ℕ) (k : ℕ) (deep : 2 * (length text - at) + 1 < k) where
+  module _ (k : ℕ) (deep : 2 * (length text - at) + 1 < k) where
     begins-is :
         readForest k names room seen (drop at text) at
         ≡ andThen (readNode (k - 1) names room seen (drop at text) at)
         (λ t s p. afterChild (nextIs 44 (skip s)) (nextIs 41 (skip s)) (λ e s p. readForest (k - 1) names room e s p) seen t (skip s) (p + blanks s))
     begins-is =
         let e : k ≡ suc (k - 1) = omega arith in
-        ap (λ (a : ℕ). readForest a names room seen (drop at text) at) e ∙ list-begins (k - 1) names room seen (drop at text) at
+        ap (λ (i : ℕ). readForest i names room seen (drop at text) at) e ∙ list-begins (k - 1) names room seen (drop at text) at
 
-    module _ (one : NodeCall text table count at seen stored room before) where
+    module _ (one : NodeCall a) where
       open NodeCall one using (cursor, cursor-is, after as mid, result, reads)
 
       child-told : NodeReads text seen stored before mid (readNode (k - 1) names room seen (drop at text) at) result
-      child-told = node-told cursor at seen stored cursor-is before mid result room (k - 1) reads (omega arith)
+      child-told = node-told text table count names holds cursor at seen stored cursor-is before mid result room (k - 1) reads (omega arith)
 
       pub child-refused-way :
           (e : Refusal) → result ≡ NoNode e → ListReads text seen stored before mid (readForest k names room seen (drop at text) at) result
@@ -424,15 +466,15 @@ module _ (text table : List ℕ) (count : ℕ) (names : List (List ℕ)) (holds 
             }))
 
         pub child-grown : Given count table before seen stored → Grown count table mid (next .seen) (next .stored)
-        child-grown g = tree-grown at seen stored before mid mask next room (k - 1) g child
+        child-grown g = tree-grown text table count names holds at seen stored before mid mask next room (k - 1) g child
 
         -- a comma, and more
         module _ (t : nextIs 44 (drop here text) ≡ true) where
           pub rest-falls : 2 * (length text - (here + 1)) + 1 < 2 * (length text - at)
           rest-falls =
               let i = next-is-inside text here 44 t in
-              let a = tree-moves at seen stored before mid mask next room (k - 1) child in
-              omega (arith, passed, a .0)
+              let m = tree-moves text table count names holds at seen stored before mid mask next room (k - 1) child in
+              omega (arith, passed, m .0)
 
           goes-on-is :
               readForest k names room seen (drop at text) at
@@ -444,12 +486,12 @@ module _ (text table : List ℕ) (count : ℕ) (names : List (List ℕ)) (holds 
               (λ (e : ℕ). andThen (readForest (k - 1) names room e (drop (here + 1) text) (here + 1)) (λ f s p. parsed (more (child .tree) f) s p))
               (sym (child .seen-is))
 
-          module _ (others : ListCall text table count (here + 1) (next .seen) (next .stored) room mid) where
+          module _ (others : ListCall (onwards a next mid here)) where
             open ListCall others using (cursor as cursor₂, cursor-is as cursor₂-is, after as mid₂, result as result₂, reads as reads₂)
 
             rest-told : ListReads text (next .seen) (next .stored) mid mid₂ (readForest (k - 1) names room (next .seen) (drop (here + 1) text) (here + 1)) result₂
             rest-told =
-                list-told cursor₂ (here + 1) (next .seen) (next .stored) cursor₂-is mid mid₂ result₂ room (k - 1) reads₂ (let f = rest-falls in omega arith)
+                list-told text table count names holds cursor₂ (here + 1) (next .seen) (next .stored) cursor₂-is mid mid₂ result₂ room (k - 1) reads₂ (let f = rest-falls in omega arith)
 
             pub rest-refused-way :
                 (e : Refusal) → result₂ ≡ NoNode e → ListReads text seen stored before mid₂ (readForest k names room seen (drop at text) at) result₂

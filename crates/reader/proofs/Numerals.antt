@@ -1,21 +1,19 @@
 -- A number read from a place of the text, for each way that it ends.
 use Prim.Native.Nat.{ℕ, zero, suc, _+_, _-_, _≤_, _<_}
 use native.Mathlib.Omega.{arith}
-use mathlib.Core.Path.{_≡_, refl, sym, ap, _∙_}
+use mathlib.Core.Path.{_≡_, sym, _∙_}
 use mathlib.Core.Bool.{Bool, true, false}
-use mathlib.Core.List.{List, [], _∷_}
-use lib.ListN.{length, take, drop}
+use mathlib.Core.List.{List}
+use lib.ListN.{length, drop}
 use lib.Seq.{drop-drop}
-use lib.Dec.{leb}
 use borrow.Author.Tests.{le-leb, lt-leb}
 use Rattle.roster.specs.Bytes.{isDigit, run}
-use Rattle.reader.specs.Answers.{Answer, unexpected}
 use Rattle.reader.specs.Answers.Answer.{parsed, refused}
-use Rattle.reader.specs.Tokens.{nextIs, limited, numeral, pointed, fraction, digits, number}
+use Rattle.reader.specs.Tokens.{nextIs, numeral, pointed, digits, number}
 use Rattle.reader.specs.Core.{refusal, strayAt, between}
 use Rattle.reader.specs.declared.answer.Refusal.{Refusal}
 use Rattle.roster.proofs.Runs.{run-left}
-use Rattle.reader.proofs.Places.{stray-unexpected, next-is-inside}
+use Rattle.reader.proofs.Places.{stray-unexpected}
 
 module _ (text : List ℕ) (at n : ℕ) where
   -- n bytes are few enough, or too many

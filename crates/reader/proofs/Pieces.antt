@@ -1,17 +1,15 @@
 -- A piece of reading that answered, and the piece behind it: a refusal is passed up, and what was read is read on from.
 use Prim.Native.Nat.{ℕ}
-use mathlib.Core.Path.{_≡_, refl, sym, ap, _∙_}
+use mathlib.Core.Path.{_≡_}
 use mathlib.Core.List.{List}
 use lib.ListN.{drop}
-use Rattle.trees.specs.Tree.{Behind}
 use Rattle.roster.specs.declared.label.Label.{Label}
 use Rattle.roster.specs.declared.label.Label.the-variants.{Ended, TooLong}
 use Rattle.reader.specs.Answers.{Answer, andThen}
 use Rattle.reader.specs.Answers.Answer.{parsed, refused}
-use Rattle.reader.specs.Core.{refusal, between, numberSays, numberFault, behindSays, behindFault, nameSays, nameFault}
+use Rattle.reader.specs.Core.{refusal, between, numberSays, numberFault, nameSays, nameFault}
 use Rattle.reader.specs.declared.answer.Refusal.{Refusal}
 use Rattle.reader.specs.declared.answer.Extent.{Extent}
-use Rattle.reader.specs.declared.answer.Extents.{Extents}
 use Rattle.reader.specs.declared.answer.NumberRead.{NumberRead}
 use Rattle.reader.specs.declared.answer.NumberRead.the-variants.{Number, Refused as NoNumber}
 

@@ -1,25 +1,25 @@
 -- A text from a place on: what is skipped, the byte that stands there, and what stands behind it.
-use Prim.Native.Nat.{ℕ, zero, suc, _+_, _-_, _≤_, _<_}
+use Prim.Native.Nat.{ℕ, suc, _+_, _-_, _≤_, _<_}
 use native.Mathlib.Omega.{arith}
-use native.Mathlib.Numerals.{add-one}
 use mathlib.Core.Path.{_≡_, refl, sym, ap, _∙_}
-use mathlib.Core.Bool.{Bool, true, false}
+use mathlib.Core.Bool.{true, false}
 use mathlib.Core.List.{List, [], _∷_, tail}
 use lib.ListN.{length, getD, drop, drop-of-length-le, length-drop}
 use lib.Seq.{drop-cons, drop-drop}
 use lib.Dec.{eqb}
-use borrow.Author.Tests.{eqb-true}
 use Rattle.roster.specs.Bytes.{isName, isBlank, run}
-use Rattle.reader.specs.Answers.{Answer, unexpected}
-use Rattle.reader.specs.Answers.Answer.{parsed, refused}
+use Rattle.reader.specs.Answers.{unexpected}
 use Rattle.reader.specs.Tokens.{nextIs, nextName, blanks, skip}
 use Rattle.reader.specs.Core.{refusal, strayAt}
 
 module _ (text : List ℕ) (at : ℕ) where
   -- the text behind the blanks begins where they end
-  pub skip-at : skip (drop at text) ≡ drop (at + blanks (drop at text)) text
+  skip-at : skip (drop at text) ≡ drop (at + blanks (drop at text)) text
   unfolding skip blanks
   skip-at = drop-drop (run isBlank (drop at text)) at text
+
+  pub skip-to : (here : ℕ) → here ≡ at + blanks (drop at text) → skip (drop at text) ≡ drop here text
+  skip-to here skipped = rw skipped skip-at
 
   -- behind the byte that stands at a place
   pub tail-at : tail (drop at text) ≡ drop (at + 1) text

@@ -1,23 +1,20 @@
 -- The ways through reading a tree, and what its record comes to.
-use Prim.Native.Nat.{ℕ, zero, suc, _+_, _-_, _*_, _^_, _≤_, _<_}
+use Prim.Native.Nat.{ℕ, _+_, _-_, _*_, _^_, _≤_, _<_}
 use native.Mathlib.Omega.{arith}
-use mathlib.Core.Path.{_≡_, refl, sym, ap, _∙_}
+use mathlib.Core.Path.{_≡_, ap, _∙_}
 use mathlib.Core.Bool.{Bool, true, false}
-use mathlib.Core.List.{List, [], _∷_}
-use lib.ListN.{length, getD, take, drop, replicate, length-drop, length-replicate}
-use lib.Seq.{sets, length-sets}
-use lib.Dec.{leb}
+use mathlib.Core.List.{List}
+use lib.ListN.{length, getD, take, drop, replicate, length-replicate}
+use lib.Seq.{length-sets}
 use lib.Pow.{pow-mono, pow-pos}
-use borrow.Author.Tests.{le-leb, lt-leb}
-use Rattle.clusters.specs.Sets.{whole, within, union, size}
+use Rattle.clusters.specs.Sets.{within}
 use Rattle.clusters.proofs.Sizes.{size-le}
 use Rattle.trees.specs.Tree.{Tree, cluster, clusters}
 use Rattle.trees.specs.Records.{recordOf}
-use Rattle.reader.specs.Answers.{Answer, andThen}
 use Rattle.reader.specs.Answers.Answer.{parsed, refused}
 use Rattle.reader.specs.Tokens.{nextIs, blanks, skip}
-use Rattle.reader.specs.Reading.{openMost, readNode, complete, ended, readTreeTo, readTree}
-use Rattle.reader.specs.Core.{refusal, strayAt, nodeFault, Holds, Given, NodeReads, treeAnswer, ReadsNode, ReadsTree}
+use Rattle.reader.specs.Reading.{readNode, complete, ended}
+use Rattle.reader.specs.Core.{strayAt, nodeFault, Holds, Given, NodeReads, treeAnswer, ReadsTree}
 use Rattle.reader.specs.Promise.{readingOf}
 use Rattle.reader.specs.declared.Reading.{Reading}
 use Rattle.reader.specs.declared.answer.Refusal.{Refusal}
@@ -28,14 +25,27 @@ use Rattle.reader.proofs.Answers.{refused-parsed, andThen-parsed, unexp
 use Rattle.reader.proofs.Growth.{Fresh, FreshTree, readNode-fresh}
 use Rattle.reader.proofs.NodeAnswers.{node-refused, refused-node, TreeRead, node-read, read-node}
 use Rattle.reader.proofs.NodeSteps.{end-missing, species-missing, tree-ends}
-use Rattle.reader.proofs.NodeWays.{NodeCall, Followed, node-told}
+use Rattle.reader.proofs.NodeWays.{Asked, NodeCall, Followed, node-told}
 use Rattle.trees.proofs.Stores.{getD-sets, take-sets}
 
 -- ---- a node and `;`
 
+-- a tree is read from its start on: nothing was met before
+abbrev pub fromStart : List ℕ → List ℕ → ℕ → ℕ → ℕ → List ℕ → Asked
+fromStart text table count start room before = record {
+  text = text;
+  table = table;
+  count = count;
+  at = start;
+  seen = 0;
+  stored = 0;
+  room = room;
+  before = before;
+}
+
 module _
     (text table : List ℕ) (count : ℕ) (names : List (List ℕ)) (holds : Holds names count table) (start needed room : ℕ) (before : List ℕ) (k : ℕ)
-    (deep : 2 * (length text - start) < k) (one : NodeCall text table count start 0 0 room before)
+    (deep : 2 * (length text - start) < k) (one : NodeCall (fromStart text table count start room before))
   where
     open NodeCall one using (cursor, cursor-is, after as mid, result, reads)
 

@@ -1,22 +1,17 @@
+-- `answer::label_refusal` meets its contract, case by case.
 use borrow.Author.Needs.{needs}
 use Rattle.reader.proofs.answer.label_refusal.Statement.{statement}
 use Rattle.reader.proofs.answer.label_refusal.Tie as tie
-use Rattle.reader.proofs.answer.label_refusal.Reads as reads
-use Rattle.reader.proofs.answer.label_refusal.Lts as lts
 
--- src/answer.rt:101:26
 enum-known-label : tie.Need-enum-known-label
 enum-known-label c = search needs
 
--- src/answer.rt:105:37
 enum-told : tie.Need-enum-told
 enum-told c = search needs
 
--- src/answer.rt:97:1
 returns : tie.Need-returns
 returns c = rw (c .before .label .given .1)
 
--- src/answer.rt:97:1
 returns-2 : tie.Need-returns-2
 returns-2 c = rw (c .enum-told .given .1)
 

@@ -1,22 +1,17 @@
+-- `answer::node_refusal` meets its contract, case by case.
 use borrow.Author.Needs.{needs}
 use Rattle.reader.proofs.answer.node_refusal.Statement.{statement}
 use Rattle.reader.proofs.answer.node_refusal.Tie as tie
-use Rattle.reader.proofs.answer.node_refusal.Reads as reads
-use Rattle.reader.proofs.answer.node_refusal.Lts as lts
 
--- src/answer.rt:88:27
 enum-known-read : tie.Need-enum-known-read
 enum-known-read c = search needs
 
--- src/answer.rt:89:48
 enum-told : tie.Need-enum-told
 enum-told c = search needs
 
--- src/answer.rt:84:1
 returns : tie.Need-returns
 returns c = search needs
 
--- src/answer.rt:84:1
 returns-2 : tie.Need-returns-2
 returns-2 c = rw (c .enum-told .given .1)
 

@@ -1,8 +1,7 @@
 -- `behind::behind` meets its contract: no colon, two, or one.
 use borrow.Author.Needs.{needs}
 use native.Mathlib.Omega.{arith}
-use mathlib.Core.Path.{_≡_, sym, ap, _∙_}
-use lib.ListN.{drop}
+use mathlib.Core.Path.{sym, _∙_}
 use borrow.Author.Tests.{not-true, not-false}
 use Rattle.reader.proofs.Places.{next-is-inside}
 use Rattle.reader.proofs.BehindNodes.{between-none, numbers-missing, support-alone, distance-first}
@@ -52,9 +51,8 @@ support-requires c κs = search needs
 
 returns-2 : tie.Need-returns-2
 returns-2 c = λ w.
-    let text = c .before .before .before .before .before .before .before .before .before .args .text .now in
     c .support .ensures w
-    ∙ support-alone text (c .before .before .before .before .before .before .before .before .before .args .at) (c .before .before .before .before .before .before .before .blanks .result) (c .before .before .before .before .before .before .before .blanks .ensures) (c .before .before .before .before .blanks2 .result) (c .before .before .before .before .blanks2 .ensures) w
+    ∙ support-alone (c .before .before .before .before .before .before .before .before .before .args .text .now) (c .before .before .before .before .before .before .before .before .before .args .at) (c .before .before .before .before .before .before .before .blanks .result) (c .before .before .before .before .before .before .before .blanks .ensures) (c .before .before .before .before .blanks2 .result) (c .before .before .before .before .blanks2 .ensures) w
     (sym (c .before .before .before .before .before .before .next-is .ensures) ∙ not-false _ (c .before .before .before .before .before .if1 .left)) (c .before .nothing3 .result) (c .before .nothing3 .ensures) (sym (c .before .before .before .next-is2 .ensures) ∙ c .before .before .if2 .taken)
 
 distance-requires : tie.Need-distance-requires

@@ -1,6 +1,6 @@
 -- `behind::closing` meets its contract: the numbers stand behind the name.
 use borrow.Author.Needs.{needs}
-use mathlib.Core.Path.{_≡_, sym, ap, _∙_}
+use mathlib.Core.Path.{_∙_}
 use lib.ListN.{drop}
 use Rattle.reader.specs.Tokens.{numbers}
 use Rattle.reader.specs.Core.{innerWord}

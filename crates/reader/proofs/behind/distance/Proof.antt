@@ -1,9 +1,7 @@
 -- `behind::distance` meets its contract: the number is the distance, and a colon behind it brings the support.
 use borrow.Author.Needs.{needs}
 use native.Mathlib.Omega.{arith}
-use mathlib.Core.Path.{_≡_, sym, ap, _∙_}
-use lib.ListN.{drop}
-use Rattle.reader.specs.Answers.Answer.{parsed}
+use mathlib.Core.Path.{sym, _∙_}
 use Rattle.reader.specs.Tokens.{nextIs, skip, secondNumber}
 use Rattle.reader.specs.Core.{between}
 use Rattle.reader.proofs.Places.{next-is-inside}

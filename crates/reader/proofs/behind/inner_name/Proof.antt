@@ -1,6 +1,6 @@
 -- `behind::inner_name` meets its contract: a name behind the blanks, or none.
 use borrow.Author.Needs.{needs}
-use mathlib.Core.Path.{_≡_, sym, ap, _∙_}
+use mathlib.Core.Path.{sym, _∙_}
 use Rattle.reader.proofs.BehindNodes.{inner-named, inner-nameless}
 use Rattle.reader.proofs.behind.inner_name.Statement.{statement}
 use Rattle.reader.proofs.behind.inner_name.Tie as tie

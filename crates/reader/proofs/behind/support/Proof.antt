@@ -1,6 +1,5 @@
 -- `behind::support` meets its contract: the number behind the colon is the support.
 use borrow.Author.Needs.{needs}
-use mathlib.Core.Path.{_≡_, sym, ap, _∙_}
 use Rattle.reader.specs.Answers.Answer.{parsed}
 use Rattle.reader.specs.Core.{between}
 use Rattle.reader.proofs.Pieces.{number-refused, number-read}

@@ -1,43 +1,32 @@
+-- `leaf::ended` meets its contract: a refusal leaves the table, and a node stores its cluster.
 use borrow.Author.Needs.{needs}
 use Rattle.reader.proofs.leaf.ended.Statement.{statement}
 use Rattle.reader.proofs.leaf.ended.Tie as tie
-use Rattle.reader.proofs.leaf.ended.Reads as reads
-use Rattle.reader.proofs.leaf.ended.Lts as lts
-use Rattle.reader.proofs.answer.behind_refusal.Reads as behind-refusal-reads
 
--- src/leaf.rt:26:28
 enum-known-read : tie.Need-enum-known-read
 enum-known-read c = search needs
 
--- src/leaf.rt:27:34
 enum-told : tie.Need-enum-told
 enum-told c = search needs
 
--- src/leaf.rt:27:34
 behind-refusal-requires : tie.Need-behind-refusal-requires
 behind-refusal-requires c κs = search needs
 
--- src/leaf.rt:27:9
 returns : tie.Need-returns
 returns c = (rw (c .behind-refusal .ensures, c .before .enum-told .given .1), rw (c .before .enum-told .given .1))
 
--- src/leaf.rt:29:5
 mul-found : tie.Need-mul-found
 mul-found c = search needs
 
--- src/leaf.rt:29:5
 slice-write-found : tie.Need-slice-write-found
 slice-write-found c = search needs
 
--- src/leaf.rt:35:21
 add-t8 : tie.Need-add-t8
 add-t8 c = search needs
 
--- src/leaf.rt:21:1
 same-length : tie.Need-same-length
 same-length c = search needs
 
--- src/leaf.rt:21:1
 returns-2 : tie.Need-returns-2
 returns-2 c = (rw (c .before .read .given .1), rw (c .before .read .given .1))
 

@@ -1,8 +1,6 @@
 -- `leaf::leaf` meets its contract: a name too long, unknown, repeated, or a leaf with what stands behind it.
 use borrow.Author.Needs.{needs}
-use native.Mathlib.Omega.{arith}
-use mathlib.Core.Path.{_≡_, refl, sym, ap, _∙_}
-use lib.ListN.{drop}
+use mathlib.Core.Path.{sym, _∙_}
 use borrow.Author.Tests.{not-true, not-false}
 use Rattle.reader.specs.Core.{ReadsLeaf}
 use Rattle.reader.proofs.NodeAnswers.{node-refused}

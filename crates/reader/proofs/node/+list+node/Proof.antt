@@ -1,17 +1,16 @@
 -- `node::node` and `node::list` meet their contracts: one way of `NodeWays` for each return.
 -- The text that is left falls with each call; a list counts one more than the node that it begins with.
-use Prim.Native.Nat.{ℕ, _+_, _-_, _*_, _<_, _≤_}
+use Prim.Native.Nat.{ℕ, _+_, _-_, _*_, _<_}
 use native.Mathlib.Omega.{arith}
 use mathlib.Core.Path.{_≡_, refl, sym, ap, _∙_}
 use mathlib.Core.Bool.{true, false}
-use mathlib.Core.List.{List}
 use lib.ListN.{length, drop}
 use borrow.Author.Needs.{needs}
 use borrow.Author.Tests.{not-true, not-false}
 use Rattle.reader.specs.Tokens.{nextIs, nextName}
-use Rattle.reader.specs.Core.{Given, Holds, ReadsNode, ReadsList}
+use Rattle.reader.specs.Core.{ReadsNode, ReadsList}
 use Rattle.reader.specs.declared.answer.Cursor.{Cursor}
-use Rattle.reader.proofs.NodeWays.{NodeCall, ListCall, Followed, Opening, Grown, given-moved, leaf-way, stray-way, full-way, opening-inside, first-falls, first-refused-way, no-comma-way, first-grown, comma-inside, others-fall, others-refused-way, others-grown, node-way, child-refused-way, list-stray-way, last-way, child-grown, rest-falls, rest-refused-way, more-way}
+use Rattle.reader.proofs.NodeWays.{Asked, inside, onwards, NodeCall, ListCall, Followed, Opening, given-moved, leaf-way, stray-way, full-way, opening-inside, first-falls, first-refused-way, no-comma-way, first-grown, others-fall, others-refused-way, others-grown, node-way, child-refused-way, list-stray-way, last-way, child-grown, rest-falls, rest-refused-way, more-way}
 use Rattle.reader.proofs.Places.{next-is-inside}
 use borrow.Fn.Kinds.{In}
 use borrow.Fn.PlainCycle.{Measures, is, falls, and}
@@ -100,7 +99,19 @@ node-calls t = (
   ended-reads.Learnt,
 )
 
-abbrev list-child : (t : ℕ) (c : list-lts.After-slice-known2 (list-calls t) (list-at t) list.Post) → NodeCall (c .before .before .before .before .before .before .before .args .text .now) (c .before .before .before .before .before .before .before .args .table .now) (c .before .before .before .before .before .before .before .args .count) (c .before .before .before .before .before .before .before .args .c .at) (c .before .before .before .before .before .before .before .args .c .seen) (c .before .before .before .before .before .before .before .args .c .stored) (c .before .before .before .before .before .before .before .args .room) (c .before .before .before .before .before .before .before .args .found .now)
+abbrev list-asked : (t : ℕ) (c : list-lts.Start (list-calls t) (list-at t) list.Post) → Asked
+list-asked t c = record {
+  text = c .args .text .now;
+  table = c .args .table .now;
+  count = c .args .count;
+  at = c .args .c .at;
+  seen = c .args .c .seen;
+  stored = c .args .c .stored;
+  room = c .args .room;
+  before = c .args .found .now;
+}
+
+abbrev list-child : (t : ℕ) (c : list-lts.After-slice-known2 (list-calls t) (list-at t) list.Post) → NodeCall (list-asked t (c .before .before .before .before .before .before .before))
 list-child t c = record {
   cursor = c .before .before .before .before .before .before .before .args .c;
   cursor-is = refl;
@@ -124,7 +135,7 @@ list-comma t c = sym (c .before .next-is .ensures) ∙ c .if1 .taken
 list-no-comma : (t : ℕ) (c : list-lts.Else1 (list-calls t) (list-at t) list.Post) → nextIs 44 (drop (c .before .before .blanks .result) (c .before .before .before .before .before .before .before .before .before .before .before .before .before .args .text .now)) ≡ false
 list-no-comma t c = sym (c .before .next-is .ensures) ∙ c .if1 .left
 
-abbrev list-rest : (t : ℕ) (c : list-lts.After-slice-known3 (list-calls t) (list-at t) list.Post) → ListCall (c .before .before .before .before .before .before .before .before .before .before .before .before .before .before .before .before .before .before .args .text .now) (c .before .before .before .before .before .before .before .before .before .before .before .before .before .before .before .before .before .before .args .table .now) (c .before .before .before .before .before .before .before .before .before .before .before .before .before .before .before .before .before .before .args .count) (c .before .before .before .before .before .before .before .blanks .result + 1) (c .before .before .before .before .before .before .before .before .before .first .given .0 .1 .0 .seen) (c .before .before .before .before .before .before .before .before .before .first .given .0 .1 .0 .stored) (c .before .before .before .before .before .before .before .before .before .before .before .before .before .before .before .before .before .before .args .room) (c .before .before .before .before .before .before .before .before .before .before .before .before .before .node .last .1 .1 .1 .1 .1 .0)
+abbrev list-rest : (t : ℕ) (c : list-lts.After-slice-known3 (list-calls t) (list-at t) list.Post) → ListCall (onwards (list-asked t (c .before .before .before .before .before .before .before .before .before .before .before .before .before .before .before .before .before .before)) (c .before .before .before .before .before .before .before .before .before .first .given .0 .1 .0) (c .before .before .before .before .before .before .before .before .before .before .before .before .before .node .last .1 .1 .1 .1 .1 .0) (c .before .before .before .before .before .before .before .blanks .result))
 list-rest t c = record {
   cursor = c .before .before .before .before .moved .result;
   cursor-is = c .before .before .before .before .moved .ensures;
@@ -147,7 +158,7 @@ list-same-length t c = search needs
 
 list-returns : (t : ℕ) → list-lts.Need-returns (list-calls t) (list-at t) list.Post
 unfolding ReadsList
-list-returns t c = λ names holds k deep. child-refused-way (c .before .before .before .before .before .before .before .before .before .args .text .now) (c .before .before .before .before .before .before .before .before .before .args .table .now) (c .before .before .before .before .before .before .before .before .before .args .count) names holds (c .before .before .before .before .before .before .before .before .before .args .c .at) (c .before .before .before .before .before .before .before .before .before .args .c .seen) (c .before .before .before .before .before .before .before .before .before .args .c .stored) (c .before .before .before .before .before .before .before .before .before .args .room) (c .before .before .before .before .before .before .before .before .before .args .found .now) k deep (list-child t (c .before .before)) _ (c .enum-told .given .1)
+list-returns t c = λ names holds k deep. child-refused-way (list-asked t (c .before .before .before .before .before .before .before .before .before)) names holds k deep (list-child t (c .before .before)) _ (c .enum-told .given .1)
 
 list-blanks-requires : (t : ℕ) → list-lts.Need-blanks-requires (list-calls t) (list-at t) list.Post
 list-blanks-requires t c κs = search needs
@@ -163,8 +174,8 @@ list-moved-requires t c κs = search needs
 
 list-list-requires : (t : ℕ) → list-lts.Need-list-requires (list-calls t) (list-at t) list.Post
 list-list-requires t c κs =
-    let falls-to = rest-falls (c .before .before .before .before .before .before .before .before .before .before .before .before .before .before .before .args .text .now) (c .before .before .before .before .before .before .before .before .before .before .before .before .before .before .before .args .table .now) (c .before .before .before .before .before .before .before .before .before .before .before .before .before .before .before .args .count) (c .before .before .before .before .before .before .before .before .before .before .before .before .before .before .before .pre .1 .holds .0) (c .before .before .before .before .before .before .before .before .before .before .before .before .before .before .before .pre .1 .holds .1) (c .before .before .before .before .before .before .before .before .before .before .before .before .before .before .before .args .c .at) (c .before .before .before .before .before .before .before .before .before .before .before .before .before .before .before .args .c .seen) (c .before .before .before .before .before .before .before .before .before .before .before .before .before .before .before .args .c .stored) (c .before .before .before .before .before .before .before .before .before .before .before .before .before .before .before .args .room) (c .before .before .before .before .before .before .before .before .before .before .before .before .before .before .before .args .found .now) (2 * (length (c .before .before .before .before .before .before .before .before .before .before .before .before .before .before .before .args .text .now) - c .before .before .before .before .before .before .before .before .before .before .before .before .before .before .before .args .c .at) + 2) (omega arith) (list-child t (c .before .before .before .before .before .before .before .before)) (list-followed t (c .before .before .before .before)) (list-comma t (c .before .before)) in
-    let more = child-grown (c .before .before .before .before .before .before .before .before .before .before .before .before .before .before .before .args .text .now) (c .before .before .before .before .before .before .before .before .before .before .before .before .before .before .before .args .table .now) (c .before .before .before .before .before .before .before .before .before .before .before .before .before .before .before .args .count) (c .before .before .before .before .before .before .before .before .before .before .before .before .before .before .before .pre .1 .holds .0) (c .before .before .before .before .before .before .before .before .before .before .before .before .before .before .before .pre .1 .holds .1) (c .before .before .before .before .before .before .before .before .before .before .before .before .before .before .before .args .c .at) (c .before .before .before .before .before .before .before .before .before .before .before .before .before .before .before .args .c .seen) (c .before .before .before .before .before .before .before .before .before .before .before .before .before .before .before .args .c .stored) (c .before .before .before .before .before .before .before .before .before .before .before .before .before .before .before .args .room) (c .before .before .before .before .before .before .before .before .before .before .before .before .before .before .before .args .found .now) (2 * (length (c .before .before .before .before .before .before .before .before .before .before .before .before .before .before .before .args .text .now) - c .before .before .before .before .before .before .before .before .before .before .before .before .before .before .before .args .c .at) + 2) (omega arith) (list-child t (c .before .before .before .before .before .before .before .before)) (list-followed t (c .before .before .before .before)) (c .before .before .before .before .before .before .before .before .before .before .before .before .before .before .before .pre .1) in
+    let falls-to = rest-falls (list-asked t (c .before .before .before .before .before .before .before .before .before .before .before .before .before .before .before)) (c .before .before .before .before .before .before .before .before .before .before .before .before .before .before .before .pre .1 .holds .0) (c .before .before .before .before .before .before .before .before .before .before .before .before .before .before .before .pre .1 .holds .1) (2 * (length (c .before .before .before .before .before .before .before .before .before .before .before .before .before .before .before .args .text .now) - c .before .before .before .before .before .before .before .before .before .before .before .before .before .before .before .args .c .at) + 2) (omega arith) (list-child t (c .before .before .before .before .before .before .before .before)) (list-followed t (c .before .before .before .before)) (list-comma t (c .before .before)) in
+    let more = child-grown (list-asked t (c .before .before .before .before .before .before .before .before .before .before .before .before .before .before .before)) (c .before .before .before .before .before .before .before .before .before .before .before .before .before .before .before .pre .1 .holds .0) (c .before .before .before .before .before .before .before .before .before .before .before .before .before .before .before .pre .1 .holds .1) (2 * (length (c .before .before .before .before .before .before .before .before .before .before .before .before .before .before .before .args .text .now) - c .before .before .before .before .before .before .before .before .before .before .before .before .before .before .before .args .c .at) + 2) (omega arith) (list-child t (c .before .before .before .before .before .before .before .before)) (list-followed t (c .before .before .before .before)) (c .before .before .before .before .before .before .before .before .before .before .before .before .before .before .before .pre .1) in
     let place : c .before .moved .result .at ≡ c .before .before .before .before .blanks .result + 1 = ap (λ (m : Cursor). m .at) (c .before .moved .ensures) in
     let e = c .before .before .before .before .before .before .before .before .before .before .before .before .before .before .before .pre .0 in
     (omega arith, given-moved _ _ _ _ _ _ _ (c .before .moved .ensures) (more .given))
@@ -181,7 +192,7 @@ list-same-length-2 t c = search needs
 list-returns-2 : (t : ℕ) → list-lts.Need-returns-2 (list-calls t) (list-at t) list.Post
 unfolding ReadsList
 list-returns-2 t c = λ names holds k deep.
-    rest-refused-way (c .before .before .before .before .before .before .before .before .before .before .before .before .before .before .before .before .before .before .before .before .args .text .now) (c .before .before .before .before .before .before .before .before .before .before .before .before .before .before .before .before .before .before .before .before .args .table .now) (c .before .before .before .before .before .before .before .before .before .before .before .before .before .before .before .before .before .before .before .before .args .count) names holds (c .before .before .before .before .before .before .before .before .before .before .before .before .before .before .before .before .before .before .before .before .args .c .at) (c .before .before .before .before .before .before .before .before .before .before .before .before .before .before .before .before .before .before .before .before .args .c .seen) (c .before .before .before .before .before .before .before .before .before .before .before .before .before .before .before .before .before .before .before .before .args .c .stored) (c .before .before .before .before .before .before .before .before .before .before .before .before .before .before .before .before .before .before .before .before .args .room) (c .before .before .before .before .before .before .before .before .before .before .before .before .before .before .before .before .before .before .before .before .args .found .now) k deep (list-child t (c .before .before .before .before .before .before .before .before .before .before .before .before .before)) (list-followed t (c .before .before .before .before .before .before .before .before .before)) (list-comma t (c .before .before .before .before .before .before .before)) (list-rest t (c .before .before)) _ (c .enum-told2 .given .1)
+    rest-refused-way (list-asked t (c .before .before .before .before .before .before .before .before .before .before .before .before .before .before .before .before .before .before .before .before)) names holds k deep (list-child t (c .before .before .before .before .before .before .before .before .before .before .before .before .before)) (list-followed t (c .before .before .before .before .before .before .before .before .before)) (list-comma t (c .before .before .before .before .before .before .before)) (list-rest t (c .before .before)) _ (c .enum-told2 .given .1)
 
 list-union-requires : (t : ℕ) → list-lts.Need-union-requires (list-calls t) (list-at t) list.Post
 list-union-requires t c κs = search needs
@@ -192,7 +203,7 @@ list-same-length-3 t c = search needs
 list-returns-3 : (t : ℕ) → list-lts.Need-returns-3 (list-calls t) (list-at t) list.Post
 unfolding ReadsList
 list-returns-3 t c = λ names holds k deep.
-    more-way (c .before .before .before .before .before .before .before .before .before .before .before .before .before .before .before .before .before .before .before .before .before .before .args .text .now) (c .before .before .before .before .before .before .before .before .before .before .before .before .before .before .before .before .before .before .before .before .before .before .args .table .now) (c .before .before .before .before .before .before .before .before .before .before .before .before .before .before .before .before .before .before .before .before .before .before .args .count) names holds (c .before .before .before .before .before .before .before .before .before .before .before .before .before .before .before .before .before .before .before .before .before .before .args .c .at) (c .before .before .before .before .before .before .before .before .before .before .before .before .before .before .before .before .before .before .before .before .before .before .args .c .seen) (c .before .before .before .before .before .before .before .before .before .before .before .before .before .before .before .before .before .before .before .before .before .before .args .c .stored) (c .before .before .before .before .before .before .before .before .before .before .before .before .before .before .before .before .before .before .before .before .before .before .args .room) (c .before .before .before .before .before .before .before .before .before .before .before .before .before .before .before .before .before .before .before .before .before .before .args .found .now) k deep (list-child t (c .before .before .before .before .before .before .before .before .before .before .before .before .before .before .before)) (list-followed t (c .before .before .before .before .before .before .before .before .before .before .before)) (list-comma t (c .before .before .before .before .before .before .before .before .before)) (list-rest t (c .before .before .before .before)) _ _ (c .union .result) (c .before .before .others .given .1)
+    more-way (list-asked t (c .before .before .before .before .before .before .before .before .before .before .before .before .before .before .before .before .before .before .before .before .before .before)) names holds k deep (list-child t (c .before .before .before .before .before .before .before .before .before .before .before .before .before .before .before)) (list-followed t (c .before .before .before .before .before .before .before .before .before .before .before)) (list-comma t (c .before .before .before .before .before .before .before .before .before)) (list-rest t (c .before .before .before .before)) _ _ (c .union .result) (c .before .before .others .given .1)
     (c .union .ensures)
 
 list-next-is-requires-2 : (t : ℕ) → list-lts.Need-next-is-requires-2 (list-calls t) (list-at t) list.Post
@@ -210,7 +221,7 @@ list-same-length-4 t c = search needs
 list-returns-4 : (t : ℕ) → list-lts.Need-returns-4 (list-calls t) (list-at t) list.Post
 unfolding ReadsList
 list-returns-4 t c = λ names holds k deep.
-    last-way (c .before .before .before .before .before .before .before .before .before .before .before .before .before .before .before .before .args .text .now) (c .before .before .before .before .before .before .before .before .before .before .before .before .before .before .before .before .args .table .now) (c .before .before .before .before .before .before .before .before .before .before .before .before .before .before .before .before .args .count) names holds (c .before .before .before .before .before .before .before .before .before .before .before .before .before .before .before .before .args .c .at) (c .before .before .before .before .before .before .before .before .before .before .before .before .before .before .before .before .args .c .seen) (c .before .before .before .before .before .before .before .before .before .before .before .before .before .before .before .before .args .c .stored) (c .before .before .before .before .before .before .before .before .before .before .before .before .before .before .before .before .args .room) (c .before .before .before .before .before .before .before .before .before .before .before .before .before .before .before .before .args .found .now) k deep (list-child t (c .before .before .before .before .before .before .before .before .before)) (list-followed t (c .before .before .before .before .before)) (c .moved2 .result) (list-no-comma t (c .before .before .before)) (sym (c .before .before .next-is2 .ensures) ∙ c .before .if2 .taken)
+    last-way (list-asked t (c .before .before .before .before .before .before .before .before .before .before .before .before .before .before .before .before)) names holds k deep (list-child t (c .before .before .before .before .before .before .before .before .before)) (list-followed t (c .before .before .before .before .before)) (c .moved2 .result) (list-no-comma t (c .before .before .before)) (sym (c .before .before .next-is2 .ensures) ∙ c .before .if2 .taken)
     (c .moved2 .ensures)
 
 list-stray-requires : (t : ℕ) → list-lts.Need-stray-requires (list-calls t) (list-at t) list.Post
@@ -222,13 +233,25 @@ list-same-length-5 t c = search needs
 list-returns-5 : (t : ℕ) → list-lts.Need-returns-5 (list-calls t) (list-at t) list.Post
 unfolding ReadsList
 list-returns-5 t c = λ names holds k deep.
-    list-stray-way (c .before .before .before .before .before .before .before .before .before .before .before .before .before .before .before .before .args .text .now) (c .before .before .before .before .before .before .before .before .before .before .before .before .before .before .before .before .args .table .now) (c .before .before .before .before .before .before .before .before .before .before .before .before .before .before .before .before .args .count) names holds (c .before .before .before .before .before .before .before .before .before .before .before .before .before .before .before .before .args .c .at) (c .before .before .before .before .before .before .before .before .before .before .before .before .before .before .before .before .args .c .seen) (c .before .before .before .before .before .before .before .before .before .before .before .before .before .before .before .before .args .c .stored) (c .before .before .before .before .before .before .before .before .before .before .before .before .before .before .before .before .args .room) (c .before .before .before .before .before .before .before .before .before .before .before .before .before .before .before .before .args .found .now) k deep (list-child t (c .before .before .before .before .before .before .before .before .before)) (list-followed t (c .before .before .before .before .before)) (c .stray .result) (list-no-comma t (c .before .before .before)) (sym (c .before .before .next-is2 .ensures) ∙ c .before .if2 .left)
+    list-stray-way (list-asked t (c .before .before .before .before .before .before .before .before .before .before .before .before .before .before .before .before)) names holds k deep (list-child t (c .before .before .before .before .before .before .before .before .before)) (list-followed t (c .before .before .before .before .before)) (c .stray .result) (list-no-comma t (c .before .before .before)) (sym (c .before .before .next-is2 .ensures) ∙ c .before .if2 .left)
     (c .stray .ensures)
+
+abbrev node-asked : (t : ℕ) (c : node-lts.Start (node-calls t) (node-at t) node.Post) → Asked
+node-asked t c = record {
+  text = c .args .text .now;
+  table = c .args .table .now;
+  count = c .args .count;
+  at = c .args .c .at;
+  seen = c .args .c .seen;
+  stored = c .args .c .stored;
+  room = c .args .room;
+  before = c .args .found .now;
+}
 
 node-leafless : (t : ℕ) (c : node-lts.Else1 (node-calls t) (node-at t) node.Post) → nextName (drop (c .before .before .blanks .result) (c .before .before .before .before .before .before .args .text .now)) ≡ false
 node-leafless t c = sym (c .before .next-name .ensures) ∙ c .if1 .left
 
-abbrev node-opening : (t : ℕ) (c : node-lts.Else3 (node-calls t) (node-at t) node.Post) → Opening (c .before .before .before .before .before .before .before .before .before .args .text .now) (c .before .before .before .before .before .before .before .before .before .args .c .at) (c .before .before .before .before .before .before .before .before .before .args .room)
+abbrev node-opening : (t : ℕ) (c : node-lts.Else3 (node-calls t) (node-at t) node.Post) → Opening (node-asked t (c .before .before .before .before .before .before .before .before .before))
 node-opening t c = record {
   here = c .before .before .before .before .before .blanks .result;
   skipped = c .before .before .before .before .before .blanks .ensures;
@@ -237,7 +260,7 @@ node-opening t c = record {
   some = c .if3 .left;
 }
 
-abbrev node-first : (t : ℕ) (c : node-lts.After-slice-known3 (node-calls t) (node-at t) node.Post) → NodeCall (c .before .before .before .before .before .before .before .before .before .before .before .before .before .before .args .text .now) (c .before .before .before .before .before .before .before .before .before .before .before .before .before .before .args .table .now) (c .before .before .before .before .before .before .before .before .before .before .before .before .before .before .args .count) (c .before .before .before .before .before .before .before .before .before .before .blanks .result + 1) (c .before .before .before .before .before .before .before .before .before .before .before .before .before .before .args .c .seen) (c .before .before .before .before .before .before .before .before .before .before .before .before .before .before .args .c .stored) (c .before .before .before .before .before .before .before .before .before .before .before .before .before .before .args .room - 1) (c .before .before .before .before .before .before .before .before .before .before .before .before .before .before .args .found .now)
+abbrev node-first : (t : ℕ) (c : node-lts.After-slice-known3 (node-calls t) (node-at t) node.Post) → NodeCall (inside (node-asked t (c .before .before .before .before .before .before .before .before .before .before .before .before .before .before)) (c .before .before .before .before .before .before .before .before .before .before .blanks .result))
 node-first t c = record {
   cursor = c .before .before .before .before .moved2 .result;
   cursor-is = c .before .before .before .before .moved2 .ensures;
@@ -258,7 +281,7 @@ node-followed t c = record {
 node-comma : (t : ℕ) (c : node-lts.Else4 (node-calls t) (node-at t) node.Post) → nextIs 44 (drop (c .before .before .blanks2 .result) (c .before .before .before .before .before .before .before .before .before .before .before .before .before .before .before .before .before .before .before .before .args .text .now)) ≡ true
 node-comma t c = sym (c .before .next-is2 .ensures) ∙ not-false _ (c .if4 .left)
 
-abbrev node-others : (t : ℕ) (c : node-lts.After-slice-known4 (node-calls t) (node-at t) node.Post) → ListCall (c .before .before .before .before .before .before .before .before .before .before .before .before .before .before .before .before .before .before .before .before .before .before .before .before .before .args .text .now) (c .before .before .before .before .before .before .before .before .before .before .before .before .before .before .before .before .before .before .before .before .before .before .before .before .before .args .table .now) (c .before .before .before .before .before .before .before .before .before .before .before .before .before .before .before .before .before .before .before .before .before .before .before .before .before .args .count) (c .before .before .before .before .before .before .before .blanks2 .result + 1) (c .before .before .before .before .before .before .before .before .before .first .given .0 .1 .0 .seen) (c .before .before .before .before .before .before .before .before .before .first .given .0 .1 .0 .stored) (c .before .before .before .before .before .before .before .before .before .before .before .before .before .before .before .before .before .before .before .before .before .before .before .before .before .args .room - 1) (c .before .before .before .before .before .before .before .before .before .before .before .before .before .node .last .1 .1 .1 .1 .1 .0)
+abbrev node-others : (t : ℕ) (c : node-lts.After-slice-known4 (node-calls t) (node-at t) node.Post) → ListCall (onwards (inside (node-asked t (c .before .before .before .before .before .before .before .before .before .before .before .before .before .before .before .before .before .before .before .before .before .before .before .before .before)) (c .before .before .before .before .before .before .before .before .before .before .before .before .before .before .before .before .before .before .before .before .before .blanks .result)) (c .before .before .before .before .before .before .before .before .before .first .given .0 .1 .0) (c .before .before .before .before .before .before .before .before .before .before .before .before .before .node .last .1 .1 .1 .1 .1 .0) (c .before .before .before .before .before .before .before .blanks2 .result))
 node-others t c = record {
   cursor = c .before .before .before .before .moved3 .result;
   cursor-is = c .before .before .before .before .moved3 .ensures;
@@ -285,7 +308,7 @@ node-same-length t c = search needs
 node-returns : (t : ℕ) → node-lts.Need-returns (node-calls t) (node-at t) node.Post
 unfolding ReadsNode
 node-returns t c = λ names holds k deep.
-    leaf-way (c .before .before .before .before .before .before .before .before .before .before .before .args .text .now) (c .before .before .before .before .before .before .before .before .before .before .before .args .table .now) (c .before .before .before .before .before .before .before .before .before .before .before .args .count) names holds (c .before .before .before .before .before .before .before .before .before .before .before .args .c .at) (c .before .before .before .before .before .before .before .before .before .before .before .args .c .seen) (c .before .before .before .before .before .before .before .before .before .before .before .args .c .stored) (c .before .before .before .before .before .before .before .before .before .before .before .args .found .now) (c .before .before .before .before .before .before .before .blanks .result) (c .before .before .before .before .before .before .before .blanks .ensures) (c .before .before .before .before .before .before .before .before .before .before .before .args .room) k deep (c .before .before .before .before .moved .result) _ (c .before .before .leaf .result)
+    leaf-way (node-asked t (c .before .before .before .before .before .before .before .before .before .before .before)) names holds (c .before .before .before .before .before .before .before .blanks .result) (c .before .before .before .before .before .before .before .blanks .ensures) k deep (c .before .before .before .before .moved .result) _ (c .before .before .leaf .result)
     (sym (c .before .before .before .before .before .before .next-name .ensures) ∙ c .before .before .before .before .before .if1 .taken) (c .before .before .before .before .moved .ensures) (c .before .before .leaf .ensures)
 
 node-next-is-requires : (t : ℕ) → node-lts.Need-next-is-requires (node-calls t) (node-at t) node.Post
@@ -297,17 +320,17 @@ node-stray-requires t c κs = search needs
 node-returns-2 : (t : ℕ) → node-lts.Need-returns-2 (node-calls t) (node-at t) node.Post
 unfolding ReadsNode
 node-returns-2 t c = λ names holds k deep.
-    stray-way (c .before .before .before .before .before .before .before .before .before .args .text .now) (c .before .before .before .before .before .before .before .before .before .args .table .now) (c .before .before .before .before .before .before .before .before .before .args .count) names holds (c .before .before .before .before .before .before .before .before .before .args .c .at) (c .before .before .before .before .before .before .before .before .before .args .c .seen) (c .before .before .before .before .before .before .before .before .before .args .c .stored) (c .before .before .before .before .before .before .before .before .before .args .found .now) (c .before .before .before .before .before .blanks .result) (c .before .before .before .before .before .blanks .ensures) (c .before .before .before .before .before .before .before .before .before .args .room) k deep _ (c .stray .result) (node-leafless t (c .before .before .before))
+    stray-way (node-asked t (c .before .before .before .before .before .before .before .before .before)) names holds (c .before .before .before .before .before .blanks .result) (c .before .before .before .before .before .blanks .ensures) k deep _ (c .stray .result) (node-leafless t (c .before .before .before))
     (sym (c .before .before .next-is .ensures) ∙ not-true _ (c .before .if2 .taken)) (c .stray .ensures)
 
 node-returns-3 : (t : ℕ) → node-lts.Need-returns-3 (node-calls t) (node-at t) node.Post
 unfolding ReadsNode
 node-returns-3 t c = λ names holds k deep.
-    full-way (c .before .before .before .before .before .before .before .before .before .args .text .now) (c .before .before .before .before .before .before .before .before .before .args .table .now) (c .before .before .before .before .before .before .before .before .before .args .count) names holds (c .before .before .before .before .before .before .before .before .before .args .c .at) (c .before .before .before .before .before .before .before .before .before .args .c .seen) (c .before .before .before .before .before .before .before .before .before .args .c .stored) (c .before .before .before .before .before .before .before .before .before .args .found .now) (c .before .before .before .before .before .blanks .result) (c .before .before .before .before .before .blanks .ensures) (c .before .before .before .before .before .before .before .before .before .args .room) k deep _ (node-leafless t (c .before .before .before))
+    full-way (node-asked t (c .before .before .before .before .before .before .before .before .before)) names holds (c .before .before .before .before .before .blanks .result) (c .before .before .before .before .before .blanks .ensures) k deep _ (node-leafless t (c .before .before .before))
     (sym (c .before .before .next-is .ensures) ∙ not-false _ (c .before .if2 .left)) (c .if3 .taken)
 
 node-add-moved : (t : ℕ) → node-lts.Need-add-moved (node-calls t) (node-at t) node.Post
-node-add-moved t c = let h = opening-inside (c .before .before .before .before .before .before .before .before .before .args .text .now) (c .before .before .before .before .before .before .before .before .before .args .table .now) (c .before .before .before .before .before .before .before .before .before .args .count) (c .before .before .before .before .before .before .before .before .before .pre .1 .holds .0) (c .before .before .before .before .before .before .before .before .before .pre .1 .holds .1) (c .before .before .before .before .before .before .before .before .before .args .c .at) (c .before .before .before .before .before .before .before .before .before .args .c .seen) (c .before .before .before .before .before .before .before .before .before .args .c .stored) (c .before .before .before .before .before .before .before .before .before .args .room) (c .before .before .before .before .before .before .before .before .before .args .found .now) (node-opening t c) in omega arith
+node-add-moved t c = let h = opening-inside (node-asked t (c .before .before .before .before .before .before .before .before .before)) (c .before .before .before .before .before .before .before .before .before .pre .1 .holds .0) (c .before .before .before .before .before .before .before .before .before .pre .1 .holds .1) (node-opening t c) in omega arith
 
 node-moved-requires-2 : (t : ℕ) → node-lts.Need-moved-requires-2 (node-calls t) (node-at t) node.Post
 node-moved-requires-2 t c κs = search needs
@@ -317,7 +340,7 @@ node-sub-node t c = search needs
 
 node-node-requires : (t : ℕ) → node-lts.Need-node-requires (node-calls t) (node-at t) node.Post
 node-node-requires t c κs =
-    let falls-to = first-falls (c .before .before .before .before .before .before .before .before .before .before .before .args .text .now) (c .before .before .before .before .before .before .before .before .before .before .before .args .table .now) (c .before .before .before .before .before .before .before .before .before .before .before .args .count) (c .before .before .before .before .before .before .before .before .before .before .before .pre .1 .holds .0) (c .before .before .before .before .before .before .before .before .before .before .before .pre .1 .holds .1) (c .before .before .before .before .before .before .before .before .before .before .before .args .c .at) (c .before .before .before .before .before .before .before .before .before .before .before .args .c .seen) (c .before .before .before .before .before .before .before .before .before .before .before .args .c .stored) (c .before .before .before .before .before .before .before .before .before .before .before .args .room) (c .before .before .before .before .before .before .before .before .before .before .before .args .found .now) (node-opening t (c .before .before)) in
+    let falls-to = first-falls (node-asked t (c .before .before .before .before .before .before .before .before .before .before .before)) (c .before .before .before .before .before .before .before .before .before .before .before .pre .1 .holds .0) (c .before .before .before .before .before .before .before .before .before .before .before .pre .1 .holds .1) (node-opening t (c .before .before)) in
     let place : c .before .moved2 .result .at ≡ c .before .before .before .before .before .before .before .blanks .result + 1 = ap (λ (m : Cursor). m .at) (c .before .moved2 .ensures) in
     let e = c .before .before .before .before .before .before .before .before .before .before .before .pre .0 in
     (omega arith, given-moved _ _ _ _ _ _ _ (c .before .moved2 .ensures) (c .before .before .before .before .before .before .before .before .before .before .before .pre .1))
@@ -334,7 +357,7 @@ node-same-length-2 t c = search needs
 node-returns-4 : (t : ℕ) → node-lts.Need-returns-4 (node-calls t) (node-at t) node.Post
 unfolding ReadsNode
 node-returns-4 t c = λ names holds k deep.
-    first-refused-way (c .before .before .before .before .before .before .before .before .before .before .before .before .before .before .before .before .args .text .now) (c .before .before .before .before .before .before .before .before .before .before .before .before .before .before .before .before .args .table .now) (c .before .before .before .before .before .before .before .before .before .before .before .before .before .before .before .before .args .count) names holds (c .before .before .before .before .before .before .before .before .before .before .before .before .before .before .before .before .args .c .at) (c .before .before .before .before .before .before .before .before .before .before .before .before .before .before .before .before .args .c .seen) (c .before .before .before .before .before .before .before .before .before .before .before .before .before .before .before .before .args .c .stored) (c .before .before .before .before .before .before .before .before .before .before .before .before .before .before .before .before .args .room) (c .before .before .before .before .before .before .before .before .before .before .before .before .before .before .before .before .args .found .now) (node-opening t (c .before .before .before .before .before .before .before)) k deep (node-first t (c .before .before)) _ (c .enum-told .given .1)
+    first-refused-way (node-asked t (c .before .before .before .before .before .before .before .before .before .before .before .before .before .before .before .before)) names holds (node-opening t (c .before .before .before .before .before .before .before)) k deep (node-first t (c .before .before)) _ (c .enum-told .given .1)
 
 node-blanks-requires-2 : (t : ℕ) → node-lts.Need-blanks-requires-2 (node-calls t) (node-at t) node.Post
 node-blanks-requires-2 t c κs = search needs
@@ -351,7 +374,7 @@ node-same-length-3 t c = search needs
 node-returns-5 : (t : ℕ) → node-lts.Need-returns-5 (node-calls t) (node-at t) node.Post
 unfolding ReadsNode
 node-returns-5 t c = λ names holds k deep.
-    no-comma-way (c .before .before .before .before .before .before .before .before .before .before .before .before .before .before .before .before .before .before .before .before .before .args .text .now) (c .before .before .before .before .before .before .before .before .before .before .before .before .before .before .before .before .before .before .before .before .before .args .table .now) (c .before .before .before .before .before .before .before .before .before .before .before .before .before .before .before .before .before .before .before .before .before .args .count) names holds (c .before .before .before .before .before .before .before .before .before .before .before .before .before .before .before .before .before .before .before .before .before .args .c .at) (c .before .before .before .before .before .before .before .before .before .before .before .before .before .before .before .before .before .before .before .before .before .args .c .seen) (c .before .before .before .before .before .before .before .before .before .before .before .before .before .before .before .before .before .before .before .before .before .args .c .stored) (c .before .before .before .before .before .before .before .before .before .before .before .before .before .before .before .before .before .before .before .before .before .args .room) (c .before .before .before .before .before .before .before .before .before .before .before .before .before .before .before .before .before .before .before .before .before .args .found .now) (node-opening t (c .before .before .before .before .before .before .before .before .before .before .before .before)) k deep (node-first t (c .before .before .before .before .before .before .before)) (node-followed t (c .before .before .before)) (c .no-comma .result)
+    no-comma-way (node-asked t (c .before .before .before .before .before .before .before .before .before .before .before .before .before .before .before .before .before .before .before .before .before)) names holds (node-opening t (c .before .before .before .before .before .before .before .before .before .before .before .before)) k deep (node-first t (c .before .before .before .before .before .before .before)) (node-followed t (c .before .before .before)) (c .no-comma .result)
     (sym (c .before .before .next-is2 .ensures) ∙ not-true _ (c .before .if4 .taken)) (c .no-comma .ensures)
 
 node-add-moved-2 : (t : ℕ) → node-lts.Need-add-moved-2 (node-calls t) (node-at t) node.Post
@@ -365,8 +388,8 @@ node-sub-list t c = search needs
 
 node-list-requires : (t : ℕ) → node-lts.Need-list-requires (node-calls t) (node-at t) node.Post
 node-list-requires t c κs =
-    let falls-to = others-fall (c .before .before .before .before .before .before .before .before .before .before .before .before .before .before .before .before .before .before .before .before .before .before .args .text .now) (c .before .before .before .before .before .before .before .before .before .before .before .before .before .before .before .before .before .before .before .before .before .before .args .table .now) (c .before .before .before .before .before .before .before .before .before .before .before .before .before .before .before .before .before .before .before .before .before .before .args .count) (c .before .before .before .before .before .before .before .before .before .before .before .before .before .before .before .before .before .before .before .before .before .before .pre .1 .holds .0) (c .before .before .before .before .before .before .before .before .before .before .before .before .before .before .before .before .before .before .before .before .before .before .pre .1 .holds .1) (c .before .before .before .before .before .before .before .before .before .before .before .before .before .before .before .before .before .before .before .before .before .before .args .c .at) (c .before .before .before .before .before .before .before .before .before .before .before .before .before .before .before .before .before .before .before .before .before .before .args .c .seen) (c .before .before .before .before .before .before .before .before .before .before .before .before .before .before .before .before .before .before .before .before .before .before .args .c .stored) (c .before .before .before .before .before .before .before .before .before .before .before .before .before .before .before .before .before .before .before .before .before .before .args .room) (c .before .before .before .before .before .before .before .before .before .before .before .before .before .before .before .before .before .before .before .before .before .before .args .found .now) (node-opening t (c .before .before .before .before .before .before .before .before .before .before .before .before .before)) (2 * (length (c .before .before .before .before .before .before .before .before .before .before .before .before .before .before .before .before .before .before .before .before .before .before .args .text .now) - c .before .before .before .before .before .before .before .before .before .before .before .before .before .before .before .before .before .before .before .before .before .before .args .c .at) + 1) (omega arith) (node-first t (c .before .before .before .before .before .before .before .before)) (node-followed t (c .before .before .before .before)) (node-comma t (c .before .before)) in
-    let more = first-grown (c .before .before .before .before .before .before .before .before .before .before .before .before .before .before .before .before .before .before .before .before .before .before .args .text .now) (c .before .before .before .before .before .before .before .before .before .before .before .before .before .before .before .before .before .before .before .before .before .before .args .table .now) (c .before .before .before .before .before .before .before .before .before .before .before .before .before .before .before .before .before .before .before .before .before .before .args .count) (c .before .before .before .before .before .before .before .before .before .before .before .before .before .before .before .before .before .before .before .before .before .before .pre .1 .holds .0) (c .before .before .before .before .before .before .before .before .before .before .before .before .before .before .before .before .before .before .before .before .before .before .pre .1 .holds .1) (c .before .before .before .before .before .before .before .before .before .before .before .before .before .before .before .before .before .before .before .before .before .before .args .c .at) (c .before .before .before .before .before .before .before .before .before .before .before .before .before .before .before .before .before .before .before .before .before .before .args .c .seen) (c .before .before .before .before .before .before .before .before .before .before .before .before .before .before .before .before .before .before .before .before .before .before .args .c .stored) (c .before .before .before .before .before .before .before .before .before .before .before .before .before .before .before .before .before .before .before .before .before .before .args .room) (c .before .before .before .before .before .before .before .before .before .before .before .before .before .before .before .before .before .before .before .before .before .before .args .found .now) (node-opening t (c .before .before .before .before .before .before .before .before .before .before .before .before .before)) (2 * (length (c .before .before .before .before .before .before .before .before .before .before .before .before .before .before .before .before .before .before .before .before .before .before .args .text .now) - c .before .before .before .before .before .before .before .before .before .before .before .before .before .before .before .before .before .before .before .before .before .before .args .c .at) + 1) (omega arith) (node-first t (c .before .before .before .before .before .before .before .before)) (node-followed t (c .before .before .before .before)) (c .before .before .before .before .before .before .before .before .before .before .before .before .before .before .before .before .before .before .before .before .before .before .pre .1) in
+    let falls-to = others-fall (node-asked t (c .before .before .before .before .before .before .before .before .before .before .before .before .before .before .before .before .before .before .before .before .before .before)) (c .before .before .before .before .before .before .before .before .before .before .before .before .before .before .before .before .before .before .before .before .before .before .pre .1 .holds .0) (c .before .before .before .before .before .before .before .before .before .before .before .before .before .before .before .before .before .before .before .before .before .before .pre .1 .holds .1) (node-opening t (c .before .before .before .before .before .before .before .before .before .before .before .before .before)) (2 * (length (c .before .before .before .before .before .before .before .before .before .before .before .before .before .before .before .before .before .before .before .before .before .before .args .text .now) - c .before .before .before .before .before .before .before .before .before .before .before .before .before .before .before .before .before .before .before .before .before .before .args .c .at) + 1) (omega arith) (node-first t (c .before .before .before .before .before .before .before .before)) (node-followed t (c .before .before .before .before)) (node-comma t (c .before .before)) in
+    let more = first-grown (node-asked t (c .before .before .before .before .before .before .before .before .before .before .before .before .before .before .before .before .before .before .before .before .before .before)) (c .before .before .before .before .before .before .before .before .before .before .before .before .before .before .before .before .before .before .before .before .before .before .pre .1 .holds .0) (c .before .before .before .before .before .before .before .before .before .before .before .before .before .before .before .before .before .before .before .before .before .before .pre .1 .holds .1) (node-opening t (c .before .before .before .before .before .before .before .before .before .before .before .before .before)) (2 * (length (c .before .before .before .before .before .before .before .before .before .before .before .before .before .before .before .before .before .before .before .before .before .before .args .text .now) - c .before .before .before .before .before .before .before .before .before .before .before .before .before .before .before .before .before .before .before .before .before .before .args .c .at) + 1) (omega arith) (node-first t (c .before .before .before .before .before .before .before .before)) (node-followed t (c .before .before .before .before)) (c .before .before .before .before .before .before .before .before .before .before .before .before .before .before .before .before .before .before .before .before .before .before .pre .1) in
     let place : c .before .moved3 .result .at ≡ c .before .before .before .before .blanks2 .result + 1 = ap (λ (m : Cursor). m .at) (c .before .moved3 .ensures) in
     let e = c .before .before .before .before .before .before .before .before .before .before .before .before .before .before .before .before .before .before .before .before .before .before .pre .0 in
     (omega arith, given-moved _ _ _ _ _ _ _ (c .before .moved3 .ensures) (more .given))
@@ -383,7 +406,7 @@ node-same-length-4 t c = search needs
 node-returns-6 : (t : ℕ) → node-lts.Need-returns-6 (node-calls t) (node-at t) node.Post
 unfolding ReadsNode
 node-returns-6 t c = λ names holds k deep.
-    others-refused-way (c .before .before .before .before .before .before .before .before .before .before .before .before .before .before .before .before .before .before .before .before .before .before .before .before .before .before .before .args .text .now) (c .before .before .before .before .before .before .before .before .before .before .before .before .before .before .before .before .before .before .before .before .before .before .before .before .before .before .before .args .table .now) (c .before .before .before .before .before .before .before .before .before .before .before .before .before .before .before .before .before .before .before .before .before .before .before .before .before .before .before .args .count) names holds (c .before .before .before .before .before .before .before .before .before .before .before .before .before .before .before .before .before .before .before .before .before .before .before .before .before .before .before .args .c .at) (c .before .before .before .before .before .before .before .before .before .before .before .before .before .before .before .before .before .before .before .before .before .before .before .before .before .before .before .args .c .seen) (c .before .before .before .before .before .before .before .before .before .before .before .before .before .before .before .before .before .before .before .before .before .before .before .before .before .before .before .args .c .stored) (c .before .before .before .before .before .before .before .before .before .before .before .before .before .before .before .before .before .before .before .before .before .before .before .before .before .before .before .args .room) (c .before .before .before .before .before .before .before .before .before .before .before .before .before .before .before .before .before .before .before .before .before .before .before .before .before .before .before .args .found .now) (node-opening t (c .before .before .before .before .before .before .before .before .before .before .before .before .before .before .before .before .before .before)) k deep (node-first t (c .before .before .before .before .before .before .before .before .before .before .before .before .before)) (node-followed t (c .before .before .before .before .before .before .before .before .before)) (node-comma t (c .before .before .before .before .before .before .before)) (node-others t (c .before .before)) _
+    others-refused-way (node-asked t (c .before .before .before .before .before .before .before .before .before .before .before .before .before .before .before .before .before .before .before .before .before .before .before .before .before .before .before)) names holds (node-opening t (c .before .before .before .before .before .before .before .before .before .before .before .before .before .before .before .before .before .before)) k deep (node-first t (c .before .before .before .before .before .before .before .before .before .before .before .before .before)) (node-followed t (c .before .before .before .before .before .before .before .before .before)) (node-comma t (c .before .before .before .before .before .before .before)) (node-others t (c .before .before)) _
     (c .enum-told2 .given .1)
 
 node-closing-requires : (t : ℕ) → node-lts.Need-closing-requires (node-calls t) (node-at t) node.Post
@@ -394,7 +417,7 @@ node-union-requires t c κs = search needs
 
 node-ended-requires : (t : ℕ) → node-lts.Need-ended-requires (node-calls t) (node-at t) node.Post
 node-ended-requires t c κs =
-    others-grown (c .before .before .before .before .before .before .before .before .before .before .before .before .before .before .before .before .before .before .before .before .before .before .before .before .before .before .before .before .before .before .before .args .text .now) (c .before .before .before .before .before .before .before .before .before .before .before .before .before .before .before .before .before .before .before .before .before .before .before .before .before .before .before .before .before .before .before .args .table .now) (c .before .before .before .before .before .before .before .before .before .before .before .before .before .before .before .before .before .before .before .before .before .before .before .before .before .before .before .before .before .before .before .args .count) (c .before .before .before .before .before .before .before .before .before .before .before .before .before .before .before .before .before .before .before .before .before .before .before .before .before .before .before .before .before .before .before .pre .1 .holds .0) (c .before .before .before .before .before .before .before .before .before .before .before .before .before .before .before .before .before .before .before .before .before .before .before .before .before .before .before .before .before .before .before .pre .1 .holds .1) (c .before .before .before .before .before .before .before .before .before .before .before .before .before .before .before .before .before .before .before .before .before .before .before .before .before .before .before .before .before .before .before .args .c .at) (c .before .before .before .before .before .before .before .before .before .before .before .before .before .before .before .before .before .before .before .before .before .before .before .before .before .before .before .before .before .before .before .args .c .seen) (c .before .before .before .before .before .before .before .before .before .before .before .before .before .before .before .before .before .before .before .before .before .before .before .before .before .before .before .before .before .before .before .args .c .stored) (c .before .before .before .before .before .before .before .before .before .before .before .before .before .before .before .before .before .before .before .before .before .before .before .before .before .before .before .before .before .before .before .args .room) (c .before .before .before .before .before .before .before .before .before .before .before .before .before .before .before .before .before .before .before .before .before .before .before .before .before .before .before .before .before .before .before .args .found .now) (node-opening t (c .before .before .before .before .before .before .before .before .before .before .before .before .before .before .before .before .before .before .before .before .before .before)) (2 * (length (c .before .before .before .before .before .before .before .before .before .before .before .before .before .before .before .before .before .before .before .before .before .before .before .before .before .before .before .before .before .before .before .args .text .now) - c .before .before .before .before .before .before .before .before .before .before .before .before .before .before .before .before .before .before .before .before .before .before .before .before .before .before .before .before .before .before .before .args .c .at) + 1) (omega arith) (node-first t (c .before .before .before .before .before .before .before .before .before .before .before .before .before .before .before .before .before)) (node-followed t (c .before .before .before .before .before .before .before .before .before .before .before .before .before)) (node-comma t (c .before .before .before .before .before .before .before .before .before .before .before)) (node-others t (c .before .before .before .before .before .before)) _ _
+    others-grown (node-asked t (c .before .before .before .before .before .before .before .before .before .before .before .before .before .before .before .before .before .before .before .before .before .before .before .before .before .before .before .before .before .before .before)) (c .before .before .before .before .before .before .before .before .before .before .before .before .before .before .before .before .before .before .before .before .before .before .before .before .before .before .before .before .before .before .before .pre .1 .holds .0) (c .before .before .before .before .before .before .before .before .before .before .before .before .before .before .before .before .before .before .before .before .before .before .before .before .before .before .before .before .before .before .before .pre .1 .holds .1) (node-opening t (c .before .before .before .before .before .before .before .before .before .before .before .before .before .before .before .before .before .before .before .before .before .before)) (2 * (length (c .before .before .before .before .before .before .before .before .before .before .before .before .before .before .before .before .before .before .before .before .before .before .before .before .before .before .before .before .before .before .before .args .text .now) - c .before .before .before .before .before .before .before .before .before .before .before .before .before .before .before .before .before .before .before .before .before .before .before .before .before .before .before .before .before .before .before .args .c .at) + 1) (omega arith) (node-first t (c .before .before .before .before .before .before .before .before .before .before .before .before .before .before .before .before .before)) (node-followed t (c .before .before .before .before .before .before .before .before .before .before .before .before .before)) (node-comma t (c .before .before .before .before .before .before .before .before .before .before .before)) (node-others t (c .before .before .before .before .before .before)) _ _
     (c .before .before .before .before .others .given .1) (c .before .before .before .before .before .before .before .before .before .before .before .before .before .before .before .before .before .before .before .before .before .before .before .before .before .before .before .before .before .before .before .pre .1) .room
 
 node-same-length-5 : (t : ℕ) → node-lts.Need-same-length-5 (node-calls t) (node-at t) node.Post
@@ -403,7 +426,7 @@ node-same-length-5 t c = c .before .before .ended .kept .1 .1 .1 .1 .0 ∙ c .be
 node-returns-7 : (t : ℕ) → node-lts.Need-returns-7 (node-calls t) (node-at t) node.Post
 unfolding ReadsNode
 node-returns-7 t c = λ names holds k deep.
-    node-way (c .before .before .before .before .before .before .before .before .before .before .before .before .before .before .before .before .before .before .before .before .before .before .before .before .before .before .before .before .before .before .before .before .before .before .args .text .now) (c .before .before .before .before .before .before .before .before .before .before .before .before .before .before .before .before .before .before .before .before .before .before .before .before .before .before .before .before .before .before .before .before .before .before .args .table .now) (c .before .before .before .before .before .before .before .before .before .before .before .before .before .before .before .before .before .before .before .before .before .before .before .before .before .before .before .before .before .before .before .before .before .before .args .count) names holds (c .before .before .before .before .before .before .before .before .before .before .before .before .before .before .before .before .before .before .before .before .before .before .before .before .before .before .before .before .before .before .before .before .before .before .args .c .at) (c .before .before .before .before .before .before .before .before .before .before .before .before .before .before .before .before .before .before .before .before .before .before .before .before .before .before .before .before .before .before .before .before .before .before .args .c .seen) (c .before .before .before .before .before .before .before .before .before .before .before .before .before .before .before .before .before .before .before .before .before .before .before .before .before .before .before .before .before .before .before .before .before .before .args .c .stored) (c .before .before .before .before .before .before .before .before .before .before .before .before .before .before .before .before .before .before .before .before .before .before .before .before .before .before .before .before .before .before .before .before .before .before .args .room) (c .before .before .before .before .before .before .before .before .before .before .before .before .before .before .before .before .before .before .before .before .before .before .before .before .before .before .before .before .before .before .before .before .before .before .args .found .now) (node-opening t (c .before .before .before .before .before .before .before .before .before .before .before .before .before .before .before .before .before .before .before .before .before .before .before .before .before)) k deep (node-first t (c .before .before .before .before .before .before .before .before .before .before .before .before .before .before .before .before .before .before .before .before)) (node-followed t (c .before .before .before .before .before .before .before .before .before .before .before .before .before .before .before .before)) (node-comma t (c .before .before .before .before .before .before .before .before .before .before .before .before .before .before)) (node-others t (c .before .before .before .before .before .before .before .before .before)) _ _ (c .before .before .before .before .before .before .before .others .given .1)
+    node-way (node-asked t (c .before .before .before .before .before .before .before .before .before .before .before .before .before .before .before .before .before .before .before .before .before .before .before .before .before .before .before .before .before .before .before .before .before .before)) names holds (node-opening t (c .before .before .before .before .before .before .before .before .before .before .before .before .before .before .before .before .before .before .before .before .before .before .before .before .before)) k deep (node-first t (c .before .before .before .before .before .before .before .before .before .before .before .before .before .before .before .before .before .before .before .before)) (node-followed t (c .before .before .before .before .before .before .before .before .before .before .before .before .before .before .before .before)) (node-comma t (c .before .before .before .before .before .before .before .before .before .before .before .before .before .before)) (node-others t (c .before .before .before .before .before .before .before .before .before)) _ _ (c .before .before .before .before .before .before .before .others .given .1)
     (c .before .before .before .before .union .result) (c .before .before .before .before .before .closing .result) _ (c .before .before .ended .result) (c .before .before .before .before .union .ensures) (c .before .before .before .before .before .closing .ensures) (c .before .before .ended .ensures .0) (c .before .before .ended .ensures .1)
 
 pub +list+node-spec : {M : Type 1} → statement M

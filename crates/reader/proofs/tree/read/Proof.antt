@@ -1,9 +1,6 @@
 -- `tree::read` meets its contract: 1, 2, a start beyond the text, or the tree.
 use borrow.Author.Needs.{needs}
-use Prim.Native.Nat.{_+_, _-_, _*_}
 use native.Mathlib.Omega.{arith}
-use mathlib.Core.Path.{_≡_, refl, sym, ap, _∙_}
-use lib.ListN.{length}
 use Rattle.roster.specs.Roster.{names}
 use Rattle.roster.proofs.Judging.{read-room}
 use Rattle.reader.proofs.Calls.{roster-refused, holds-names, long-refused, start-refused, tree-recorded}

@@ -2,7 +2,6 @@
 use borrow.Author.Needs.{needs}
 use Prim.Native.Nat.{_+_, _-_, _*_}
 use native.Mathlib.Omega.{arith}
-use mathlib.Core.Path.{_≡_, refl, sym, ap, _∙_}
 use lib.ListN.{length}
 use Rattle.reader.specs.Core.{ReadsRecord}
 use Rattle.reader.proofs.TreeWays.{given-empty, reading-refused, stored-few, stored-within, stored-narrow, reading-recorded}

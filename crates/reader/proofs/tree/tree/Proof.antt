@@ -1,19 +1,19 @@
 -- `tree::tree` meets its contract: one way of `TreeWays` for each return.
 use borrow.Author.Needs.{needs}
 use native.Mathlib.Omega.{arith}
-use mathlib.Core.Path.{_≡_, refl, sym, ap, _∙_}
+use mathlib.Core.Path.{_≡_, refl, sym, _∙_}
 use mathlib.Core.Bool.{true}
-use lib.ListN.{length, drop}
+use lib.ListN.{drop}
 use borrow.Author.Tests.{not-true, not-false}
 use Rattle.reader.specs.Tokens.{nextIs}
 use Rattle.reader.specs.Core.{ReadsTree}
 use Rattle.reader.proofs.Places.{next-is-inside}
 use Rattle.reader.proofs.NodeWays.{NodeCall, Followed}
-use Rattle.reader.proofs.TreeWays.{root-refused-way, end-missing-way, species-missing-way, tree-way}
+use Rattle.reader.proofs.TreeWays.{fromStart, root-refused-way, end-missing-way, species-missing-way, tree-way}
 use Rattle.reader.proofs.tree.tree.Statement.{statement}
 use Rattle.reader.proofs.tree.tree.Tie as tie
 
-abbrev root-call : (c : tie.After-slice-known2) → NodeCall (c .before .before .before .before .before .before .before .args .text .now) (c .before .before .before .before .before .before .before .args .table .now) (c .before .before .before .before .before .before .before .args .count) (c .before .before .before .before .before .before .before .args .start) 0 0 (c .before .before .before .before .before .before .before .args .room) (c .before .before .before .before .before .before .before .args .found .now)
+abbrev root-call : (c : tie.After-slice-known2) → NodeCall (fromStart (c .before .before .before .before .before .before .before .args .text .now) (c .before .before .before .before .before .before .before .args .table .now) (c .before .before .before .before .before .before .before .args .count) (c .before .before .before .before .before .before .before .args .start) (c .before .before .before .before .before .before .before .args .room) (c .before .before .before .before .before .before .before .args .found .now))
 root-call c = record {
   cursor = record { at = c .before .before .before .before .before .before .before .args .start; seen = 0; stored = 0 };
   cursor-is = refl;
