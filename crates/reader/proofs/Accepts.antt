@@ -18,6 +18,7 @@ use Rattle.roster.specs.Judged.{speciesMost}
 use Rattle.reader.specs.Answers.Answer.{parsed}
 use Rattle.reader.specs.Reading.{openMost}
 use Rattle.reader.specs.Grammar.{strict, Text}
+use Rattle.reader.specs.Accepted.{Draws, JustBehind, Accepted}
 use Rattle.reader.specs.Promise.{textMost, fromStart, inLimit, onRoster, answerTo}
 use Rattle.reader.proofs.Answers.{refused-parsed}
 use Rattle.reader.proofs.Rests.{Advances, advances-shorter, readTree-advances}
@@ -25,21 +26,6 @@ use Rattle.reader.proofs.Sound.{TreeSound, read-sound, AllKnown}
 use Rattle.reader.proofs.Exact.{Same}
 use Rattle.reader.proofs.Complete.{read-complete}
 use Rattle.reader.proofs.Unique.{tree-unique}
-
--- from start on, the text draws t, and rest is left behind its `;`: the roster is good, the limits are kept,
--- the grammar has it, and each species of the roster is a leaf once
-pub record Draws (line text : List ℕ) (start : ℕ) (t : Tree) (rest : List ℕ) : Type 0 where
-  pub good : faulty speciesMost line ≡ false
-  pub short : length text ≤ textMost
-  pub inside : start ≤ length text
-  pub derives : Text (strict (names line)) openMost (drop start text) t rest
-  pub on : On (whole (length (names line))) t
-
--- q is the offset just behind the tree
-pub record JustBehind (text : List ℕ) (start : ℕ) (rest : List ℕ) (q : ℕ) : Type 0 where
-  pub after : start < q
-  pub within : q ≤ length text
-  pub left : rest ≡ drop q text
 
 -- ---- the species of a tree whose leaves are on the roster, and which lacks none
 
@@ -66,10 +52,6 @@ behind-start text start {q = q} inside a =
       within = omega (arith, m .fits);
       left = m .left ∙ (drop-drop n start text ∙ ap (λ (k : ℕ). drop k text) e);
     }
-
-pub record Accepted (line text : List ℕ) (start : ℕ) (t : Tree) (rest : List ℕ) (q : ℕ) : Type 0 where
-  pub draws : Draws line text start t rest
-  pub place : JustBehind text start rest q
 
 pub accepted-derives :
     (line text : List ℕ) (start : ℕ) {t : Tree} {rest : List ℕ} {q : ℕ}

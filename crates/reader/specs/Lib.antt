@@ -5,3 +5,4 @@ pub mod Grammar
 pub mod Promise
 pub mod Meaning
 pub mod Core
+pub mod Accepted

@@ -15,6 +15,7 @@ use Rattle.lineages.specs.Count.{recordsIn}
 use Rattle.roster.specs.Verdict.{Test, verdict, verdictBy, lengthTest}
 use Rattle.lineages.specs.Checks.{speciesTest, countTest, firstBad, countOn, recordsTest}
 use Rattle.search.specs.Promise.{firstStrange, allowedTest, searchTests}
+use Rattle.search.specs.Candidates.{Accepted}
 
 -- ---- a list of tests passes when each does
 
@@ -79,19 +80,6 @@ none-strange n bytes h =
     omega arith
 
 -- ---- accepted input
-
--- no test finds a fault
-pub record Accepted (n : ℕ) (genes : List ℕ) (count : ℕ) (allowed scores splits : List ℕ) : Type 0 where
-  pub some-species : 1 ≤ n
-  pub few-species : n ≤ 16
-  pub some-genes : 1 ≤ count
-  pub few-genes : count ≤ 4096
-  pub genes-fit : 32 * count ≤ length genes
-  pub allowed-fits : 2 ^ n ≤ length allowed
-  pub scores-fit : 2 ^ n ≤ length scores
-  pub splits-fit : 2 ^ n ≤ length splits
-  pub genes-valid : (g : List ℕ) → List·Memᴰ g (recordsIn count genes) → valid (whole n) g ≡ true
-  pub allowed-bytes : (a : ℕ) → a < 2 ^ n → getD allowed a 0 ≤ 1
 
 module _ (n : ℕ) (genes : List ℕ) (count : ℕ) (allowed scores splits : List ℕ) where
   pub accepted : verdict (searchTests n genes count allowed scores splits) .number ≡ 0 → Accepted n genes count allowed scores splits

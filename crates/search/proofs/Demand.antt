@@ -32,26 +32,11 @@ use Rattle.search.proofs.LowParts.{among-upTo}
 use Rattle.search.proofs.Recurrence.{best-on}
 use Rattle.search.proofs.RecordsOfTrees.{tree-valid, tree-binary, tree-of-record, TreeOfRecord, score-of-record, whole-narrow}
 use Rattle.search.proofs.BestTrees.{Over, best-over, best-least, best-first, best-missed, best-local, LeastSplit, lemma-two}
-use Rattle.search.proofs.Accepted.{Accepted, accepted, accepts, no-fourteen}
+use Rattle.search.specs.Candidates.{Accepted, Candidate, EarlierRecord, Answer}
+use Rattle.search.proofs.Accepted.{accepted, accepts, no-fourteen}
 use Rattle.roster.proofs.UpTo.{length-upTo}
 
 -- ---- the records that compete
-
--- a valid binary species record, all of whose clusters are allowed
-pub record Candidate (n : ℕ) (allowed c : List ℕ) : Type 0 where
-  pub valid : ValidOn (whole n) c
-  pub binary : BinaryOn (whole n) c
-  pub over : (a : ℕ) → Among a (listed c) → allowedIn n allowed a ≡ true
-
--- the trees of two records, the first of them earlier in 01's order
-pub record EarlierRecord (n : ℕ) (c d : List ℕ) : Type 0 where
-  pub tree : Binary
-  pub later : Binary
-  pub tree-on : TreeOn (whole n) tree
-  pub later-on : TreeOn (whole n) later
-  pub tree-recorded : recordOf (clustersIn tree) ≡ c
-  pub later-recorded : recordOf (clustersIn later) ≡ d
-  pub earlier : Earlier tree later
 
 module _ (n : ℕ) (allowed : List ℕ) where
   -- the record of a tree over allowed clusters competes, and each that competes is such
@@ -67,12 +52,6 @@ module _ (n : ℕ) (allowed : List ℕ) where
       k .over x (subst (λ r. Among x (listed r)) (t .recorded) (record-among (clustersIn (t .tree)) m))
 
 -- ---- the answer
-
-pub record Answer (n : ℕ) (genes : List (List ℕ)) (allowed : List ℕ) (r : Found) : Type 0 where
-  pub competes : Candidate n allowed (r .numbers)
-  pub counted : score genes (r .numbers) ≡ r .score
-  pub least : (c : List ℕ) → Candidate n allowed c → r .score ≤ score genes c
-  pub first : (c : List ℕ) → Candidate n allowed c → score genes c ≡ r .score → (r .numbers ≡ c) ⊎ EarlierRecord n (r .numbers) c
 
 competitor-score : (n : ℕ) (genes : List (List ℕ)) (allowed c : List ℕ) (h : n ≤ 16) (k : Candidate n allowed c)
     → score genes c ≡ scoreOf (weight genes) (competitor n allowed c h k .tree)

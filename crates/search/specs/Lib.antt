@@ -4,3 +4,4 @@ pub mod Least
 pub mod Order
 pub mod Promise
 pub mod Work
+pub mod Candidates

@@ -21,7 +21,8 @@ use Rattle.reader.specs.Answers.{Answer}
 use Rattle.reader.specs.Answers.Answer.{parsed, refused}
 use Rattle.reader.specs.Promise.{textMost, readingOf, fromStart, inLimit, onRoster, answerTo, Reads}
 use Rattle.reader.specs.declared.Reading.{Reading}
-use Rattle.reader.proofs.Accepts.{Draws, accepted-derives, derives-accepted}
+use Rattle.reader.specs.Accepted.{Draws}
+use Rattle.reader.proofs.Accepts.{accepted-derives, derives-accepted}
 use Rattle.reader.proofs.Meaning.{refusal-means, refusal-numbers}
 use Rattle.writer.specs.Writing.{written}
 use Rattle.writer.specs.Promise.{Writes}

@@ -1,0 +1,53 @@
+-- What a search accepts, which records compete, and what the tree that is found has over the others.
+use Prim.Native.Nat.{ℕ, _*_, _^_, _≤_, _<_}
+use mathlib.Core.Path.{_≡_}
+use mathlib.Core.Logic.{_⊎_}
+use mathlib.Core.Bool.{true}
+use mathlib.Core.List.{List, List·Memᴰ}
+use lib.ListN.{length, getD}
+use Rattle.clusters.specs.Sets.{whole}
+use Rattle.trees.specs.Lists.{Among}
+use Rattle.trees.specs.Records.{listed, recordOf, ValidOn, BinaryOn}
+use Rattle.trees.specs.Valid.{valid}
+use Rattle.lineages.specs.Count.{recordsIn, score}
+use Rattle.search.specs.BinaryTrees.{Binary, clustersIn}
+use Rattle.search.specs.Order.{Earlier}
+use Rattle.search.specs.WellFormed.{TreeOn}
+use Rattle.search.specs.Promise.{allowedIn}
+use Rattle.search.specs.declared.Found.{Found}
+
+-- no test finds a fault
+pub record Accepted (n : ℕ) (genes : List ℕ) (count : ℕ) (allowed scores splits : List ℕ) : Type 0 where
+  pub some-species : 1 ≤ n
+  pub few-species : n ≤ 16
+  pub some-genes : 1 ≤ count
+  pub few-genes : count ≤ 4096
+  pub genes-fit : 32 * count ≤ length genes
+  pub allowed-fits : 2 ^ n ≤ length allowed
+  pub scores-fit : 2 ^ n ≤ length scores
+  pub splits-fit : 2 ^ n ≤ length splits
+  pub genes-valid : (g : List ℕ) → List·Memᴰ g (recordsIn count genes) → valid (whole n) g ≡ true
+  pub allowed-bytes : (a : ℕ) → a < 2 ^ n → getD allowed a 0 ≤ 1
+
+-- a valid binary species record, all of whose clusters are allowed
+pub record Candidate (n : ℕ) (allowed c : List ℕ) : Type 0 where
+  pub valid : ValidOn (whole n) c
+  pub binary : BinaryOn (whole n) c
+  pub over : (a : ℕ) → Among a (listed c) → allowedIn n allowed a ≡ true
+
+-- the trees of two records, the first of them earlier in 01's order
+pub record EarlierRecord (n : ℕ) (c d : List ℕ) : Type 0 where
+  pub tree : Binary
+  pub later : Binary
+  pub tree-on : TreeOn (whole n) tree
+  pub later-on : TreeOn (whole n) later
+  pub tree-recorded : recordOf (clustersIn tree) ≡ c
+  pub later-recorded : recordOf (clustersIn later) ≡ d
+  pub earlier : Earlier tree later
+
+-- "no binary tree over them scores less"; of equals it is the first
+pub record Answer (n : ℕ) (genes : List (List ℕ)) (allowed : List ℕ) (r : Found) : Type 0 where
+  pub competes : Candidate n allowed (r .numbers)
+  pub counted : score genes (r .numbers) ≡ r .score
+  pub least : (c : List ℕ) → Candidate n allowed c → r .score ≤ score genes c
+  pub first : (c : List ℕ) → Candidate n allowed c → score genes c ≡ r .score → (r .numbers ≡ c) ⊎ EarlierRecord n (r .numbers) c
