@@ -35,13 +35,15 @@ Within a b = bitAnd a b ≡ a
 unfoldable pub Apart : ℕ → ℕ → Type 0
 Apart a b = bitAnd a b ≡ 0
 
--- the same as tests
+-- whether species i is in a
 unfoldable pub has : ℕ → ℕ → Bool
 has a i = eqb (a / 2 ^ i % 2) 1
 
+-- whether a lies within b
 unfoldable pub within : ℕ → ℕ → Bool
 within a b = eqb (bitAnd a b) a
 
+-- whether a and b are disjoint
 unfoldable pub apart : ℕ → ℕ → Bool
 apart a b = eqb (bitAnd a b) 0
 

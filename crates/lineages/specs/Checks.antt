@@ -21,6 +21,7 @@ countTest count = record { fault = not (leb 1 count && leb count 4096); number =
 unfoldable pub speciesRecordTest : ℕ → List ℕ → Test
 speciesRecordTest n r = record { fault = not (valid (whole n) r && binary (whole n) r); number = 16; place = 0 }
 
+-- one more where this one is valid; where it is not, this is the first
 abbrev pub countOn : Bool → ℕ → ℕ
 countOn true later = suc later
 countOn false later = zero

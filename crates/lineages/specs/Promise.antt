@@ -24,6 +24,7 @@ unfoldable pub shown : List (List ℕ) → ℕ → Bool
 shown [] a = false
 shown (g ∷ l) a = among a (shownBy g) || shown l a
 
+-- "1 for each cluster shown by some gene tree, else 0"
 abbrev pub flag : Bool → ℕ
 flag true = 1
 flag false = 0

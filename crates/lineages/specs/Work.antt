@@ -35,6 +35,7 @@ pub record Countable (g : List ℕ) : Type 0 where
   pub some : (x : ℕ) → Among x (listed g) → 1 ≤ x
   pub nested : (x y : ℕ) → Among x (listed g) → Among y (listed g) → Nested x y
 
+-- every gene record can be counted
 abbrev pub AllCountable : List (List ℕ) → Type 0
 AllCountable genes = (g : List ℕ) → List·Memᴰ g genes → Countable g
 
@@ -47,6 +48,7 @@ pub record Markable (bytes : ℕ) (g : List ℕ) : Type 0 where
   pub form : Form g
   pub below : (x : ℕ) → Among x (listed g) → x < bytes
 
+-- every gene record can be marked
 abbrev pub AllMarkable : ℕ → List (List ℕ) → Type 0
 AllMarkable bytes genes = (g : List ℕ) → List·Memᴰ g genes → Markable bytes g
 

@@ -2,6 +2,7 @@
 use Prim.Native.Nat.{ℕ}
 use mathlib.Core.List.{List, [], _∷_}
 
+-- what was read, the text that is left and its place; or 01's number and place
 pub data Answer (A : Type 0) : Type 0 where
   parsed : A → List ℕ → ℕ → Answer A
   refused : ℕ → ℕ → Answer A

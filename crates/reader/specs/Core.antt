@@ -47,6 +47,7 @@ abbrev pub noCommaBy : Bool → List ℕ → ℕ → Refusal
 noCommaBy true s p = record { number = 7; place = p }
 noCommaBy false s p = strayAt s p
 
+-- no comma behind a first child: 7 at a closing parenthesis, else 3 or 10
 unfoldable pub noCommaAt : List ℕ → ℕ → Refusal
 noCommaAt s p = noCommaBy (nextIs 41 s) s p
 
@@ -59,6 +60,7 @@ abbrev pub numberSays : List ℕ → NumberRead → Answer (List ℕ)
 numberSays text (Number e) = parsed (between text e) (drop (e .to) text) (e .to)
 numberSays text (NoNumber e) = refusal e
 
+-- the refusal of a number
 abbrev pub numberFault : NumberRead → Refusal
 numberFault (Number e) = noFault
 numberFault (NoNumber e) = e
@@ -69,6 +71,7 @@ behindSays text w (Extended e) =
     parsed (record { name = w; distance = between text (e .distance); support = between text (e .support) }) (drop (e .next) text) (e .next)
 behindSays text w (NotExtended e) = refusal e
 
+-- the refusal of what stands behind a node
 abbrev pub behindFault : BehindRead → Refusal
 behindFault (Extended e) = noFault
 behindFault (NotExtended e) = e
@@ -78,6 +81,7 @@ abbrev pub nameSays : List ℕ → List ℕ → Label → Answer (List ℕ)
 nameSays text w (Ended next) = parsed w (drop next text) next
 nameSays text w (TooLong place) = refused 4 place
 
+-- the refusal of a name
 abbrev pub nameFault : Label → Refusal
 nameFault (Ended next) = noFault
 nameFault (TooLong place) = record { number = 4; place = place }
@@ -87,6 +91,7 @@ abbrev pub innerWordBy : Bool → List ℕ → List ℕ
 innerWordBy false s = []
 innerWordBy true s = word (skip s)
 
+-- the inner name that stands at the front, if any
 unfoldable pub innerWord : List ℕ → List ℕ
 innerWord s = innerWordBy (nextName (skip s)) s
 
@@ -96,9 +101,11 @@ pub record Met : Type 0 where
   pub seen : ℕ
   pub stored : ℕ
 
+-- a node that was read, as the code has it: its leaves, and what was seen and stored before
 abbrev pub treeMet : ℕ → ℕ → Tree → Met
 treeMet seen stored t = record { mask = cluster t; seen = union seen (cluster t); stored = stored + length (clusters t) }
 
+-- the same of the nodes of a list
 abbrev pub forestMet : ℕ → ℕ → Forest → Met
 forestMet seen stored f = record { mask = clusterOf f; seen = union seen (clusterOf f); stored = stored + length (clustersOf f) }
 
@@ -108,6 +115,7 @@ nodeSays text (Node mask next) =
     parsed (record { mask = mask; seen = next .seen; stored = next .stored }) (drop (next .at) text) (next .at)
 nodeSays text (NoNode e) = refusal e
 
+-- the refusal of a node
 abbrev pub nodeFault : NodeRead → Refusal
 nodeFault (Node mask next) = noFault
 nodeFault (NoNode e) = e
@@ -117,6 +125,7 @@ abbrev pub endedAs : ℕ → ℕ → ℕ → BehindRead → NodeRead
 endedAs mask seen stored (Extended e) = Node mask (record { at = e .next; seen = seen; stored = stored + 1 })
 endedAs mask seen stored (NotExtended e) = NoNode e
 
+-- the table with the node's own cluster stored, where what stands behind it was read
 abbrev pub keptAs : ℕ → ℕ → List ℕ → BehindRead → List ℕ
 keptAs mask stored found (Extended e) = set found stored mask
 keptAs mask stored found (NotExtended e) = found
@@ -140,6 +149,7 @@ pub record NodeReads (text : List ℕ) (seen stored : ℕ) (before after : List 
   pub says : nodeSays text r ≡ andThen answer (λ t rest q. parsed (treeMet seen stored t) rest q)
   pub stores : (t : Tree) (rest : List ℕ) (q : ℕ) → answer ≡ parsed t rest q → after ≡ sets before stored (clusters t)
 
+-- the same for a list
 pub record ListReads (text : List ℕ) (seen stored : ℕ) (before after : List ℕ) (answer : Answer Forest) (r : NodeRead) : Type 0 where
   pub says : nodeSays text r ≡ andThen answer (λ f rest q. parsed (forestMet seen stored f) rest q)
   pub stores : (f : Forest) (rest : List ℕ) (q : ℕ) → answer ≡ parsed f rest q → after ≡ sets before stored (clustersOf f)
@@ -150,6 +160,7 @@ ReadsLeaf text table count c before after r =
     (names : List (List ℕ))
     → Holds names count table → NodeReads text (c .seen) (c .stored) before after (leafAt names (c .seen) (drop (c .at) text) (c .at)) r
 
+-- the promise of `node`: for all names that the table holds, and at every depth of calls above the measure
 unfoldable pub ReadsNode : List ℕ → List ℕ → ℕ → Cursor → ℕ → List ℕ → List ℕ → NodeRead → Type 0
 ReadsNode text table count c room before after r =
     (names : List (List ℕ))
@@ -158,6 +169,7 @@ ReadsNode text table count c room before after r =
     → 2 * (length text - c .at) < k
     → NodeReads text (c .seen) (c .stored) before after (readNode k names room (c .seen) (drop (c .at) text) (c .at)) r
 
+-- the promise of `list`
 unfoldable pub ReadsList : List ℕ → List ℕ → ℕ → Cursor → ℕ → List ℕ → List ℕ → NodeRead → Type 0
 ReadsList text table count c room before after r =
     (names : List (List ℕ))
@@ -171,6 +183,7 @@ unfoldable pub treeAnswer : ℕ → List (List ℕ) → ℕ → ℕ → List ℕ
 treeAnswer k names room needed s p =
     andThen (readNode k names room 0 s p) (λ t s p. ended (nextIs 59 (skip s)) needed t (skip s) (p + blanks s))
 
+-- the promise of `tree`
 unfoldable pub ReadsTree : List ℕ → List ℕ → ℕ → ℕ → ℕ → ℕ → List ℕ → List ℕ → NodeRead → Type 0
 ReadsTree text table count needed start room before after r =
     (names : List (List ℕ))

@@ -61,9 +61,11 @@ pub record MayStand (Piece : List ℕ → Type 0) (u : List ℕ) : Type 0 where
 abbrev pub NodeMayStand : List ℕ → Type 0
 NodeMayStand u = MayStand IsNode u
 
+-- a name may stand behind u
 abbrev pub NameMayStand : List ℕ → Type 0
 NameMayStand u = MayStand IsName u
 
+-- a number may stand behind u
 abbrev pub NumberMayStand : List ℕ → Type 0
 NumberMayStand u = MayStand IsNumber u
 

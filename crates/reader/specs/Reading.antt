@@ -94,6 +94,7 @@ abbrev pub complete : Bool → Tree → List ℕ → ℕ → Answer Tree
 complete true t s p = parsed t (tail s) (p + 1)
 complete false t s p = refused 9 p
 
+-- behind the root: `;`, or nothing that may stand there
 abbrev pub ended : Bool → ℕ → Tree → List ℕ → ℕ → Answer Tree
 ended true needed t s p = complete (within needed (cluster t)) t s p
 ended false needed t s p = unexpected s p

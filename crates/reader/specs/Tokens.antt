@@ -28,6 +28,7 @@ nextName (c ∷ s) = isName c
 unfoldable pub blanks : List ℕ → ℕ
 blanks s = run isBlank s
 
+-- the text behind the blanks
 unfoldable pub skip : List ℕ → List ℕ
 skip s = drop (run isBlank s) s
 
@@ -45,10 +46,12 @@ abbrev pub pointed : ℕ → ℕ → List ℕ → ℕ → Answer (List ℕ)
 pointed d zero s p = limited (leb (d + 1) numberBytes) p (unexpected (drop (d + 1) s) (p + (d + 1)))
 pointed d (suc e) s p = numeral (d + 1 + suc e) s p
 
+-- d digits: a whole number, or a point follows
 abbrev pub fraction : Bool → ℕ → List ℕ → ℕ → Answer (List ℕ)
 fraction false d s p = numeral d s p
 fraction true d s p = pointed d (run isDigit (drop (d + 1) s)) s p
 
+-- a number begins with a digit
 abbrev pub digits : ℕ → List ℕ → ℕ → Answer (List ℕ)
 digits zero s p = unexpected s p
 digits (suc d) s p = fraction (nextIs 46 (drop (suc d) s)) (suc d) s p
@@ -61,17 +64,20 @@ number s p = digits (run isDigit s) s p
 unfoldable pub numberBehind : List ℕ → ℕ → Answer (List ℕ)
 numberBehind s p = number (skip s) (p + blanks s)
 
+-- behind d: a second colon and b, or nothing
 abbrev pub secondNumber : Bool → List ℕ → List ℕ → List ℕ → ℕ → Answer Behind
 secondNumber false w d s p = parsed (record { name = w; distance = d; support = [] }) s p
 secondNumber true w d s p =
     andThen (numberBehind (tail (skip s)) (p + blanks s + 1)) (λ b s p. parsed (record { name = w; distance = d; support = b }) s p)
 
+-- behind a colon: a second colon and b, or d
 abbrev pub firstNumber : Bool → List ℕ → List ℕ → ℕ → Answer Behind
 firstNumber true w s p =
     andThen (numberBehind (tail (skip s)) (p + blanks s + 1)) (λ b s p. parsed (record { name = w; distance = []; support = b }) s p)
 firstNumber false w s p =
     andThen (numberBehind s p) (λ d s p. secondNumber (nextIs 58 (skip s)) w d s p)
 
+-- a colon follows, or nothing
 abbrev pub numbersBy : Bool → List ℕ → List ℕ → ℕ → Answer Behind
 numbersBy false w s p = parsed (record { name = w; distance = []; support = [] }) s p
 numbersBy true w s p = firstNumber (nextIs 58 (skip (tail (skip s)))) w (tail (skip s)) (p + blanks s + 1)
@@ -80,6 +86,7 @@ numbersBy true w s p = firstNumber (nextIs 58 (skip (tail (skip s)))) w (tail (s
 unfoldable pub numbers : List ℕ → List ℕ → ℕ → Answer Behind
 numbers w s p = numbersBy (nextIs 58 (skip s)) w s p
 
+-- a name within its limit, or 4 at its sixteenth byte
 abbrev pub shortName : Bool → List ℕ → ℕ → Answer (List ℕ)
 shortName true s p = parsed (word s) (drop (run isName s) s) (p + run isName s)
 shortName false s p = refused 4 (p + labelBytes)
@@ -88,6 +95,7 @@ shortName false s p = refused 4 (p + labelBytes)
 unfoldable pub name : List ℕ → ℕ → Answer (List ℕ)
 name s p = shortName (leb (run isName s) labelBytes) s p
 
+-- a name follows, or none
 abbrev pub innerNameBy : Bool → List ℕ → ℕ → Answer (List ℕ)
 innerNameBy false s p = parsed [] s p
 innerNameBy true s p = name (skip s) (p + blanks s)

@@ -21,6 +21,7 @@ done v = record { number = 0; place = 0; value = v }
 abbrev pub refusal : ℕ → ℕ → Reply
 refusal number place = record { number = number; place = place; value = 0 }
 
+-- at fault: 1 at the place; else how many names there are
 abbrev pub judgedBy : Bool → ℕ → List ℕ → Reply
 judgedBy true most line = refusal 1 (firstFault most line)
 judgedBy false most line = done (length (names line))
@@ -35,6 +36,7 @@ abbrev pub rosterBy : Bool → ℕ → List ℕ → Roster
 rosterBy true most line = record { number = 1; place = firstFault most line; count = 0; table = replicate 512 0 }
 rosterBy false most line = record { number = 0; place = 0; count = length (names line); table = table (names line) }
 
+-- a line judged, with its table; at most so many names
 unfoldable pub rosterOf : ℕ → List ℕ → Roster
 unfolding faulty
 rosterOf most line = rosterBy (faulty most line) most line

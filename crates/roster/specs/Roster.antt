@@ -20,6 +20,7 @@ same [] (y ∷ l) = false
 same (x ∷ k) [] = false
 same (x ∷ k) (y ∷ l) = eqb x y && same k l
 
+-- here, or one further on
 abbrev pub countOn : Bool → ℕ → ℕ
 countOn true n = zero
 countOn false n = suc n
@@ -34,6 +35,7 @@ position w (v ∷ l) = countOn (same w v) (position w l)
 abbrev pub byteAt : List ℕ → ℕ → ℕ
 byteAt line p = getD line p 0
 
+-- the byte before p
 abbrev pub byteBefore : List ℕ → ℕ → ℕ
 byteBefore line zero = 0
 byteBefore line (suc p) = getD line p 0
@@ -78,6 +80,7 @@ openAt line p = eqb p (length line) && (eqb p 0 || eqb (byteBefore line p) 32)
 unfoldable pub faultAt : ℕ → List ℕ → ℕ → Bool
 faultAt most line p = strayAt line p || longAt line p || manyAt most line p || againAt line p || openAt line p
 
+-- this one, or the first of the later ones
 abbrev pub firstOr : Bool → ℕ → ℕ → ℕ
 firstOr true p q = p
 firstOr false p q = q

@@ -16,10 +16,12 @@ pub record Verdict : Type 0 where
   pub number : ℕ
   pub place : ℕ
 
+-- this test finds a fault, or the later ones are asked
 abbrev pub verdictBy : Bool → Test → Verdict → Verdict
 verdictBy true t later = record { number = t .number; place = t .place }
 verdictBy false t later = later
 
+-- the first fault that the tests find
 unfoldable pub verdict : List Test → Verdict
 verdict [] = record { number = 0; place = 0 }
 verdict (t ∷ l) = verdictBy (t .fault) t (verdict l)
@@ -33,5 +35,6 @@ abbrev pub valueBy : ℕ → ℕ → ℕ
 valueBy zero v = v
 valueBy (suc number) v = 0
 
+-- what the tests say, with the value
 abbrev pub replyOf : Verdict → ℕ → Reply
 replyOf said v = record { number = said .number; place = said .place; value = valueBy (said .number) v }

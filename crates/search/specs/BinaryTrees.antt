@@ -40,6 +40,7 @@ unfoldable pub forks : ℕ → List Binary → List Binary → List Binary
 unfolding each
 forks a ts us = each (λ t. map (λ u. fork a t u) us) ts
 
+-- a single species has its tip; else each low part with the rest of a
 abbrev pub treesBy : Bool → (ℕ → List Binary) → ℕ → List Binary
 treesBy true below a = tip a ∷ []
 treesBy false below a = each (λ low. forks a (below low) (below (a - low))) (lows a)

@@ -9,6 +9,7 @@ use Rattle.lineages.specs.Count.{total}
 use Rattle.search.specs.BinaryTrees.{Binary, clustersIn, treesOn, root}
 use Rattle.search.specs.BinaryTrees.Binary.{tip, fork}
 
+-- the tree at the front, where it passes the test
 abbrev pub keepTree : Bool → Binary → List Binary → List Binary
 keepTree true t l = t ∷ l
 keepTree false t l = l

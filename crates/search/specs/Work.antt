@@ -38,6 +38,7 @@ abbrev pub splitUnless : Bool → Split → Split → Split
 splitUnless true s other = s
 splitUnless false s other = other
 
+-- the new split where it scores no more, else the one found before
 abbrev pub lesserSplit : Bool → ℕ → ℕ → Split → Split
 lesserSplit true sum low s = record { score = sum; low = low }
 lesserSplit false sum low s = s

@@ -22,6 +22,7 @@ abbrev pub before : Bool → ℕ → ℕ → List ℕ → List ℕ → List ℕ
 before true x y l done = x ∷ y ∷ l
 before false x y l done = y ∷ done
 
+-- a cluster put in its place by lowest species
 unfoldable pub placed : ℕ → List ℕ → List ℕ
 placed x [] = x ∷ []
 placed x (y ∷ l) = before (leb (lowest x) (lowest y)) x y l (placed x l)
@@ -45,11 +46,13 @@ abbrev pub forestOver : (ℕ → Tree) → ℕ → List ℕ → Forest
 forestOver draw a [] = last (draw a)
 forestOver draw a (b ∷ l) = more (draw a) (forestOver draw b l)
 
+-- the node over two or more children
 abbrev pub nodeOver : (ℕ → Tree) → List ℕ → Tree
 nodeOver draw [] = leaf 0 bare
 nodeOver draw (a ∷ []) = draw a
 nodeOver draw (a ∷ b ∷ l) = node (draw a) (forestOver draw b l) bare
 
+-- a single species is a leaf; else a node over its children
 abbrev pub drawnBy : Bool → (ℕ → Tree) → List ℕ → ℕ → Tree
 drawnBy true draw cs a = leaf (lowest a) bare
 drawnBy false draw cs a = nodeOver draw (children cs a)

@@ -7,10 +7,11 @@ use lib.ListN.{length, getD, take, drop, replicate}
 use Rattle.clusters.specs.Sets.{Has, Within, Apart, whole, single, size}
 use Rattle.trees.specs.Lists.{Among, Rising, sorted}
 
--- "the count m", and "the tree's m clusters"
+-- "the count m"
 abbrev pub count : List ℕ → ℕ
 count r = getD r 0 0
 
+-- "the tree's m clusters"
 abbrev pub listed : List ℕ → List ℕ
 listed r = take (count r) (drop 1 r)
 
@@ -41,6 +42,7 @@ pub record ValidOn (s : ℕ) (r : List ℕ) : Type 0 where
 abbrev pub SpeciesValid : ℕ → List ℕ → Type 0
 SpeciesValid n r = ValidOn (whole n) r
 
+-- a valid record of a gene tree for n species
 abbrev pub GeneValid : ℕ → List ℕ → Type 0
 GeneValid n r = ValidOn (whole n) r
 

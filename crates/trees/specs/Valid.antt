@@ -22,6 +22,7 @@ abbrev pub belowFirst : ℕ → List ℕ → Bool
 belowFirst x [] = true
 belowFirst x (y ∷ l) = ltb x y
 
+-- each is below the next, all along the list
 unfoldable pub rising : List ℕ → Bool
 rising [] = true
 rising (x ∷ l) = belowFirst x l && rising l

@@ -3,6 +3,7 @@ use crate::fields::byte;
 use crate::judging;
 use crate::marking;
 use crate::reading;
+use crate::reporting;
 use crate::scoring;
 use crate::searching;
 use crate::show;
@@ -19,6 +20,7 @@ pub fn run(case: &[u8]) {
         b'S' => scoring::run(case),
         b'M' => marking::run(case),
         b'F' => searching::run(case),
+        b'P' => reporting::run(case),
         _ => show::text(b"no such call\n"),
     }
 }

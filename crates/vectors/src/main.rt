@@ -9,6 +9,7 @@ mod lent;
 mod marking;
 mod numbers;
 mod reading;
+mod reporting;
 mod room;
 mod scoring;
 mod searching;

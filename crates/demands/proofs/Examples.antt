@@ -1,0 +1,61 @@
+-- The rows of 01's table that are marked P, under one claim.
+use mathlib.Core.Path.{_≡_, refl}
+use mathlib.Core.Bool.{true}
+use mathlib.Core.List.{List, [], _∷_}
+use lib.Count.{ones, onesIn, trailingZeros}
+use Rattle.demands.specs.Examples.{Row}
+use Rattle.demands.specs.Examples.Row.{recorded, counted, scored, searched}
+use Rattle.demands.specs.Examples.Allowed.{every, own, only}
+use Rattle.clusters.specs.Sets.{whole, single, union, has, within, apart, size, lowest}
+use Rattle.demands.specs.Examples.{recordIn, foundIn, holds, allHold}
+use Rattle.lineages.specs.Count.{kOf, extra, total, weight, score, recordsIn}
+use Rattle.lineages.specs.Promise.{shown, marks}
+use Rattle.reader.specs.Promise.{answerTo}
+use Rattle.reader.specs.Reading.{leafAt, closing, readTreeTo, readTree, readNode}
+use Rattle.reader.specs.Tokens.{nextIs, nextName, blanks, skip, number, numberBehind, numbers, name, innerName}
+use Rattle.roster.specs.Bytes.{run}
+use Rattle.roster.specs.Labels.{word, padded}
+use Rattle.roster.specs.Roster.{upTo, same, position, begins, beginnings, nameAt, names, strayAt, longAt, manyAt, againAt, openAt, faultAt, least, firstFault, faulty}
+use Rattle.search.specs.BinaryTrees.{clustersIn, isLow, lows, each, forks, treesTo, treesOn}
+use Rattle.search.specs.Least.{those, all, scoreOf, treesOver, leastTrees, best}
+use Rattle.search.specs.Promise.{allowedIn, bestFor}
+use Rattle.trees.specs.Drawn.{properly, maximal, placed, byLowest, children, drawnTo, drawn}
+use Rattle.trees.specs.Lists.{keep, some, insert, sorted}
+use Rattle.trees.specs.Records.{recordOf}
+use Rattle.trees.specs.Tree.{cluster, clusters}
+use Rattle.trees.specs.Valid.{every as every-trees, among, rising, singlesFrom}
+use Rattle.writer.specs.Writing.{treeText, written, nodeText}
+
+-- 01's rows marked P, in its order
+pub examples : List Row
+examples =
+    -- `((a,b),c);` | record 5, 1, 2, 3, 4, 7
+    recorded (97 ∷ 32 ∷ 98 ∷ 32 ∷ 99 ∷ []) (40 ∷ 40 ∷ 97 ∷ 44 ∷ 98 ∷ 41 ∷ 44 ∷ 99 ∷ 41 ∷ 59 ∷ []) (1 ∷ 2 ∷ 3 ∷ 4 ∷ 7 ∷ [])
+    -- that tree, cluster 5 | k = 2
+    ∷ counted (97 ∷ 32 ∷ 98 ∷ 32 ∷ 99 ∷ []) (40 ∷ 40 ∷ 97 ∷ 44 ∷ 98 ∷ 41 ∷ 44 ∷ 99 ∷ 41 ∷ 59 ∷ []) 5 2
+    -- that tree, cluster 7 | k = 1
+    ∷ counted (97 ∷ 32 ∷ 98 ∷ 32 ∷ 99 ∷ []) (40 ∷ 40 ∷ 97 ∷ 44 ∷ 98 ∷ 41 ∷ 44 ∷ 99 ∷ 41 ∷ 59 ∷ []) 7 1
+    -- `((a,b),(c,d));` scored on `(((a,b),c),d);` | 1
+    ∷ scored (97 ∷ 32 ∷ 98 ∷ 32 ∷ 99 ∷ 32 ∷ 100 ∷ []) (40 ∷ 40 ∷ 97 ∷ 44 ∷ 98 ∷ 41 ∷ 44 ∷ 40 ∷ 99 ∷ 44 ∷ 100 ∷ 41 ∷ 41 ∷ 59 ∷ []) (40 ∷ 40 ∷ 40 ∷ 97 ∷ 44 ∷ 98 ∷ 41 ∷ 44 ∷ 99 ∷ 41 ∷ 44 ∷ 100 ∷ 41 ∷ 59 ∷ []) 1
+    -- the same on `((a,c),(b,d));` | 2
+    ∷ scored (97 ∷ 32 ∷ 98 ∷ 32 ∷ 99 ∷ 32 ∷ 100 ∷ []) (40 ∷ 40 ∷ 97 ∷ 44 ∷ 98 ∷ 41 ∷ 44 ∷ 40 ∷ 99 ∷ 44 ∷ 100 ∷ 41 ∷ 41 ∷ 59 ∷ []) (40 ∷ 40 ∷ 97 ∷ 44 ∷ 99 ∷ 41 ∷ 44 ∷ 40 ∷ 98 ∷ 44 ∷ 100 ∷ 41 ∷ 41 ∷ 59 ∷ []) 2
+    -- `(a,b,c,d);` on `((a,b),(c,d));` | 2
+    ∷ scored (97 ∷ 32 ∷ 98 ∷ 32 ∷ 99 ∷ 32 ∷ 100 ∷ []) (40 ∷ 97 ∷ 44 ∷ 98 ∷ 44 ∷ 99 ∷ 44 ∷ 100 ∷ 41 ∷ 59 ∷ []) (40 ∷ 40 ∷ 97 ∷ 44 ∷ 98 ∷ 41 ∷ 44 ∷ 40 ∷ 99 ∷ 44 ∷ 100 ∷ 41 ∷ 41 ∷ 59 ∷ []) 2
+    -- `(a,b,c,d);` on `(((a,b),c),d);` | 3
+    ∷ scored (97 ∷ 32 ∷ 98 ∷ 32 ∷ 99 ∷ 32 ∷ 100 ∷ []) (40 ∷ 97 ∷ 44 ∷ 98 ∷ 44 ∷ 99 ∷ 44 ∷ 100 ∷ 41 ∷ 59 ∷ []) (40 ∷ 40 ∷ 40 ∷ 97 ∷ 44 ∷ 98 ∷ 41 ∷ 44 ∷ 99 ∷ 41 ∷ 44 ∷ 100 ∷ 41 ∷ 59 ∷ []) 3
+    -- `((a,b),c);` `((a,b),c);` `((a,c),b);`, all | 1, `((a,b),c);`
+    ∷ searched (97 ∷ 32 ∷ 98 ∷ 32 ∷ 99 ∷ []) ((40 ∷ 40 ∷ 97 ∷ 44 ∷ 98 ∷ 41 ∷ 44 ∷ 99 ∷ 41 ∷ 59 ∷ []) ∷ (40 ∷ 40 ∷ 97 ∷ 44 ∷ 98 ∷ 41 ∷ 44 ∷ 99 ∷ 41 ∷ 59 ∷ []) ∷ (40 ∷ 40 ∷ 97 ∷ 44 ∷ 99 ∷ 41 ∷ 44 ∷ 98 ∷ 41 ∷ 59 ∷ []) ∷ []) every 0 1 (40 ∷ 40 ∷ 97 ∷ 44 ∷ 98 ∷ 41 ∷ 44 ∷ 99 ∷ 41 ∷ 59 ∷ [])
+    -- one of each three-species binary tree, all | 2, `(a,(b,c));`
+    ∷ searched (97 ∷ 32 ∷ 98 ∷ 32 ∷ 99 ∷ []) ((40 ∷ 40 ∷ 97 ∷ 44 ∷ 98 ∷ 41 ∷ 44 ∷ 99 ∷ 41 ∷ 59 ∷ []) ∷ (40 ∷ 40 ∷ 97 ∷ 44 ∷ 99 ∷ 41 ∷ 44 ∷ 98 ∷ 41 ∷ 59 ∷ []) ∷ (40 ∷ 40 ∷ 98 ∷ 44 ∷ 99 ∷ 41 ∷ 44 ∷ 97 ∷ 41 ∷ 59 ∷ []) ∷ []) every 0 2 (40 ∷ 97 ∷ 44 ∷ 40 ∷ 98 ∷ 44 ∷ 99 ∷ 41 ∷ 41 ∷ 59 ∷ [])
+    -- `((a,b),c,d);`, its own clusters | 14
+    ∷ searched (97 ∷ 32 ∷ 98 ∷ 32 ∷ 99 ∷ 32 ∷ 100 ∷ []) ((40 ∷ 40 ∷ 97 ∷ 44 ∷ 98 ∷ 41 ∷ 44 ∷ 99 ∷ 44 ∷ 100 ∷ 41 ∷ 59 ∷ []) ∷ []) own 14 0 []
+    -- `((a,c),(b,d));`, allowed 3 and 12 only | 2, `((a,b),(c,d));`
+    ∷ searched (97 ∷ 32 ∷ 98 ∷ 32 ∷ 99 ∷ 32 ∷ 100 ∷ []) ((40 ∷ 40 ∷ 97 ∷ 44 ∷ 99 ∷ 41 ∷ 44 ∷ 40 ∷ 98 ∷ 44 ∷ 100 ∷ 41 ∷ 41 ∷ 59 ∷ []) ∷ []) (only (3 ∷ 12 ∷ [])) 0 2 (40 ∷ 40 ∷ 97 ∷ 44 ∷ 98 ∷ 41 ∷ 44 ∷ 40 ∷ 99 ∷ 44 ∷ 100 ∷ 41 ∷ 41 ∷ 59 ∷ [])
+    -- roster `a`, `a;`, all | 0, `a;`
+    ∷ searched (97 ∷ []) ((97 ∷ 59 ∷ []) ∷ []) every 0 0 (97 ∷ 59 ∷ [])
+    ∷ []
+
+-- every one of them holds, by the definitions that the promises cite
+pub examples-hold : allHold examples ≡ true
+unfolding examples ones onesIn trailingZeros whole single union has within apart size lowest recordIn foundIn holds allHold kOf extra total weight score recordsIn shown marks answerTo leafAt closing readTreeTo readTree readNode nextIs nextName blanks skip number numberBehind numbers name innerName run word padded upTo same position begins beginnings nameAt names strayAt longAt manyAt againAt openAt faultAt least firstFault faulty clustersIn isLow lows each forks treesTo treesOn those all scoreOf treesOver leastTrees best allowedIn bestFor properly maximal placed byLowest children drawnTo drawn keep some insert sorted recordOf cluster clusters every-trees among rising singlesFrom treeText written nodeText
+examples-hold = refl

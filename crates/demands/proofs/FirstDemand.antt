@@ -1,0 +1,301 @@
+-- The first demand: "Every text, roster, table and number handed over gets a reply", and what a call that turns something away leaves behind.
+use Prim.Native.Nat.{ℕ, zero, suc, _-_, _^_}
+use mathlib.Core.Path.{_≡_, refl, sym, ap, ap₂, _∙_}
+use mathlib.Core.Logic.{_⊎_, inl, inr}
+use mathlib.Core.Bool.{Bool, true, false}
+use mathlib.Core.Option.{Option, some, none}
+use mathlib.Core.List.{List, [], _∷_, _++_, map, List·Memᴰ·head as here, List·Memᴰ·tail as there, Memᴰ·append-left}
+use native.Mathlib.Omega.{arith}
+use lib.ListN.{length, drop, replicate}
+use Rattle.clusters.specs.Sets.{whole}
+use Rattle.trees.specs.Lists.{Among}
+use Rattle.trees.specs.Tree.{Tree}
+use Rattle.roster.specs.Roster.{names, faulty, firstFault, upTo}
+use Rattle.roster.specs.Judged.{Judged, judgedBy, speciesMost}
+use Rattle.roster.specs.Verdict.{Test, Verdict, verdict, lengthTest, replyOf}
+use Rattle.roster.specs.declared.Reply.{Reply}
+use Rattle.reader.specs.Answers.{Answer}
+use Rattle.reader.specs.Answers.Answer.{parsed, refused}
+use Rattle.reader.specs.Promise.{readingOf, answerTo, Reads}
+use Rattle.reader.specs.declared.Reading.{Reading}
+use Rattle.writer.specs.Writing.{written}
+use Rattle.writer.specs.Promise.{rosterTest, recordTest, writeTests, outBy, Writes}
+use Rattle.lineages.specs.Count.{weight, score, recordsIn}
+use Rattle.lineages.specs.Checks.{speciesTest, countTest, speciesRecordTest, recordsTest, clusterTest, weightTests, scoreTests, markTests}
+use Rattle.lineages.specs.Promise.{Weighs, Scores, Marks, markedBy}
+use Rattle.search.specs.BinaryTrees.{Binary}
+use Rattle.search.specs.Least.{scoreEntry, splitEntry}
+use Rattle.search.specs.Promise.{allowedTest, searchTests, bestFor, foundBy, foundOr, filledBy, Finds}
+use Rattle.search.specs.declared.Found.{Found}
+use Rattle.search.proofs.Accepted.{NoneGives, no-fourteen}
+use Rattle.report.specs.Promise.{output, Reports}
+use Rattle.demands.specs.Outcomes.{Replies, TurnedAway, NotFound}
+use Rattle.demands.specs.TextFaults.{TextFault}
+use Rattle.demands.proofs.Refusals.{verdict-listed, among-once, among-behind, replyOf-refused, outBy-refused, markedBy-refused, filledBy-refused, filled, Refused, refused-ways, replyOf-done}
+use Rattle.demands.proofs.Refusals.Refused.{no-tree, by-test}
+use Rattle.demands.proofs.TextFaults.{fault-of-refusal, fault-numbers}
+use Rattle.demands.proofs.OneOutcome.{judge-once, read-once, write-once, weigh-once, score-once, mark-once, find-once, report-once}
+
+-- ---- "Every text, roster, table and number handed over gets a reply. .. No caller has to check first."
+
+-- "Every .. roster .. gets a reply"
+pub replies-judge : (line : List ℕ) → Replies (Judged line)
+unfolding Judged
+replies-judge line =
+    let reply = judgedBy (faulty speciesMost line) speciesMost line in
+    record { outcome = reply; meets = refl; only = λ r p. judge-once line r reply p refl }
+
+-- "Every text, roster .. and number", with any offset
+pub replies-read : (line text : List ℕ) (start : ℕ) → Replies (Reads line text start)
+unfolding Reads
+replies-read line text start =
+    let reply = readingOf start (answerTo line text start) in
+    record { outcome = reply; meets = refl; only = λ r p. read-once line text start r reply p refl }
+
+-- "Every .. roster, table ..": any record, and any bytes lent
+pub replies-write : (line tree out : List ℕ) → Replies (λ (o : Reply × List ℕ). Writes line tree out (o .0) (o .1))
+replies-write line tree out =
+    let reply : Reply = replyOf (verdict (writeTests line tree out)) (length (written (names line) tree)) in
+    let after : List ℕ = outBy (verdict (writeTests line tree out) .number) (written (names line) tree) out in
+    let meets : Writes line tree out reply after = record { answer = refl; bytes = refl } in
+    record {
+      outcome = (reply, after);
+      meets = meets;
+      only = λ o p. let e = write-once line tree out (o .0) reply (o .1) after p meets in ap₂ (λ (r : Reply) (l : List ℕ). (r, l)) (e .0) (e .1);
+    }
+
+-- "Every .. table and number": any gene records, any n, count and cluster
+pub replies-weigh : (n : ℕ) (genes : List ℕ) (count cluster : ℕ) → Replies (Weighs n genes count cluster)
+unfolding Weighs
+replies-weigh n genes count cluster =
+    let reply = replyOf (verdict (weightTests n genes count cluster)) (weight (recordsIn count genes) cluster) in
+    record { outcome = reply; meets = refl; only = λ r p. weigh-once n genes count cluster r reply p refl }
+
+-- any species record with them
+pub replies-score : (n : ℕ) (genes : List ℕ) (count : ℕ) (species : List ℕ) → Replies (Scores n genes count species)
+unfolding Scores
+replies-score n genes count species =
+    let reply = replyOf (verdict (scoreTests n genes count species)) (score (recordsIn count genes) species) in
+    record { outcome = reply; meets = refl; only = λ r p. score-once n genes count species r reply p refl }
+
+-- any bytes lent for the marks
+pub replies-mark : (n : ℕ) (genes : List ℕ) (count : ℕ) (out : List ℕ) → Replies (λ (o : Reply × List ℕ). Marks n genes count out (o .0) (o .1))
+replies-mark n genes count out =
+    let reply : Reply = replyOf (verdict (markTests n genes count out)) 0 in
+    let after : List ℕ = markedBy (verdict (markTests n genes count out) .number) n (recordsIn count genes) out in
+    let meets : Marks n genes count out reply after = record { reply = refl; bytes = refl } in
+    record {
+      outcome = (reply, after);
+      meets = meets;
+      only = λ o p. let e = mark-once n genes count out (o .0) reply (o .1) after p meets in ap₂ (λ (r : Reply) (l : List ℕ). (r, l)) (e .0) (e .1);
+    }
+
+-- any allowed set, and any two tables lent
+pub replies-find :
+    (n : ℕ) (genes : List ℕ) (count : ℕ) (allowed scores splits : List ℕ)
+    → Replies (λ (o : Found × List ℕ × List ℕ). Finds n genes count allowed scores splits (o .0) (o .1) (o .2))
+replies-find n genes count allowed scores splits =
+    let said : Verdict = verdict (searchTests n genes count allowed scores splits) in
+    let trees : ℕ → Option Binary = bestFor n (recordsIn count genes) allowed in
+    let reply : Found = foundOr (said .number) (said .place) (foundBy (trees (whole n)) (recordsIn count genes)) in
+    let s : List ℕ = filledBy (said .number) n (λ a. scoreEntry (weight (recordsIn count genes)) (trees a)) scores in
+    let p : List ℕ = filledBy (said .number) n (λ a. splitEntry (trees a)) splits in
+    let meets : Finds n genes count allowed scores splits reply s p = record { reply = refl; scoreTable = refl; splitTable = refl } in
+    record {
+      outcome = (reply, s, p);
+      meets = meets;
+      only = λ o f.
+          let e = find-once n genes count allowed scores splits (o .0) reply (o .1) s (o .2) p f meets in
+          ap (λ (r : Found). (r, o .1, o .2)) (e .0) ∙ ap₂ (λ (l k : List ℕ). (reply, l, k)) (e .1) (e .2);
+    }
+
+-- "Every text": any input of the program
+pub replies-report : (input : List ℕ) → Replies (Reports input)
+unfolding Reports
+replies-report input =
+    record {
+      outcome = record { len = length (output input); text = output input ++ replicate (512 - length (output input)) 0 };
+      meets = refl;
+      only = λ r p. report-once input r _ p refl;
+    }
+
+-- ---- "Faulty input is turned away with a number and a place, both fixed in advance, and so is what then stands in each buffer she lent."
+
+-- "1 | roster faulty | first byte at fault"
+pub judge-refused : (line : List ℕ) (r : Reply) → Judged line r → (r .number ≡ 0 → ⊥) → TurnedAway (1 ∷ []) r × (r .place ≡ firstFault speciesMost line)
+unfolding Judged
+judge-refused line r p f = go (faulty speciesMost line) p
+  where
+    go : (b : Bool) → r ≡ judgedBy b speciesMost line → TurnedAway (1 ∷ []) r × (r .place ≡ firstFault speciesMost line)
+    go true e = (
+      record { listed = here (ap (λ (r : Reply). r .number) e); value = ap (λ (r : Reply). r .value) e },
+      ap (λ (r : Reply). r .place) e,
+    )
+    go false e = absurd (f (ap (λ (r : Reply). r .number) e))
+
+-- "Order for text: 1, 2, then as met": the number and the place name a fault that the text has; "an all-zero record .. and, from the reader, the offset it was given"
+pub read-refused :
+    (line text : List ℕ) (start : ℕ) (r : Reading) → Reads line text start r → (r .number ≡ 0 → ⊥)
+    → TextFault line text start (r .number) (r .place) × (r .next ≡ start) × (r .numbers ≡ replicate 32 0)
+unfolding Reads
+read-refused line text start r p f = go (answerTo line text start) refl
+  where
+    go : (a : Answer Tree) → answerTo line text start ≡ a → TextFault line text start (r .number) (r .place) × (r .next ≡ start) × (r .numbers ≡ replicate 32 0)
+    go (parsed t rest q) e = absurd (f (ap (λ (r : Reading). r .number) (p ∙ ap (readingOf start) e)))
+    go (refused k q) e = rw (p, e) (fault-of-refusal line text start k q e, refl, refl)
+
+-- "The writer: 1, 15, 12": "Lent slices keep every byte"
+pub write-refused :
+    (line tree out : List ℕ) (r : Reply) (after : List ℕ) → Writes line tree out r after → (r .number ≡ 0 → ⊥)
+    → TurnedAway (1 ∷ 15 ∷ 12 ∷ []) r × (after ≡ out)
+unfolding writeTests rosterTest recordTest lengthTest
+write-refused line tree out r after w f =
+    let l : List Test = writeTests line tree out in (
+      replyOf-refused l (length (written (names line) tree)) r (w .answer) f,
+      w .bytes ∙ outBy-refused (verdict l .number) (written (names line) tree) out (λ z. f (ap (λ (r : Reply). r .number) (w .answer) ∙ z)),
+    )
+
+-- "All others: 1, 11, 12, 16, 15, 13, 14, each where it applies": "0 for any other value"
+pub weigh-refused :
+    (n : ℕ) (genes : List ℕ) (count cluster : ℕ) (r : Reply) → Weighs n genes count cluster r → (r .number ≡ 0 → ⊥)
+    → TurnedAway (1 ∷ 11 ∷ 12 ∷ 15 ∷ 13 ∷ []) r
+unfolding Weighs weightTests speciesTest countTest lengthTest recordsTest clusterTest
+weigh-refused n genes count cluster r p f = replyOf-refused (weightTests n genes count cluster) (weight (recordsIn count genes) cluster) r p f
+
+-- "A refused call returns score 0"
+pub score-refused :
+    (n : ℕ) (genes : List ℕ) (count : ℕ) (species : List ℕ) (r : Reply) → Scores n genes count species r → (r .number ≡ 0 → ⊥)
+    → TurnedAway (1 ∷ 11 ∷ 12 ∷ 16 ∷ 15 ∷ []) r
+unfolding Scores scoreTests speciesTest countTest lengthTest speciesRecordTest recordsTest
+score-refused n genes count species r p f = replyOf-refused (scoreTests n genes count species) (score (recordsIn count genes) species) r p f
+
+-- "Lent slices keep every byte"
+pub mark-refused :
+    (n : ℕ) (genes : List ℕ) (count : ℕ) (out : List ℕ) (r : Reply) (after : List ℕ) → Marks n genes count out r after → (r .number ≡ 0 → ⊥)
+    → TurnedAway (1 ∷ 11 ∷ 12 ∷ 15 ∷ []) r × (after ≡ out)
+unfolding markTests speciesTest countTest lengthTest recordsTest
+mark-refused n genes count out r after p f =
+    let l : List Test = markTests n genes count out in
+    let t = replyOf-refused l 0 r (p .reply) f in (
+      record { listed = among-behind (among-behind among-once) (t .listed); value = t .value },
+      p .bytes ∙ markedBy-refused (verdict l .number) n (recordsIn count genes) out (λ z. f (ap (λ (r : Reply). r .number) (p .reply) ∙ z)),
+    )
+
+module _ (n : ℕ) (genes : List ℕ) (count : ℕ) (allowed scores splits : List ℕ) (r : Found) (s p : List ℕ)
+    (found : Finds n genes count allowed scores splits r s p) (refusal : r .number ≡ 0 → ⊥) where
+  abbrev said : Verdict
+  said = verdict (searchTests n genes count allowed scores splits)
+
+  ways : Refused said r
+  ways = refused-ways n genes count allowed scores splits r s p found refusal
+
+  -- "All others: 1, 11, 12, 16, 15, 13, 14, each where it applies": "A refused call returns score 0, .. an all-zero record"
+  pub find-refused : NotFound (1 ∷ 11 ∷ 12 ∷ 15 ∷ 13 ∷ 14 ∷ []) r
+  unfolding searchTests speciesTest countTest lengthTest recordsTest allowedTest
+  find-refused = go ways (verdict-listed (searchTests n genes count allowed scores splits))
+    where
+      -- 12 stands four times among the tests, 14 comes last
+      once : {x : ℕ} → Among x (1 ∷ 11 ∷ 12 ∷ 12 ∷ 12 ∷ 12 ∷ 15 ∷ 13 ∷ []) → Among x (1 ∷ 11 ∷ 12 ∷ 15 ∷ 13 ∷ 14 ∷ [])
+      once m =
+          Memᴰ·append-left (14 ∷ []) (among-behind (among-behind (λ k. among-once (among-once (among-once k)))) m)
+
+      go : Refused said r → (said .number ≡ 0) ⊎ Among (said .number) (map (λ (t : Test). t .number) (searchTests n genes count allowed scores splits))
+          → NotFound (1 ∷ 11 ∷ 12 ∷ 15 ∷ 13 ∷ 14 ∷ []) r
+      go (no-tree z e) m = rw e (record { listed = there (there (there (there (there (here refl))))); score = refl; numbers-zero = refl })
+      go (by-test f e) (inl z) = absurd (f z)
+      go (by-test f e) (inr m) = rw e (record { listed = once m; score = refl; numbers-zero = refl })
+
+  -- "Lent slices keep every byte, with one exception"
+  pub find-keeps-tables : (r .number ≡ 14 → ⊥) → (s ≡ scores) × (p ≡ splits)
+  find-keeps-tables other = go ways
+    where
+      go : Refused said r → (s ≡ scores) × (p ≡ splits)
+      go (no-tree z e) = absurd (other (ap (λ (r : Found). r .number) e))
+      go (by-test f e) = (
+        found .scoreTable ∙ filledBy-refused (said .number) n (λ a. scoreEntry (weight (recordsIn count genes)) (bestFor n (recordsIn count genes) allowed a)) scores f,
+        found .splitTable ∙ filledBy-refused (said .number) n (λ a. splitEntry (bestFor n (recordsIn count genes) allowed a)) splits f,
+      )
+
+  -- "on 14 both tables are filled as above": "Entries from 2^n on stay"
+  pub find-fills-tables :
+      r .number ≡ 14
+      → (s ≡ map (λ a. scoreEntry (weight (recordsIn count genes)) (bestFor n (recordsIn count genes) allowed a)) (upTo (2 ^ n)) ++ drop (2 ^ n) scores)
+      × (p ≡ map (λ a. splitEntry (bestFor n (recordsIn count genes) allowed a)) (upTo (2 ^ n)) ++ drop (2 ^ n) splits)
+  find-fills-tables e = go ways
+    where
+      go : Refused said r
+          → (s ≡ map (λ a. scoreEntry (weight (recordsIn count genes)) (bestFor n (recordsIn count genes) allowed a)) (upTo (2 ^ n)) ++ drop (2 ^ n) scores)
+          × (p ≡ map (λ a. splitEntry (bestFor n (recordsIn count genes) allowed a)) (upTo (2 ^ n)) ++ drop (2 ^ n) splits)
+      go (no-tree z i) = (
+        filled (said .number) n (λ a. scoreEntry (weight (recordsIn count genes)) (bestFor n (recordsIn count genes) allowed a)) scores s (found .scoreTable) z,
+        filled (said .number) n (λ a. splitEntry (bestFor n (recordsIn count genes) allowed a)) splits p (found .splitTable) z,
+      )
+      go (by-test f i) = absurd (no-fourteen n genes count allowed scores splits (sym (ap (λ (r : Found). r .number) i) ∙ e))
+
+-- ---- "0 | done | 0": no call that is not refused has another place
+
+-- "done | 0": judging a roster
+pub judge-done : (line : List ℕ) (r : Reply) → Judged line r → r .number ≡ 0 → r .place ≡ 0
+unfolding Judged
+judge-done line r p z = go (faulty speciesMost line) p
+  where
+    go : (b : Bool) → r ≡ judgedBy b speciesMost line → r .place ≡ 0
+    go true e = absurd (omega (arith, ap (λ (r : Reply). r .number) e))
+    go false e = ap (λ (r : Reply). r .place) e
+
+-- "done | 0": reading
+pub read-done : (line text : List ℕ) (start : ℕ) (r : Reading) → Reads line text start r → r .number ≡ 0 → r .place ≡ 0
+unfolding Reads
+read-done line text start r p z = go (answerTo line text start) refl
+  where
+    go : (a : Answer Tree) → answerTo line text start ≡ a → r .place ≡ 0
+    go (parsed t rest q) e = ap (λ (r : Reading). r .place) (p ∙ ap (readingOf start) e)
+    go (refused k q) e =
+        let i = ap (λ (r : Reading). r .number) (p ∙ ap (readingOf start) e) in
+        absurd (omega (arith, fault-numbers (fault-of-refusal line text start k q e)))
+
+-- "done | 0": writing
+pub write-done : (line tree out : List ℕ) (r : Reply) (after : List ℕ) → Writes line tree out r after → r .number ≡ 0 → r .place ≡ 0
+unfolding writeTests rosterTest recordTest lengthTest NoneGives
+write-done line tree out r after w =
+    replyOf-done (writeTests line tree out) (length (written (names line) tree)) r (w .answer)
+    (λ z. omega arith, (λ z. omega arith, (λ z. omega arith, tt)))
+
+-- "done | 0": weighing
+pub weigh-done : (n : ℕ) (genes : List ℕ) (count cluster : ℕ) (r : Reply) → Weighs n genes count cluster r → r .number ≡ 0 → r .place ≡ 0
+unfolding Weighs weightTests speciesTest countTest lengthTest recordsTest clusterTest NoneGives
+weigh-done n genes count cluster r p =
+    replyOf-done (weightTests n genes count cluster) (weight (recordsIn count genes) cluster) r p
+    (λ z. omega arith, (λ z. omega arith, (λ z. omega arith, (λ z. omega arith, (λ z. omega arith, tt)))))
+
+-- "done | 0": scoring
+pub score-done : (n : ℕ) (genes : List ℕ) (count : ℕ) (species : List ℕ) (r : Reply) → Scores n genes count species r → r .number ≡ 0 → r .place ≡ 0
+unfolding Scores scoreTests speciesTest countTest lengthTest speciesRecordTest recordsTest NoneGives
+score-done n genes count species r p =
+    replyOf-done (scoreTests n genes count species) (score (recordsIn count genes) species) r p
+    (λ z. omega arith, (λ z. omega arith, (λ z. omega arith, (λ z. omega arith, (λ z. omega arith, tt)))))
+
+-- "done | 0": marking
+pub mark-done : (n : ℕ) (genes : List ℕ) (count : ℕ) (out : List ℕ) (r : Reply) (after : List ℕ) → Marks n genes count out r after → r .number ≡ 0 → r .place ≡ 0
+unfolding markTests speciesTest countTest lengthTest recordsTest NoneGives
+mark-done n genes count out r after p =
+    replyOf-done (markTests n genes count out) 0 r (p .reply)
+    (λ z. omega arith, (λ z. omega arith, (λ z. omega arith, (λ z. omega arith, (λ z. omega arith, tt)))))
+
+-- "done | 0": searching
+pub find-done :
+    (n : ℕ) (genes : List ℕ) (count : ℕ) (allowed scores splits : List ℕ) (r : Found) (s p : List ℕ)
+    → Finds n genes count allowed scores splits r s p → r .number ≡ 0 → r .place ≡ 0
+find-done n genes count allowed scores splits r s p found z =
+    go (verdict (searchTests n genes count allowed scores splits) .number) (verdict (searchTests n genes count allowed scores splits) .place) (found .reply)
+  where
+    tree : Option Binary
+    tree = bestFor n (recordsIn count genes) allowed (whole n)
+
+    there-is : (o : Option Binary) → foundBy o (recordsIn count genes) .place ≡ 0
+    there-is none = refl
+    there-is (some t) = refl
+
+    go : (k q : ℕ) → r ≡ foundOr k q (foundBy tree (recordsIn count genes)) → r .place ≡ 0
+    go zero q e = ap (λ (r : Found). r .place) e ∙ there-is tree
+    go (suc k) q e = absurd (omega (arith, ap (λ (r : Found). r .number) e))

@@ -1,0 +1,158 @@
+-- The gene trees that the program gathers are those that stand in its input, one after the other.
+use Prim.Native.Nat.{ℕ, zero, suc, _+_, _≤_, _<_}
+use mathlib.Core.Path.{_≡_, refl, sym, _∙_, subst}
+use mathlib.Core.Logic.{_⊎_, inl, inr}
+use mathlib.Core.Bool.{Bool, true, false}
+use mathlib.Core.List.{List, [], _∷_, _++_, map, append-nil, append-assoc, List·Memᴰ, List·Memᴰ·not-nil, List·Memᴰ·cases-cons}
+use native.Mathlib.Omega.{arith}
+use lib.ListN.{length, drop, length-append, drop-of-length-le}
+use lib.Seq.{drop-drop}
+use lib.Dec.{leb}
+use borrow.Author.Tests.{leb-true, leb-false}
+use Rattle.clusters.specs.Sets.{whole}
+use Rattle.trees.specs.Tree.{Tree, On, clusters}
+use Rattle.trees.specs.Records.{recordOf}
+use Rattle.roster.specs.Roster.{names}
+use Rattle.reader.specs.Answers.{Answer}
+use Rattle.reader.specs.Answers.Answer.{parsed, refused}
+use Rattle.reader.specs.Tokens.{blanks, skip}
+use Rattle.reader.specs.Grammar.{Rules, Blanks, Text}
+use Rattle.reader.specs.Grammar.Blanks.{none, blank}
+use Rattle.reader.specs.Grammar.Node.{a-leaf, an-inner}
+use Rattle.reader.specs.Grammar.Text.{text}
+use Rattle.reader.specs.Promise.{readingOf, answerTo}
+use Rattle.reader.specs.Accepted.{Draws, JustBehind}
+use Rattle.reader.proofs.Accepts.{accepted-derives}
+use Rattle.reader.proofs.Sound.{skip-blanks}
+use Rattle.report.specs.Input.{genesMost, gatherOn, gatherAt, gatherMore, gatherTo, gather}
+use Rattle.report.specs.Input.Gathered.{gathered, stopped}
+use Rattle.demands.specs.GeneTrees.{RecordsOf}
+use Rattle.demands.specs.Input.{TreesFrom}
+use Rattle.demands.specs.Input.TreesFrom.{only-blanks, a-tree}
+use Rattle.demands.proofs.TextFaults.{fault-of-refusal, fault-numbers}
+
+-- ---- blanks before a tree
+
+blanks-join : {s m l : List ℕ} → Blanks s m → Blanks m l → Blanks s l
+blanks-join none q = q
+blanks-join (blank e p) q = blank e (blanks-join p q)
+
+text-behind-blanks : {R : Rules} {k : ℕ} {s m rest : List ℕ} {t : Tree} → Blanks s m → Text R k m t rest → Text R k s t rest
+text-behind-blanks b (text (a-leaf gap w known behind) ends) = text (a-leaf (blanks-join b gap) w known behind) ends
+text-behind-blanks b (text (an-inner opens first comma others inner behind) ends) = text (an-inner (blanks-join b opens) first comma others inner behind) ends
+
+module _ (line txt : List ℕ) (at : ℕ) where
+  abbrev begun : ℕ
+  begun = at + blanks (drop at txt)
+
+  blanks-from : Blanks (drop at txt) (drop begun txt)
+  unfolding blanks skip
+  blanks-from = rw (← drop-drop (blanks (drop at txt)) at txt) (skip-blanks (drop at txt))
+
+  -- a tree drawn behind blanks is drawn with them
+  draws-behind-blanks : {t : Tree} {rest : List ℕ} → Draws line txt begun t rest → Draws line txt at t rest
+  draws-behind-blanks d = record {
+    good = d .good;
+    short = d .short;
+    inside = let h = d .inside in omega arith;
+    derives = text-behind-blanks blanks-from (d .derives);
+    on = d .on;
+  }
+
+  behind-blanks : {rest : List ℕ} {q : ℕ} → JustBehind txt begun rest q → JustBehind txt at rest q
+  behind-blanks b = record { after = let h = b .after in omega arith; within = b .within; left = b .left }
+
+-- ---- tree after tree
+
+-- the trees from `at` on stand behind those that were gathered before
+record Gathers (line txt : List ℕ) (at : ℕ) (before genes : List (List ℕ)) : Type 0 where
+  trees : List Tree
+  stand : TreesFrom line txt at trees
+  records : genes ≡ before ++ map (λ (t : Tree). recordOf (clusters t)) trees
+  few : length genes ≤ genesMost
+
+stopped-gathered : {number place : ℕ} {genes : List (List ℕ)} → stopped number place ≡ gathered genes → ⊥
+stopped-gathered e = let z : _≡_ {A = ℕ} 0 1 = cc in omega arith
+
+-- one record more behind the others
+length-more : (before : List (List ℕ)) (r : List ℕ) → length (before ++ (r ∷ [])) ≡ length before + 1
+length-more before r = length-append before (r ∷ [])
+
+module _ (line txt : List ℕ) (genes : List (List ℕ)) where
+  no-more : (at : ℕ) (before : List (List ℕ)) → length before ≤ genesMost → length txt ≤ begun line txt at → gathered before ≡ gathered genes → Gathers line txt at before genes
+  no-more at before few ends e =
+      let same : before ≡ genes = cc in
+      record {
+        trees = [];
+        stand = only-blanks (subst (λ (l : List ℕ). Blanks (drop at txt) l) (drop-of-length-le txt {i = begun line txt at} ends) (blanks-from line txt at));
+        records = sym same ∙ sym (append-nil before);
+        few = subst (λ (l : List (List ℕ)). length l ≤ genesMost) same few;
+      }
+
+  one-more :
+      (at : ℕ) (before : List (List ℕ)) (t : Tree) (rest : List ℕ) (q : ℕ) → answerTo line txt (begun line txt at) ≡ parsed t rest q
+      → Gathers line txt q (before ++ (recordOf (clusters t) ∷ [])) genes → Gathers line txt at before genes
+  one-more at before t rest q e g =
+      let a = accepted-derives line txt (begun line txt at) e in
+      record {
+        trees = t ∷ g .trees;
+        stand = a-tree (draws-behind-blanks line txt at (a .draws)) (behind-blanks line txt at (a .place)) (g .stand);
+        records = g .records ∙ append-assoc before (recordOf (clusters t) ∷ []) (map (λ (t : Tree). recordOf (clusters t)) (g .trees));
+        few = g .few;
+      }
+
+  -- at most 512 are gathered, so that k turns are enough where they and those gathered before make 514
+  gathers : (k : ℕ) (before : List (List ℕ)) (at : ℕ) → length before ≤ genesMost → 514 ≤ k + length before → gatherTo k line txt before at ≡ gathered genes
+      → Gathers line txt at before genes
+  unfolding gatherTo
+  gathers zero before at few enough e = absurd (omega arith)
+  gathers (suc k) before at few enough e =
+      ends (leb (length txt) (begun line txt at)) refl e (λ r q l h. gathers k (before ++ (r ∷ [])) q (omega (arith, length-more before r)) (omega (arith, length-more before r)) h)
+    where
+      Later : Type 0
+      Later = (r : List ℕ) (q : ℕ) → length before < genesMost → gatherTo k line txt (before ++ (r ∷ [])) q ≡ gathered genes → Gathers line txt q (before ++ (r ∷ [])) genes
+
+      read :
+          (a : Answer Tree) → answerTo line txt (begun line txt at) ≡ a → length before < genesMost
+          → gatherOn (readingOf (begun line txt at) a .number) (readingOf (begun line txt at) a) (λ numbers next. gatherTo k line txt (before ++ (numbers ∷ [])) next) ≡ gathered genes
+          → Later → Gathers line txt at before genes
+      read (parsed t rest q) a l e later = one-more at before t rest q a (later (recordOf (clusters t)) q l e)
+      read (refused zero p) a l e later = absurd (omega (arith, fault-numbers (fault-of-refusal line txt (begun line txt at) 0 p a)))
+      read (refused (suc m) p) a l e later = absurd (stopped-gathered e)
+
+      room :
+          (b : Bool) → leb genesMost (length before) ≡ b
+          → gatherAt b line txt (begun line txt at) (λ numbers next. gatherTo k line txt (before ++ (numbers ∷ [])) next) ≡ gathered genes
+          → Later → Gathers line txt at before genes
+      room true is e later = absurd (stopped-gathered e)
+      room false is e later = read (answerTo line txt (begun line txt at)) refl (leb-false genesMost (length before) is) e later
+
+      ends :
+          (b : Bool) → leb (length txt) (begun line txt at) ≡ b
+          → gatherMore b line txt before (begun line txt at) (λ numbers next. gatherTo k line txt (before ++ (numbers ∷ [])) next) ≡ gathered genes
+          → Later → Gathers line txt at before genes
+      ends true is e later = no-more at before few (leb-true (length txt) (begun line txt at) is) e
+      ends false is e later = room (leb genesMost (length before)) refl e later
+
+-- ---- all of them
+
+each-on : {line txt : List ℕ} {at : ℕ} {trees : List Tree} → TreesFrom line txt at trees → (t : Tree) → List·Memᴰ t trees → On (whole (length (names line))) t
+each-on (only-blanks b) t m = absurd (List·Memᴰ·not-nil m)
+each-on {line} (a-tree {t = u} {trees = trees} d j later) t m = go (List·Memᴰ·cases-cons m) (each-on later t)
+  where
+    go : (t ≡ u) ⊎ List·Memᴰ t trees → (List·Memᴰ t trees → On (whole (length (names line))) t) → On (whole (length (names line))) t
+    go (inl e) h = rw e (d .on)
+    go (inr k) h = h k
+
+-- the trees that were gathered from a text
+pub record GatheredFrom (line txt : List ℕ) (genes : List (List ℕ)) : Type 0 where
+  pub trees : List Tree
+  pub stand : TreesFrom line txt 0 trees
+  pub records : RecordsOf (length (names line)) genes trees
+  pub few : length genes ≤ genesMost
+
+pub gathered-from : (line txt : List ℕ) (genes : List (List ℕ)) → gather line txt ≡ gathered genes → GatheredFrom line txt genes
+unfolding gather
+gathered-from line txt genes e =
+    let g = gathers line txt genes 514 [] 0 (omega arith) (omega arith) e in
+    record { trees = g .trees; stand = g .stand; records = record { records = g .records; on = each-on (g .stand) }; few = g .few }

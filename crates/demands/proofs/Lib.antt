@@ -1,0 +1,14 @@
+pub mod Examples
+pub mod OneOutcome
+pub mod Refusals
+pub mod TextFaults
+pub mod FirstDemand
+pub mod GeneTrees
+pub mod Scorable
+pub mod SecondDemand
+pub mod ThirdDemand
+pub mod ShutOut
+pub mod Gathering
+pub mod Allowing
+pub mod Solved
+pub mod Signed

@@ -1,0 +1,58 @@
+-- For each public call: "it is proved that the promise admits a single outcome".
+use Prim.Native.Nat.{ℕ}
+use mathlib.Core.Path.{_≡_, sym, _∙_}
+use mathlib.Core.List.{List}
+use Rattle.roster.specs.Judged.{Judged}
+use Rattle.roster.specs.declared.Reply.{Reply}
+use Rattle.roster.proofs.Judging.{judged-once}
+use Rattle.reader.specs.Promise.{Reads}
+use Rattle.reader.specs.declared.Reading.{Reading}
+use Rattle.writer.specs.Promise.{Writes}
+use Rattle.writer.proofs.Outcomes.{writes-once}
+use Rattle.lineages.specs.Promise.{Weighs, Scores, Marks}
+use Rattle.lineages.proofs.Outcomes.{weighs-once, scores-once, marks-once}
+use Rattle.search.specs.Promise.{Finds}
+use Rattle.search.specs.declared.Found.{Found}
+use Rattle.search.proofs.Demand.{finds-once}
+use Rattle.report.specs.Promise.{Reports}
+
+-- "it is proved that the promise admits a single outcome": for a roster line
+pub judge-once : (line : List ℕ) (r r′ : Reply) → Judged line r → Judged line r′ → r ≡ r′
+judge-once = judged-once
+
+-- for a text read from an offset on
+pub read-once : (line text : List ℕ) (start : ℕ) (r r′ : Reading) → Reads line text start r → Reads line text start r′ → r ≡ r′
+unfolding Reads
+read-once line text start r r′ p q = p ∙ sym q
+
+-- for a record written: the reply and the lent bytes
+pub write-once :
+    (line tree out : List ℕ) (r r′ : Reply) (after after′ : List ℕ)
+    → Writes line tree out r after → Writes line tree out r′ after′ → (r ≡ r′) × (after ≡ after′)
+write-once line tree out r r′ after after′ p q = writes-once p q
+
+-- for the weight of a cluster
+pub weigh-once : (n : ℕ) (genes : List ℕ) (count cluster : ℕ) (r r′ : Reply) → Weighs n genes count cluster r → Weighs n genes count cluster r′ → r ≡ r′
+weigh-once n genes count cluster r r′ p q = weighs-once n genes count cluster p q
+
+-- for the score of a species tree
+pub score-once :
+    (n : ℕ) (genes : List ℕ) (count : ℕ) (species : List ℕ) (r r′ : Reply) → Scores n genes count species r → Scores n genes count species r′ → r ≡ r′
+score-once n genes count species r r′ p q = scores-once n genes count species p q
+
+-- for the marks: the reply and the lent bytes
+pub mark-once :
+    (n : ℕ) (genes : List ℕ) (count : ℕ) (out : List ℕ) (r r′ : Reply) (after after′ : List ℕ)
+    → Marks n genes count out r after → Marks n genes count out r′ after′ → (r ≡ r′) × (after ≡ after′)
+mark-once n genes count out r r′ after after′ p q = marks-once p q
+
+-- for the search: the reply and both tables
+pub find-once :
+    (n : ℕ) (genes : List ℕ) (count : ℕ) (allowed scores splits : List ℕ) (r r′ : Found) (s s′ p p′ : List ℕ)
+    → Finds n genes count allowed scores splits r s p → Finds n genes count allowed scores splits r′ s′ p′ → (r ≡ r′) × (s ≡ s′) × (p ≡ p′)
+find-once n genes count allowed scores splits r r′ s s′ p p′ f g = finds-once f g
+
+-- for the program's report
+pub report-once : (input : List ℕ) (r r′ : _) → Reports input r → Reports input r′ → r ≡ r′
+unfolding Reports
+report-once input r r′ p q = p ∙ sym q

@@ -1,0 +1,57 @@
+-- A text that is refused has the fault that the number says, at the place.
+use Prim.Native.Nat.{ℕ, _≤_}
+use mathlib.Core.Path.{_≡_, refl}
+use mathlib.Core.Bool.{Bool, true, false}
+use mathlib.Core.List.{List}
+use native.Mathlib.Omega.{arith}
+use lib.ListN.{length, drop}
+use lib.Dec.{leb}
+use borrow.Author.Tests.{leb-true, leb-false}
+use Rattle.clusters.specs.Sets.{whole}
+use Rattle.roster.specs.Roster.{names, faulty, firstFault}
+use Rattle.roster.specs.Judged.{speciesMost}
+use Rattle.reader.specs.Answers.Answer.{refused}
+use Rattle.reader.specs.Promise.{textMost, fromStart, inLimit, onRoster, answerTo}
+use Rattle.reader.proofs.Meaning.{refusal-means, refusal-numbers}
+use Rattle.demands.specs.TextFaults.{TextFault}
+use Rattle.demands.specs.TextFaults.TextFault.{roster-faulty, too-long, beyond, as-met}
+
+pub fault-of-refusal :
+    (line text : List ℕ) (start number place : ℕ) → answerTo line text start ≡ refused number place → TextFault line text start number place
+unfolding answerTo
+fault-of-refusal line text start number place = judged (faulty speciesMost line) refl
+  where
+    started :
+        (b : Bool) → leb start (length text) ≡ b → faulty speciesMost line ≡ false → length text ≤ textMost
+        → fromStart b (names line) text start ≡ refused number place → TextFault line text start number place
+    started true is good short e =
+        as-met good short (leb-true start (length text) is)
+        (refusal-means (names line) (whole (length (names line))) (drop start text) start e)
+    started false is good short e =
+        let k : 10 ≡ number = cc in
+        let q : length text ≡ place = cc in
+        rw (← k, ← q) (beyond good short (leb-false start (length text) is))
+
+    limited :
+        (b : Bool) → leb (length text) textMost ≡ b → faulty speciesMost line ≡ false
+        → inLimit b (names line) text start ≡ refused number place → TextFault line text start number place
+    limited true is good e = started (leb start (length text)) refl good (leb-true (length text) textMost is) e
+    limited false is good e =
+        let k : 2 ≡ number = cc in
+        let q : textMost ≡ place = cc in
+        rw (← k, ← q) (too-long good (leb-false (length text) textMost is))
+
+    judged :
+        (b : Bool) → faulty speciesMost line ≡ b → onRoster b line text start ≡ refused number place → TextFault line text start number place
+    judged true is e =
+        let k : 1 ≡ number = cc in
+        let q : firstFault speciesMost line ≡ place = cc in
+        rw (← k, ← q) (roster-faulty is)
+    judged false is e = limited (leb (length text) textMost) refl is e
+
+-- the numbers are those from 1 to 10
+pub fault-numbers : {line text : List ℕ} {start number place : ℕ} → TextFault line text start number place → (1 ≤ number) × (number ≤ 10)
+fault-numbers (roster-faulty f) = omega arith
+fault-numbers (too-long g l) = omega arith
+fault-numbers (beyond g l b) = omega arith
+fault-numbers (as-met g l b r) = let k = refusal-numbers (r .means) in omega arith

@@ -1,0 +1,67 @@
+-- 01's table "Examples on both sides": what a row says, and when it holds.
+use Prim.Native.Nat.{ℕ, zero, suc, _^_}
+use mathlib.Core.Bool.{Bool, true, false, _&&_}
+use mathlib.Core.List.{List, [], _∷_, map}
+use lib.ListN.{length, replicate}
+use lib.Dec.{eqb}
+use Rattle.clusters.specs.Sets.{whole}
+use Rattle.trees.specs.Records.{listed}
+use Rattle.trees.specs.Valid.{among}
+use Rattle.roster.specs.Roster.{names, same, upTo}
+use Rattle.reader.specs.Promise.{answerTo, readingOf}
+use Rattle.writer.specs.Writing.{written}
+use Rattle.lineages.specs.Count.{kOf, score}
+use Rattle.lineages.specs.Promise.{marks, flag}
+use Rattle.search.specs.Promise.{bestFor, foundBy}
+use Rattle.search.specs.declared.Found.{Found}
+
+-- the allowed clusters of a row: all, those that the gene trees show, or these only
+pub data Allowed : Type 0 where
+  every : Allowed
+  own : Allowed
+  only : List ℕ → Allowed
+
+-- a row: a text's record; k of a cluster in a tree; a gene tree scored on a species tree; gene trees searched. The first part is the roster
+pub data Row : Type 0 where
+  recorded : List ℕ → List ℕ → List ℕ → Row
+  counted : List ℕ → List ℕ → ℕ → ℕ → Row
+  scored : List ℕ → List ℕ → List ℕ → ℕ → Row
+  searched : List ℕ → List (List ℕ) → Allowed → ℕ → ℕ → List ℕ → Row
+
+-- the record that a text reads to
+unfoldable pub recordIn : List ℕ → List ℕ → List ℕ
+recordIn line text = readingOf 0 (answerTo line text 0) .numbers
+
+-- the allowed set as bytes
+abbrev pub bytesOf : Allowed → ℕ → List (List ℕ) → List ℕ
+bytesOf every n genes = replicate (2 ^ n) 1
+bytesOf own n genes = marks n genes
+bytesOf (only cs) n genes = map (λ a. flag (among a cs)) (upTo (2 ^ n))
+
+-- what a search finds: its number, its score and its tree's text, which is empty on a refusal
+abbrev pub textBy : ℕ → List ℕ → List ℕ → List ℕ
+textBy zero line numbers = written (names line) numbers
+textBy (suc number) line numbers = []
+
+-- what a search on the gene records finds
+unfoldable pub foundIn : List ℕ → List (List ℕ) → Allowed → Found
+foundIn line genes allowed =
+    foundBy (bestFor (length (names line)) genes (bytesOf allowed (length (names line)) genes) (whole (length (names line)))) genes
+
+-- the row says what the definitions give
+unfoldable pub holds : Row → Bool
+unfolding recordIn foundIn
+holds (recorded line text numbers) = same (listed (recordIn line text)) numbers
+holds (counted line text a k) = eqb (kOf (listed (recordIn line text)) a) k
+holds (scored line gene species s) = eqb (score (recordIn line gene ∷ []) (recordIn line species)) s
+holds (searched line genes allowed number s text) =
+    eqb (foundIn line (map (recordIn line) genes) allowed .number) number && eqb (foundIn line (map (recordIn line) genes) allowed .score) s
+    && same
+    (textBy (foundIn line (map (recordIn line) genes) allowed .number) line (foundIn line (map (recordIn line) genes) allowed .numbers))
+    text
+
+-- every row of a table holds
+unfoldable pub allHold : List Row → Bool
+unfolding holds
+allHold [] = true
+allHold (r ∷ l) = holds r && allHold l

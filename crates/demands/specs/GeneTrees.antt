@@ -1,0 +1,17 @@
+-- Gene trees as drawn: the records that they have, and the score counted over them.
+use Prim.Native.Nat.{ℕ, _-_}
+use mathlib.Core.Path.{_≡_}
+use mathlib.Core.List.{List, map, List·Memᴰ}
+use Rattle.clusters.specs.Sets.{whole}
+use Rattle.trees.specs.Tree.{Tree, On, clusters}
+use Rattle.trees.specs.Records.{listed, recordOf}
+use Rattle.lineages.specs.Count.{kOf, total}
+
+-- the gene records are those of these drawn trees, each of which has every one of n species once
+pub record RecordsOf (n : ℕ) (genes : List (List ℕ)) (trees : List Tree) : Type 0 where
+  pub records : genes ≡ map (λ (t : Tree). recordOf (clusters t)) trees
+  pub on : (t : Tree) → List·Memᴰ t trees → On (whole n) t
+
+-- "the sum, over its clusters and all gene trees, of the number of maximal gene clusters within that cluster, less one"
+unfoldable pub scoreOver : List Tree → List ℕ → ℕ
+scoreOver trees species = total (map (λ (a : ℕ). total (map (λ (t : Tree). kOf (clusters t) a - 1) trees)) (listed species))

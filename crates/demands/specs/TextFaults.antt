@@ -1,0 +1,26 @@
+-- Why a text is turned away (01, "Numbers returned"): "Order for text: 1, 2, then as met".
+use Prim.Native.Nat.{ℕ, _≤_, _<_}
+use mathlib.Core.Path.{_≡_}
+use mathlib.Core.Bool.{true, false}
+use mathlib.Core.List.{List}
+use lib.ListN.{length, drop}
+use Rattle.clusters.specs.Sets.{whole}
+use Rattle.roster.specs.Roster.{names, faulty, firstFault}
+use Rattle.roster.specs.Judged.{speciesMost}
+use Rattle.reader.specs.Promise.{textMost}
+use Rattle.reader.specs.Meaning.{Refusal}
+
+-- the fault of a text that is read from start on, by the number and the place that are given for it
+pub data TextFault (line text : List ℕ) (start : ℕ) : ℕ → ℕ → Type 0 where
+  -- "1 | roster faulty | first byte at fault"
+  roster-faulty : faulty speciesMost line ≡ true → TextFault line text start 1 (firstFault speciesMost line)
+  -- "2 | text over 65,536 bytes | 65,536"
+  too-long : faulty speciesMost line ≡ false → textMost < length text → TextFault line text start 2 textMost
+  -- "A start beyond the text gives 10": "text length"
+  beyond : faulty speciesMost line ≡ false → length text ≤ textMost → length text < start → TextFault line text start 10 (length text)
+  -- 3 to 10 "as met", with what each says of the text
+  as-met :
+      {number place : ℕ}
+      → faulty speciesMost line ≡ false → length text ≤ textMost → start ≤ length text
+      → Refusal (names line) (whole (length (names line))) (drop start text) start number place
+      → TextFault line text start number place

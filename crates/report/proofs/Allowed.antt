@@ -1,0 +1,78 @@
+-- The allowed clusters of a mode: 2^n bytes, each 0 or 1.
+use Prim.Native.Nat.{ℕ, zero, suc, _^_, _≤_, _<_}
+use mathlib.Core.Path.{_≡_, refl, sym, ap, _∙_}
+use mathlib.Core.Bool.{Bool, true, false}
+use mathlib.Core.List.{List, [], _∷_, _++_, map, append-nil, List·Memᴰ, List·Memᴰ·head as here, List·Memᴰ·tail as there}
+use native.Mathlib.Omega.{arith}
+use lib.ListN.{length, getD, drop, length-append, replicate, drop-of-length-le, getD-replicate, length-replicate}
+use Rattle.clusters.specs.Sets.{whole}
+use Rattle.trees.specs.Valid.{valid}
+use Rattle.trees.proofs.Bounds.{whole-below-sixteen}
+use Rattle.trees.proofs.ValidTest.{valid-decides}
+use Rattle.roster.specs.Roster.{upTo}
+use Rattle.roster.specs.declared.Reply.{Reply}
+use Rattle.lineages.specs.Count.{recordsIn}
+use Rattle.lineages.specs.Checks.{firstBad}
+use Rattle.lineages.specs.Promise.{shown, flag, marks, Marks}
+use Rattle.lineages.specs.Work.{AllValid}
+use Rattle.lineages.proofs.Lent.{length-recordsIn}
+use Rattle.lineages.proofs.Verdicts.{Shaped}
+use Rattle.lineages.proofs.Shown.{marks-below, length-marks}
+use Rattle.lineages.proofs.Calls.{marks-done}
+use Rattle.lineages.proofs.Outcomes.{marks-once}
+use Rattle.report.specs.Program.{allowedBy}
+use Rattle.report.specs.Work.{Genes, Marked}
+
+-- where every record is valid, the test of each passes, and none is the first bad one
+pub valid-tests : (n : ℕ) (genes : List (List ℕ)) → n ≤ 16 → AllValid n genes → (g : List ℕ) → List·Memᴰ g genes → valid (whole n) g ≡ true
+valid-tests n genes few all g m = valid-decides g (whole-below-sixteen n few) .told (all g m)
+
+pub none-bad : (n : ℕ) (genes : List (List ℕ)) → n ≤ 16 → AllValid n genes → firstBad n genes ≡ length genes
+unfolding firstBad
+none-bad n [] few all = refl
+none-bad n (g ∷ l) few all = rw (valid-tests n (g ∷ l) few all g (here refl)) (ap suc (none-bad n l few (λ x m. all x (there m))))
+
+-- what `mark` leaves in exactly 2^n bytes
+pub marked :
+    {n count : ℕ} {genes out : List ℕ} {r : Reply} {after : List ℕ}
+    → Genes n count genes → length out ≡ 2 ^ n → Marks n genes count out r after → after ≡ marks n (recordsIn count genes)
+marked {n} {count} {genes} {out} {r} {after} g e m =
+    let shaped : Shaped n genes count = record {
+      some-species = g .some-species;
+      few-species = omega (arith, g .few-species);
+      some-genes = g .some;
+      few-genes = omega (arith, g .few);
+      fits = g .lent;
+    } in
+    let bad = none-bad n (recordsIn count genes) (omega (arith, g .few-species)) (g .valid) in
+    let whole-text = marks-done n genes count out shaped (omega arith) refl (omega (arith, length-recordsIn count genes)) refl refl in
+    marks-once m whole-text .1
+    ∙ (ap (λ (k : List ℕ). k ++ drop (2 ^ n) out) (marks-below n (recordsIn count genes))
+    ∙ (let h : length out ≤ 2 ^ n = omega arith in rw (drop-of-length-le out h, append-nil)))
+
+-- ---- each byte is 0 or 1
+
+flag-low : (b : Bool) → flag b ≤ 1
+flag-low true = omega arith
+flag-low false = omega arith
+
+all-low : (f : ℕ → ℕ) → ((x : ℕ) → f x ≤ 1) → (l : List ℕ) (i : ℕ) → getD (map f l) i 0 ≤ 1
+all-low f h [] i = omega arith
+all-low f h (x ∷ l) zero = h x
+all-low f h (x ∷ l) (suc i) = all-low f h l i
+
+allowed-low : (all : Bool) (n : ℕ) (genes : List (List ℕ)) (a : ℕ) → a < 2 ^ n → getD (allowedBy all n genes) a 0 ≤ 1
+unfolding marks
+allowed-low true n genes a h = let e = getD-replicate {A = ℕ} (2 ^ n) a 1 0 h in omega arith
+allowed-low false n genes a h = all-low (λ a. flag (shown genes a)) (λ a. flag-low (shown genes a)) (upTo (2 ^ n)) a
+
+allowed-length : (all : Bool) (n : ℕ) (genes : List (List ℕ)) → length (allowedBy all n genes) ≡ 2 ^ n
+allowed-length true n genes = length-replicate {A = ℕ} (2 ^ n) 1
+allowed-length false n genes = ap length (sym (marks-below n genes)) ∙ length-marks (2 ^ n) genes
+
+pub allowed-marked : (all : Bool) (n : ℕ) (genes : List (List ℕ)) → Marked n (allowedBy all n genes)
+allowed-marked all n genes = record { exact = allowed-length all n genes; low = allowed-low all n genes }
+
+-- bytes at the front of an array
+pub front-fits : (front behind : List ℕ) {entries : ℕ} → length front ≡ entries → entries ≤ length (front ++ behind)
+front-fits front behind e = omega (arith, length-append front behind)

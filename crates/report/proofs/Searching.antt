@@ -1,0 +1,73 @@
+-- The search on gene trees that were read: no check refuses, and what is found is an outcome of the program.
+use Prim.Native.Nat.{ℕ, zero, suc, _*_, _^_, _≤_, _<_}
+use mathlib.Core.Path.{_≡_, refl, sym, ap, _∙_, subst}
+use mathlib.Core.Option.{Option, some, none}
+use mathlib.Core.List.{List}
+use native.Mathlib.Omega.{arith}
+use lib.ListN.{length}
+use lib.Pow.{pow-mono}
+use Rattle.clusters.specs.Sets.{whole}
+use Rattle.trees.specs.Records.{ValidOn}
+use Rattle.lineages.specs.Count.{recordsIn, weight}
+use Rattle.lineages.proofs.Lent.{length-recordsIn}
+use Rattle.search.specs.BinaryTrees.{Binary}
+use Rattle.search.specs.Promise.{allowedIn, bestFor, foundBy, Finds}
+use Rattle.search.specs.declared.Found.{Found}
+use Rattle.search.specs.Candidates.{Accepted}
+use Rattle.search.proofs.Accepted.{accepts}
+use Rattle.search.proofs.Recurrence.{best-on}
+use Rattle.search.proofs.RecordsOfTrees.{tree-valid, whole-narrow}
+use Rattle.report.specs.Program.{Outcome, outcomeOf, searched}
+use Rattle.report.specs.Program.Outcome.{refused, solved}
+use Rattle.report.specs.Work.{Genes, Marked}
+use Rattle.report.proofs.Allowed.{valid-tests}
+
+-- the tables have room for twelve species
+pub entries-most : {n : ℕ} → n ≤ 12 → 2 ^ n ≤ 4096
+entries-most h = pow-mono {j = 12} h
+
+module _ {n count : ℕ} {genes allowed scores splits : List ℕ} (g : Genes n count genes) (m : Marked n allowed) where
+  genes-accepted : length scores ≡ 4096 → length splits ≡ 4096 → Accepted n genes count allowed scores splits
+  genes-accepted e f =
+      let room = entries-most (g .few-species) in
+      record {
+        some-species = g .some-species;
+        few-species = omega (arith, g .few-species);
+        some-genes = g .some;
+        few-genes = omega (arith, g .few);
+        genes-fit = g .lent;
+        allowed-fits = omega (arith, m .exact);
+        scores-fit = omega arith;
+        splits-fit = omega arith;
+        genes-valid = valid-tests n (recordsIn count genes) (omega (arith, g .few-species)) (g .valid);
+        allowed-bytes = m .low;
+      }
+
+  pub found :
+      {r : Found} {scores′ splits′ : List ℕ} → length scores ≡ 4096 → length splits ≡ 4096 → Finds n genes count allowed scores splits r scores′ splits′
+      → r ≡ foundBy (bestFor n (recordsIn count genes) allowed (whole n)) (recordsIn count genes)
+  found e f finds = rw (accepts n genes count allowed scores splits (genes-accepted e f)) at (finds .reply)
+
+-- ---- the outcome
+
+module _ (n : ℕ) (genes : List (List ℕ)) (allowed : List ℕ) {r : Found} (is : r ≡ foundBy (bestFor n genes allowed (whole n)) genes) where
+  pub searched-refused : (r .number ≡ 0 → ⊥) → refused (r .number) (r .place) ≡ searched n genes allowed
+  unfolding searched
+  searched-refused number = rw (← is) (go (r .number) refl)
+    where
+      go : (k : ℕ) → r .number ≡ k → refused k (r .place) ≡ outcomeOf k n (length genes) r
+      go zero z = absurd (number z)
+      go (suc k) z = refl
+
+  pub searched-solved : r .number ≡ 0 → solved n (length genes) (r .score) (r .numbers) ≡ searched n genes allowed
+  unfolding searched
+  searched-solved z = rw (← is, z)
+
+  -- the record of what is found is valid
+  pub found-valid : n ≤ 16 → r .number ≡ 0 → ValidOn (whole n) (r .numbers)
+  unfolding bestFor
+  found-valid few z = go (bestFor n genes allowed (whole n)) refl is
+    where
+      go : (o : Option Binary) → bestFor n genes allowed (whole n) ≡ o → r ≡ foundBy o genes → ValidOn (whole n) (r .numbers)
+      go (some t) e h = rw h (tree-valid (best-on (weight genes) (allowedIn n allowed) (whole n) t e) (whole-narrow few))
+      go none e h = absurd (omega (arith, sym z ∙ ap (λ (f : Found). f .number) h))

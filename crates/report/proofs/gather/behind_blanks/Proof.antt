@@ -1,0 +1,79 @@
+-- The loop keeps: the place behind the blanks is that behind those from i on.
+use Prim.Native.Nat.{_+_, _-_}
+use mathlib.Core.Path.{_≡_, sym, _∙_}
+use native.Mathlib.Omega.{arith}
+use lib.ListN.{length, drop}
+use borrow.Author.Needs.{needs}
+use borrow.Author.Tests.{not-true, not-false}
+use Rattle.roster.specs.Bytes.{isBlank}
+use Rattle.roster.proofs.Runs.{run-on, run-off, run-end}
+use Rattle.reader.specs.Tokens.{blanks}
+use Rattle.report.proofs.gather.behind_blanks.Statement.{statement}
+use Rattle.report.proofs.gather.behind_blanks.Tie as tie
+use Rattle.report.proofs.gather.behind_blanks.Reads as reads
+use Rattle.report.proofs.gather.behind_blanks.Lts as lts
+use Rattle.roster.proofs.is_blank.Reads as is-blank-reads
+
+abbrev Inv-loop : tie.InvT-loop
+Inv-loop text at i₀ i = at + blanks (drop at text) ≡ i + blanks (drop i text)
+
+abbrev μ-loop : tie.MeasureT-loop
+μ-loop text at i₀ i = length text - i
+
+-- src/gather.rt:21:5
+loop-holds : tie.Need-loop-holds Inv-loop μ-loop
+loop-holds c = search needs
+
+-- src/gather.rt:22:30
+shared-slice-read-is-blank : tie.Need-shared-slice-read-is-blank Inv-loop μ-loop
+shared-slice-read-is-blank c = search needs
+
+-- src/gather.rt:22:13
+is-blank-requires : tie.Need-is-blank-requires Inv-loop μ-loop
+is-blank-requires c κs = search needs
+
+-- src/gather.rt:23:13
+returns : tie.Need-returns Inv-loop μ-loop
+unfolding blanks
+returns c =
+    let at-loop = c .before .before .before .before in
+    let off = run-off isBlank (at-loop .before .before .args .text .now) (at-loop .loop .i) (c .before .before .before .loop-test .taken) (sym (c .before .is-blank .ensures) ∙ not-true _ (c .if1 .taken)) in
+    omega arith
+
+-- src/gather.rt:25:9
+add-i : tie.Need-add-i Inv-loop μ-loop
+add-i c = search needs
+
+-- src/gather.rt:21:5
+loop-less : tie.Need-loop-less Inv-loop μ-loop
+loop-less c = search needs
+
+-- src/gather.rt:21:5
+loop-again : tie.Need-loop-again Inv-loop μ-loop
+unfolding blanks
+loop-again c =
+    let at-loop = c .before .before .before .before in
+    let on = run-on isBlank (at-loop .before .before .args .text .now) (at-loop .loop .i) (c .before .before .before .loop-test .taken) (sym (c .before .is-blank .ensures) ∙ not-false _ (c .if1 .left)) in
+    omega arith
+
+-- src/gather.rt:17:1
+returns-2 : tie.Need-returns-2 Inv-loop μ-loop
+unfolding blanks
+returns-2 c =
+    let over = run-end isBlank (c .before .before .before .args .text .now) (c .before .loop .i) (c .loop-test .left) in
+    omega arith
+
+pub behind-blanks-spec : {M : Type 1} → statement M
+behind-blanks-spec =
+    tie.close
+    (tie.spec
+    Inv-loop
+    μ-loop
+    loop-holds
+    shared-slice-read-is-blank
+    is-blank-requires
+    returns
+    add-i
+    loop-less
+    loop-again
+    returns-2)

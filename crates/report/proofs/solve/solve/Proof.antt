@@ -1,0 +1,143 @@
+-- The allowed clusters are handed on as they were marked, and the outcome is that of the search.
+use Prim.Native.Nat.{ℕ, _^_, _≤_}
+use mathlib.Core.Path.{_≡_, sym, ap, _∙_}
+use mathlib.Core.List.{List, _++_}
+use native.Mathlib.Omega.{arith}
+use lib.ListN.{length, take, drop, replicate}
+use lib.Seq.{length-take-le, take-at}
+use Rattle.clusters.specs.Sets.{single, whole}
+use Rattle.roster.specs.Roster.{names}
+use Rattle.lineages.specs.Count.{recordsIn}
+use Rattle.lineages.proofs.Lent.{length-recordsIn}
+use Rattle.search.specs.Promise.{bestFor, foundBy}
+use Rattle.report.specs.Program.{Outcome, allowedBy}
+use Rattle.report.specs.Program.Outcome.{solved}
+use Rattle.report.specs.Work.{told}
+use Rattle.report.proofs.Allowed.{allowed-marked, front-fits}
+use Rattle.report.proofs.Searching.{entries-most, searched-refused, searched-solved, found-valid}
+use borrow.Author.Needs.{needs}
+use Rattle.report.proofs.solve.solve.Statement.{statement}
+use Rattle.report.proofs.solve.solve.Tie as tie
+use Rattle.report.proofs.solve.solve.Reads as reads
+use Rattle.report.proofs.solve.solve.Lts as lts
+use Rattle.clusters.proofs.single.Reads as single-reads
+use Rattle.report.proofs.print.refusal.Reads as refusal-reads
+use Rattle.report.proofs.print.solved.Reads as solved-reads
+use Rattle.report.proofs.solve.allow.Reads as allow-reads
+use Rattle.report.proofs.solve.find.Reads as find-reads
+
+entries : (c : tie.After-single) → c .single .result ≡ 2 ^ c .before .before .before .args .n
+unfolding single
+entries c = c .single .ensures
+
+entries-fit : (c : tie.After-single) → c .single .result ≤ 4096
+entries-fit c = rw (entries c) (entries-most (c .before .before .before .pre .1 .few-species))
+
+-- the allowed clusters, and what is left of the array behind them
+abbrev allowed : (c : tie.After-allow) → List ℕ
+allowed c = allowedBy (c .before .before .before .before .before .args .all) (c .before .before .before .before .before .args .n) (recordsIn (c .before .before .before .before .before .args .count) (c .before .before .before .before .before .args .genes .now))
+
+abbrev behind : (c : tie.After-allow) → List ℕ
+behind c = drop (c .before .before .single .result) (replicate 4096 0)
+
+allowed-entries : (c : tie.After-allow) → length (c .allow .last .1 .1 .1 .1 .0) ≡ c .before .before .single .result
+allowed-entries c =
+    let args = c .before .before .before .before .before .args in
+    ap length (c .allow .ensures)
+    ∙ (allowed-marked (args .all) (args .n) (recordsIn (args .count) (args .genes .now)) .exact ∙ sym (entries (c .before .before)))
+
+-- what is handed on is those bytes
+handed : (c : tie.After-allow) → take (c .before .before .single .result) (c .allow .last .1 .1 .1 .1 .0 ++ behind c) ≡ allowed c
+handed c = take-at (c .allow .last .1 .1 .1 .1 .0) (behind c) (c .before .before .single .result) (allowed-entries c) ∙ c .allow .ensures
+
+found-by : (c : tie.After-find) → c .find .result ≡ foundBy (bestFor (c .before .before .before .before .before .before .before .before .args .n) (recordsIn (c .before .before .before .before .before .before .before .before .args .count) (c .before .before .before .before .before .before .before .before .args .genes .now)) (allowed (c .before .before .before)) (whole (c .before .before .before .before .before .before .before .before .args .n))) (recordsIn (c .before .before .before .before .before .before .before .before .args .count) (c .before .before .before .before .before .before .before .before .args .genes .now))
+found-by c =
+    let args = c .before .before .before .before .before .before .before .before .args in
+    let gs = recordsIn (args .count) (args .genes .now) in
+    c .find .ensures ∙ ap (λ (l : List ℕ). foundBy (bestFor (args .n) gs l (whole (args .n))) gs) (handed (c .before .before .before))
+
+-- src/solve.rt:66:19
+single-requires : tie.Need-single-requires
+single-requires c κs = search needs
+
+-- src/solve.rt:66:19
+cast-entries : tie.Need-cast-entries
+cast-entries c = search needs
+
+-- src/solve.rt:68:33
+array-borrow-prefix-allowed : tie.Need-array-borrow-prefix-allowed
+array-borrow-prefix-allowed c = entries-fit c
+
+-- src/solve.rt:68:33
+slice-aggregate-allow : tie.Need-slice-aggregate-allow
+slice-aggregate-allow c = sym (length-take-le (c .before .single .result) (replicate 4096 0) (entries-fit (c .before)))
+
+-- src/solve.rt:68:5
+allow-requires : tie.Need-allow-requires
+allow-requires c κs = (c .before .before .before .before .pre .1, length-take-le (c .before .single .result) (replicate 4096 0) (entries-fit (c .before)) ∙ entries (c .before))
+
+-- src/solve.rt:69:39
+array-share-prefix-allowed : tie.Need-array-share-prefix-allowed
+array-share-prefix-allowed c = front-fits (c .before .allow .last .1 .1 .1 .1 .0) (behind (c .before)) (allowed-entries (c .before))
+
+-- src/solve.rt:69:39
+slice-aggregate-find : tie.Need-slice-aggregate-find
+slice-aggregate-find c = sym (ap length (handed (c .before .before)) ∙ (ap length (sym (c .before .before .allow .ensures)) ∙ allowed-entries (c .before .before)))
+
+-- src/solve.rt:69:9
+find-requires : tie.Need-find-requires
+find-requires c κs =
+    let args = c .before .before .before .before .before .before .before .args in
+    let gs = recordsIn (args .count) (args .genes .now) in
+    (c .before .before .before .before .before .before .before .pre .1, rw (handed (c .before .before)) (allowed-marked (args .all) (args .n) gs))
+
+-- src/solve.rt:71:9
+refusal-requires : tie.Need-refusal-requires
+refusal-requires c κs = search needs
+
+-- src/solve.rt:71:9
+returns : tie.Need-returns
+returns c =
+    let find = c .before .before .before in
+    let args = find .before .before .before .before .before .before .before .before .args in
+    let gs = recordsIn (args .count) (args .genes .now) in
+    let ns = names (args .line .now) in
+    c .refusal .ensures ns ∙ ap (λ (o : Outcome). told ns o) (searched-refused (args .n) gs (allowed (find .before .before .before)) (found-by find) (c .before .if1 .taken))
+
+-- src/solve.rt:74:5
+solved-requires : tie.Need-solved-requires
+solved-requires c κs =
+    let find = c .before .before .before in
+    let start = find .before .before .before .before .before .before .before .before in
+    let args = start .args in
+    let gs = recordsIn (args .count) (args .genes .now) in
+    (start .pre .0, found-valid (args .n) gs (allowed (find .before .before .before)) (found-by find) (omega (arith, start .pre .0 .few)) (c .before .if1 .left))
+
+-- src/solve.rt:59:1
+returns-2 : tie.Need-returns-2
+returns-2 c =
+    let find = c .before .before .before .before in
+    let args = find .before .before .before .before .before .before .before .before .args in
+    let gs = recordsIn (args .count) (args .genes .now) in
+    let ns = names (args .line .now) in
+    let r = find .find .result in
+    c .solved .ensures
+    ∙ (ap (λ (m : ℕ). told ns (solved (args .n) m (r .score) (r .numbers))) (sym (length-recordsIn (args .count) (args .genes .now)))
+    ∙ ap (λ (o : Outcome). told ns o) (searched-solved (args .n) gs (allowed (find .before .before .before)) (found-by find) (c .before .before .if1 .left)))
+
+pub solve-spec : {M : Type 1} → statement M
+solve-spec =
+    tie.close
+    (tie.spec
+    single-requires
+    cast-entries
+    array-borrow-prefix-allowed
+    slice-aggregate-allow
+    allow-requires
+    array-share-prefix-allowed
+    slice-aggregate-find
+    find-requires
+    refusal-requires
+    returns
+    solved-requires
+    returns-2)

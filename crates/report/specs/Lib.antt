@@ -1,0 +1,5 @@
+pub mod Words
+pub mod Input
+pub mod Program
+pub mod Promise
+pub mod Work

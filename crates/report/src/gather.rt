@@ -1,0 +1,70 @@
+// The gene trees, read one after the other.
+ghost use mathlib.Core.Path.{_≡_};
+ghost use Prim.Native.Nat.{_+_, _*_, _≤_};
+ghost use lib.ListN.{length, drop};
+ghost use lib.Seq.{sets};
+ghost use Rattle.reader.specs.Tokens.{blanks};
+ghost use Rattle.report.specs.Input.{gather as Input·gather};
+ghost use Rattle.report.specs.Work.{gatheredIn};
+
+// The gene trees were read, or one was refused.
+pub enum Trees {
+    Gathered { count: usize },
+    Stopped { number: u32, place: usize },
+}
+
+// The place behind the blanks that begin at `at`.
+fn behind_blanks(text: &[u8], at: usize) -> usize
+    ensures { λ r. ⌜ r ≡ at + blanks (drop at (now (text .entry))) ⌝ }
+{
+    let mut i = at;
+    while i < text.len() {
+        if !roster::is_blank(text[i]) {
+            return i;
+        }
+        i += 1;
+    }
+    i
+}
+
+// Puts a record behind the first `count`.
+fn put(genes: &mut [u16], count: usize, numbers: [u16; 32])
+    requires { ⌜ 32 * count + 32 ≤ length (now genes) ⌝ }
+    ensures { λ _. ⌜ (length numbers ≡ 32) × (now (genes .exit) ≡ sets (now (genes .entry)) (32 * count) numbers) ⌝ }
+{
+    let at = 32 * count;
+    let mut i = 0;
+    while i < 32 {
+        genes[at + i] = numbers[i];
+        i += 1;
+    }
+}
+
+// Reads trees until only blanks remain, and puts their records into `genes`.
+pub fn gather(line: &[u8], trees: &[u8], genes: &mut [u16]) -> Trees
+    requires { ⌜ length (now genes) ≡ 16384 ⌝ }
+    ensures { λ r. ⌜ gatheredIn (now (genes .exit)) r ≡ Input·gather (now (line .entry)) (now (trees .entry)) ⌝ }
+{
+    let mut count: usize = 0;
+    let mut at = behind_blanks(trees, 0);
+    while at < trees.len() {
+        if count == 512 {
+            return Trees::Stopped {
+                number: 17,
+                place: at,
+            };
+        }
+        let reading = reader::read(line, trees, at);
+        if reading.number != 0 {
+            return Trees::Stopped {
+                number: reading.number,
+                place: reading.place,
+            };
+        }
+        let numbers = reading.numbers;
+        put(genes, count, numbers);
+        count += 1;
+        at = behind_blanks(trees, reading.next);
+    }
+    Trees::Gathered { count }
+}

@@ -1,0 +1,68 @@
+// The program as a function from input bytes to output bytes.
+mod gather;
+mod lines;
+mod print;
+mod solve;
+
+pub use print::Report;
+ghost use mathlib.Core.Path.{_≡_};
+ghost use mathlib.Core.Bool.{true};
+ghost use Prim.Native.Nat.{_≤_};
+ghost use lib.ListN.{length};
+ghost use Rattle.roster.specs.Roster.{names};
+ghost use Rattle.reader.specs.Promise.{textMost};
+ghost use Rattle.report.specs.Input.{lineLength, firstLine};
+ghost use Rattle.report.specs.Program.{onSpecies};
+ghost use Rattle.report.specs.Promise.{Reports};
+ghost use Rattle.report.specs.Work.{told, Roster};
+use lines::is_word;
+use lines::line_length;
+use print::refusal;
+use solve::on_trees;
+
+// The input behind a good roster line, which ends at `end` and names n species: the mode line, and the trees.
+fn on_mode(input: &[u8], end: usize, n: usize) -> Report
+    requires { ⌜ length (now input) ≤ textMost ⌝ }
+    requires { ⌜ end ≡ lineLength (now input) ⌝ }
+    requires { ⌜ Roster (firstLine (now input)) n ⌝ }
+    ensures { λ r. ⌜ r ≡ told (names (firstLine (now (input .entry)))) (onSpecies true (now (input .entry))) ⌝ }
+{
+    if end == input.len() {
+        return refusal(10, input.len());
+    }
+    let mode = end + 1;
+    let rest = &input[mode..];
+    let length = line_length(rest);
+    if length == rest.len() {
+        return refusal(10, input.len());
+    }
+    let line = &input[..end];
+    let trees = mode + length + 1;
+    let word = &rest[..length];
+    if is_word(word, b"all") {
+        return on_trees(line, &input[trees..], trees, true, n);
+    }
+    if is_word(word, b"genes") {
+        return on_trees(line, &input[trees..], trees, false, n);
+    }
+    refusal(3, mode)
+}
+
+// "Checks: 2, 1, 17, mode, trees, 11, 14".
+pub fn report(input: &[u8]) -> Report
+    ensures { λ r. ⌜ Reports (now (input .entry)) r ⌝ }
+{
+    if 65536 < input.len() {
+        return refusal(2, 65536);
+    }
+    let end = line_length(input);
+    let judged = roster::judge(&input[..end]);
+    if judged.number != 0 {
+        return refusal(judged.number, judged.place);
+    }
+    let n = judged.value;
+    if 12 < n {
+        return refusal(17, 0);
+    }
+    on_mode(input, end, n)
+}

@@ -1,0 +1,89 @@
+// From the gene trees to the report: the allowed clusters, the search, the outcome.
+ghost use mathlib.Core.Path.{_≡_};
+ghost use Prim.Native.Nat.{_+_, _*_, _^_, _≤_};
+ghost use lib.ListN.{length, replicate};
+ghost use Rattle.clusters.specs.Sets.{whole};
+ghost use Rattle.roster.specs.Roster.{names};
+ghost use Rattle.reader.specs.Promise.{textMost};
+ghost use Rattle.lineages.specs.Count.{recordsIn};
+ghost use Rattle.search.specs.Promise.{bestFor, foundBy};
+ghost use Rattle.report.specs.Input.{gather as Input·gather};
+ghost use Rattle.report.specs.Program.{searched, allowedBy, onTrees};
+ghost use Rattle.report.specs.Work.{told, Roster, Genes, Marked};
+use crate::gather::Trees;
+use crate::gather::gather;
+use crate::print::Report;
+use crate::print::refusal;
+use crate::print::solved;
+use search::Found;
+use trees::Record;
+
+// Marks every cluster.
+fn fill(out: &mut [u8])
+    ensures { λ _. ⌜ now (out .exit) ≡ replicate (length (now (out .entry))) 1 ⌝ }
+{
+    let mut i = 0;
+    while i < out.len() {
+        out[i] = 1;
+        i += 1;
+    }
+}
+
+// Marks the allowed clusters: all of them, or those that the gene trees show.
+fn allow(all: bool, n: usize, genes: &[u16], count: usize, allowed: &mut [u8])
+    requires { ⌜ Genes n count (now genes) ⌝ }
+    requires { ⌜ length (now allowed) ≡ 2 ^ n ⌝ }
+    ensures { λ _. ⌜ now (allowed .exit) ≡ allowedBy all n (recordsIn count (now (genes .entry))) ⌝ }
+{
+    if all {
+        fill(allowed);
+        return;
+    }
+    lineages::mark(n, genes, count, allowed);
+}
+
+// The search, with tables of its own.
+fn find(n: usize, genes: &[u16], count: usize, allowed: &[u8]) -> Found
+    requires { ⌜ Genes n count (now genes) ⌝ }
+    requires { ⌜ Marked n (now allowed) ⌝ }
+    ensures { λ r. ⌜ r ≡ foundBy (bestFor n (recordsIn count (now (genes .entry))) (now (allowed .entry)) (whole n)) (recordsIn count (now (genes .entry))) ⌝ }
+{
+    let mut scores = [0u32; 4096];
+    let mut splits = [0u16; 4096];
+    search::search(n, genes, count, allowed, &mut scores, &mut splits)
+}
+
+// The least tree over the allowed clusters, or the refusal.
+fn solve(line: &[u8], n: usize, genes: &[u16], count: usize, all: bool) -> Report
+    requires { ⌜ Roster (now line) n ⌝ }
+    requires { ⌜ Genes n count (now genes) ⌝ }
+    ensures { λ r. ⌜ r ≡ told (names (now (line .entry))) (searched n (recordsIn count (now (genes .entry))) (allowedBy all n (recordsIn count (now (genes .entry))))) ⌝ }
+{
+    let entries = clusters::single(n) as usize;
+    let mut allowed = [0u8; 4096];
+    allow(all, n, genes, count, &mut allowed[..entries]);
+    let found = find(n, genes, count, &allowed[..entries]);
+    if found.number != 0 {
+        return refusal(found.number, found.place);
+    }
+    let numbers = found.numbers;
+    solved(line, n, count, found.score, Record { numbers })
+}
+
+// The trees, which begin at `shift` of the input, and what is found of them.
+pub fn on_trees(line: &[u8], trees: &[u8], shift: usize, all: bool, n: usize) -> Report
+    requires { ⌜ Roster (now line) n ⌝ }
+    requires { ⌜ shift + length (now trees) ≤ textMost ⌝ }
+    ensures { λ r. ⌜ r ≡ told (names (now (line .entry))) (onTrees (Input·gather (now (line .entry)) (now (trees .entry))) shift all n) ⌝ }
+{
+    let mut genes = [0u16; 16384];
+    match gather(line, trees, &mut genes) {
+        Trees::Stopped { number, place } => refusal(number, shift + place),
+        Trees::Gathered { count } => {
+            if count == 0 {
+                return refusal(11, 0);
+            }
+            solve(line, n, &genes, count, all)
+        }
+    }
+}
