@@ -4,7 +4,7 @@ use mathlib.Core.Path.{_≡_, refl, sym, ap, _∙_}
 use mathlib.Core.Bool.{Bool, true, false}
 use mathlib.Core.List.{List, [], _∷_, _++_, map, append-nil, List·Memᴰ, List·Memᴰ·head as here, List·Memᴰ·tail as there}
 use native.Mathlib.Omega.{arith}
-use lib.ListN.{length, getD, drop, length-append, replicate, drop-of-length-le, getD-replicate, length-replicate}
+use lib.ListN.{length, getD, drop, length-append, drop-of-length-le, getD-replicate, length-replicate}
 use Rattle.clusters.specs.Sets.{whole}
 use Rattle.trees.specs.Valid.{valid}
 use Rattle.trees.proofs.Bounds.{whole-below-sixteen}

@@ -1,18 +1,18 @@
 -- The gene trees one after the other: what a turn does, and what is left to do behind it.
 use Prim.Native.Nat.{ℕ, zero, suc, _+_, _-_, _*_, _≤_, _<_}
 use mathlib.Core.Path.{_≡_, refl, sym, ap, _∙_}
-use mathlib.Core.Bool.{true, false}
+use mathlib.Core.Bool.{Bool, true, false}
 use mathlib.Core.List.{List, [], _∷_, _++_}
 use native.Mathlib.Omega.{arith}
-use lib.ListN.{length, drop}
+use lib.ListN.{length, drop, length-append}
 use lib.Seq.{sets, length-sets}
 use lib.Dec.{leb}
-use borrow.Author.Tests.{le-leb, lt-leb}
+use borrow.Author.Tests.{le-leb, lt-leb, leb-false}
 use Rattle.reader.specs.Tokens.{blanks}
 use Rattle.reader.specs.Promise.{answerTo, readingOf, Reads}
 use Rattle.reader.specs.declared.Reading.{Reading}
 use Rattle.lineages.specs.Count.{recordsIn}
-use Rattle.report.specs.Input.{Gathered, gatherOn, gatherMore, gatherTo, gather}
+use Rattle.report.specs.Input.{Gathered, gatherOn, gatherAt, gatherMore, gatherTo, gather}
 use Rattle.report.specs.Input.Gathered.{gathered, stopped}
 use Rattle.lineages.proofs.Lent.{length-recordsIn}
 use Rattle.report.proofs.Kept.{records-more}
@@ -94,3 +94,48 @@ module _ {line trees : List ℕ} {count : ℕ} {genes : List ℕ} {at : ℕ} (no
               rw (stored, place, records-more count genes (r .numbers) e fits)
               (sym (left-read line trees (513 - (count + 1)) (recordsIn count genes) at r inside below read z) ∙ (rw turns at (now .same)));
         }
+
+-- ---- 513 turns are enough: more of them change nothing
+
+module _ (line trees : List ℕ) where
+  module _
+      (k k′ : ℕ) (genes : List (List ℕ)) (p : ℕ)
+      (later : (numbers : List ℕ) (at : ℕ) → length genes < 512 → gatherTo k line trees (genes ++ (numbers ∷ [])) at ≡ gatherTo k′ line trees (genes ++ (numbers ∷ [])) at)
+    where
+      same-on :
+          length genes < 512 → (number : ℕ) (r : Reading)
+          → gatherOn number r (λ numbers at. gatherTo k line trees (genes ++ (numbers ∷ [])) at)
+          ≡ gatherOn number r (λ numbers at. gatherTo k′ line trees (genes ++ (numbers ∷ [])) at)
+      same-on few zero r = later (r .numbers) (r .next) few
+      same-on few (suc number) r = refl
+
+      same-at :
+          (b : Bool) → leb 512 (length genes) ≡ b
+          → gatherAt b line trees p (λ numbers at. gatherTo k line trees (genes ++ (numbers ∷ [])) at)
+          ≡ gatherAt b line trees p (λ numbers at. gatherTo k′ line trees (genes ++ (numbers ∷ [])) at)
+      same-at true e = refl
+      same-at false e = same-on (leb-false 512 (length genes) e) (readingOf p (answerTo line trees p) .number) (readingOf p (answerTo line trees p))
+
+      same-more :
+          (b : Bool)
+          → gatherMore b line trees genes p (λ numbers at. gatherTo k line trees (genes ++ (numbers ∷ [])) at)
+          ≡ gatherMore b line trees genes p (λ numbers at. gatherTo k′ line trees (genes ++ (numbers ∷ [])) at)
+      same-more true = refl
+      same-more false = same-at (leb 512 (length genes)) refl
+
+  same-turns :
+      (k k′ : ℕ) (genes : List (List ℕ)) (at : ℕ) → length genes ≤ 512 → 513 ≤ length genes + k → 513 ≤ length genes + k′
+      → gatherTo k line trees genes at ≡ gatherTo k′ line trees genes at
+  unfolding gatherTo
+  same-turns zero k′ genes at few e e′ = absurd (omega arith)
+  same-turns (suc k) zero genes at few e e′ = absurd (omega arith)
+  same-turns (suc k) (suc k′) genes at few e e′ =
+      same-more k k′ genes (at + blanks (drop at trees))
+      (λ numbers next room.
+      let l = length-append genes (numbers ∷ []) in
+      same-turns k k′ (genes ++ (numbers ∷ [])) next (omega arith) (omega arith) (omega arith))
+      (leb (length trees) (at + blanks (drop at trees)))
+
+  pub turns-enough : (k : ℕ) → 513 ≤ k → gatherTo k line trees [] 0 ≡ gather line trees
+  unfolding gather
+  turns-enough k h = same-turns k 514 [] 0 (omega arith) (omega arith) (omega arith)

@@ -10,3 +10,4 @@ pub mod Searching
 pub mod GeneTrees
 pub mod InputParts
 pub mod Checks
+pub mod Outcomes

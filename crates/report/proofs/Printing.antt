@@ -8,7 +8,7 @@ use lib.Seq.{sets, length-sets, drop-at}
 use Rattle.writer.specs.Work.{Put}
 use Rattle.trees.proofs.Stores.{sets-append, sets-front}
 use Rattle.report.specs.Words.{newline, decimal}
-use Rattle.report.specs.Program.Outcome.{refused, solved}
+use Rattle.report.specs.Program.Outcome.{refused}
 use Rattle.report.specs.Promise.{printed}
 use Rattle.report.specs.Work.{reportOf, countsText}
 use Rattle.report.specs.declared.print.Report.{Report}

@@ -1,6 +1,6 @@
 -- The search on gene trees that were read: no check refuses, and what is found is an outcome of the program.
-use Prim.Native.Nat.{ℕ, zero, suc, _*_, _^_, _≤_, _<_}
-use mathlib.Core.Path.{_≡_, refl, sym, ap, _∙_, subst}
+use Prim.Native.Nat.{ℕ, zero, suc, _^_, _≤_}
+use mathlib.Core.Path.{_≡_, refl, sym, ap, _∙_}
 use mathlib.Core.Option.{Option, some, none}
 use mathlib.Core.List.{List}
 use native.Mathlib.Omega.{arith}
@@ -9,7 +9,6 @@ use lib.Pow.{pow-mono}
 use Rattle.clusters.specs.Sets.{whole}
 use Rattle.trees.specs.Records.{ValidOn}
 use Rattle.lineages.specs.Count.{recordsIn, weight}
-use Rattle.lineages.proofs.Lent.{length-recordsIn}
 use Rattle.search.specs.BinaryTrees.{Binary}
 use Rattle.search.specs.Promise.{allowedIn, bestFor, foundBy, Finds}
 use Rattle.search.specs.declared.Found.{Found}
@@ -17,7 +16,7 @@ use Rattle.search.specs.Candidates.{Accepted}
 use Rattle.search.proofs.Accepted.{accepts}
 use Rattle.search.proofs.Recurrence.{best-on}
 use Rattle.search.proofs.RecordsOfTrees.{tree-valid, whole-narrow}
-use Rattle.report.specs.Program.{Outcome, outcomeOf, searched}
+use Rattle.report.specs.Program.{outcomeOf, searched}
 use Rattle.report.specs.Program.Outcome.{refused, solved}
 use Rattle.report.specs.Work.{Genes, Marked}
 use Rattle.report.proofs.Allowed.{valid-tests}

@@ -1,16 +1,15 @@
 -- The tree's text in the output: what the writer leaves in the part that is lent to it.
 use Prim.Native.Nat.{ℕ, _+_, _-_, _≤_}
-use mathlib.Core.Path.{_≡_, refl, sym, ap, _∙_}
-use mathlib.Core.List.{List, [], _∷_, _++_, append-assoc, append-nil}
+use mathlib.Core.Path.{_≡_, refl, ap}
+use mathlib.Core.List.{List, _++_, append-assoc, append-nil}
 use native.Mathlib.Omega.{arith}
 use lib.ListN.{length, take, drop, length-drop, drop-of-length-le}
 use lib.Seq.{sets, sets-eq, take-all, drop-drop}
 use Rattle.clusters.specs.Sets.{whole}
 use Rattle.trees.specs.Records.{ValidOn}
-use Rattle.trees.specs.Valid.{valid}
 use Rattle.trees.proofs.Bounds.{whole-below-sixteen}
 use Rattle.trees.proofs.ValidTest.{valid-decides}
-use Rattle.roster.specs.Roster.{names, faulty}
+use Rattle.roster.specs.Roster.{names}
 use Rattle.roster.specs.declared.Reply.{Reply}
 use Rattle.writer.specs.Writing.{written}
 use Rattle.writer.specs.Promise.{Writes}

@@ -1,5 +1,7 @@
 pub mod Words
+pub mod Value
 pub mod Input
 pub mod Program
 pub mod Promise
+pub mod Forms
 pub mod Work

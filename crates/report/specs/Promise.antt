@@ -1,7 +1,7 @@
 -- What the program prints, and what `report` promises.
 use Prim.Native.Nat.{ℕ, _-_}
 use mathlib.Core.Path.{_≡_}
-use mathlib.Core.List.{List, [], _∷_, _++_}
+use mathlib.Core.List.{List, _++_}
 use lib.ListN.{length, replicate}
 use Rattle.roster.specs.Roster.{names}
 use Rattle.writer.specs.Writing.{written}

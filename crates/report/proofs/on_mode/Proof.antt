@@ -14,12 +14,6 @@ use Rattle.report.proofs.InputParts.{from, from-length, first-line, fir
 use borrow.Author.Needs.{needs}
 use Rattle.report.proofs.on_mode.Statement.{statement}
 use Rattle.report.proofs.on_mode.Tie as tie
-use Rattle.report.proofs.on_mode.Reads as reads
-use Rattle.report.proofs.on_mode.Lts as lts
-use Rattle.report.proofs.lines.is_word.Reads as is-word-reads
-use Rattle.report.proofs.lines.line_length.Reads as line-length-reads
-use Rattle.report.proofs.print.refusal.Reads as refusal-reads
-use Rattle.report.proofs.solve.on_trees.Reads as on-trees-reads
 
 -- the first line ends within the input, and so does the second
 fits : (c : tie.Else1) → c .before .before .args .end + 1 ≤ length (c .before .before .args .input .now)
@@ -44,61 +38,48 @@ asked c =
       omega (arith, trees-fit c, from-length place (start .args .input .now), start .pre .0),
     )
 
--- src/lib.rt:31:9
 refusal-requires : tie.Need-refusal-requires
 refusal-requires c κs = search needs
 
--- src/lib.rt:31:9
 returns : tie.Need-returns
 returns c =
     let start = c .before .before .before in
     let ns = names (firstLine (start .args .input .now)) in
     c .refusal .ensures ns ∙ ap (λ (o : Outcome). told ns o) (no-first-feed (start .args .input .now) (start .pre .1 .0) (c .before .if1 .taken))
 
--- src/lib.rt:33:16
 add-mode : tie.Need-add-mode
 add-mode c = omega (arith, fits c)
 
--- src/lib.rt:34:16
 sub-rest : tie.Need-sub-rest
 sub-rest c = fits c
 
--- src/lib.rt:34:16
 part-rest-start : tie.Need-part-rest-start
 part-rest-start c = fits c
 
--- src/lib.rt:34:16
 part-rest-end : tie.Need-part-rest-end
 part-rest-end c = search needs
 
--- src/lib.rt:35:9
 line-length-requires : tie.Need-line-length-requires
 line-length-requires c κs = search needs
 
--- src/lib.rt:37:9
 refusal-requires-2 : tie.Need-refusal-requires-2
 refusal-requires-2 c κs = search needs
 
--- src/lib.rt:37:9
 returns-2 : tie.Need-returns-2
 returns-2 c =
     let start = c .before .before .before .before .before .before in
     let ns = names (firstLine (start .args .input .now)) in
     c .refusal2 .ensures ns ∙ ap (λ (o : Outcome). told ns o) (no-second-feed (start .args .input .now) (start .pre .1 .0) (c .before .before .before .before .if1 .left) (c .before .before .line-length .ensures) (c .before .if2 .taken))
 
--- src/lib.rt:39:9
 slice-aggregate-line : tie.Need-slice-aggregate-line
 slice-aggregate-line c = sym (length-take-le (c .before .before .before .before .before .before .args .end) (c .before .before .before .before .before .before .args .input .now) (first-within (c .before .before .before .before .before .before .args .input .now) (c .before .before .before .before .before .before .pre .1 .0)))
 
--- src/lib.rt:40:17
 add-trees : tie.Need-add-trees
 add-trees c = omega (arith, trees-fit (c .before))
 
--- src/lib.rt:40:17
 add-trees-2 : tie.Need-add-trees-2
 add-trees-2 c = omega (arith, trees-fit (c .before))
 
--- src/lib.rt:41:9
 slice-aggregate-word : tie.Need-slice-aggregate-word
 slice-aggregate-word c =
     let start = c .before .before .before .before .before .before .before in
@@ -106,73 +87,57 @@ slice-aggregate-word c =
     sym (length-take-le (c .before .before .before .line-length .result) rest
     (omega (arith, second-within (start .args .input .now) (start .pre .1 .0) (c .before .before .before .before .before .if1 .left) (c .before .before .before .line-length .ensures), from-length (start .args .end + 1) (start .args .input .now))))
 
--- src/lib.rt:42:22
 slice-aggregate-is-word : tie.Need-slice-aggregate-is-word
 slice-aggregate-is-word c = search needs
 
--- src/lib.rt:42:8
 is-word-requires : tie.Need-is-word-requires
 is-word-requires c κs = search needs
 
--- src/lib.rt:43:31
 sub-on-trees : tie.Need-sub-on-trees
 sub-on-trees c = trees-fit (c .before .before .before .before .before)
 
--- src/lib.rt:43:31
 part-on-trees-start : tie.Need-part-on-trees-start
 part-on-trees-start c = trees-fit (c .before .before .before .before .before)
 
--- src/lib.rt:43:31
 part-on-trees-end : tie.Need-part-on-trees-end
 part-on-trees-end c = search needs
 
--- src/lib.rt:43:9
 on-trees-requires : tie.Need-on-trees-requires
 on-trees-requires c κs = asked (c .before .before .before .before .before .before)
 
--- src/lib.rt:43:9
 returns-3 : tie.Need-returns-3
 returns-3 c =
     let start = c .before .before .before .before .before .before .before .before .before .before .before .before in
     let ns = names (firstLine (start .args .input .now)) in
     (c .on-trees .ensures ∙ ap (λ (line : List ℕ). told (names line) (onTrees (Input·gather (take (start .args .end) (start .args .input .now)) (from (start .args .end + 1 + c .before .before .before .before .before .before .before .before .line-length .result + 1) (start .args .input .now))) (start .args .end + 1 + c .before .before .before .before .before .before .before .before .line-length .result + 1) true (start .args .n))) (first-line (start .args .input .now) (start .pre .1 .0))) ∙ ap (λ (o : Outcome). told ns o) (all-mode (start .args .input .now) (start .pre .1 .0) (c .before .before .before .before .before .before .before .before .before .before .if1 .left) (c .before .before .before .before .before .before .before .before .line-length .ensures) (c .before .before .before .before .before .before .before .if2 .left) (start .pre .1 .1 .named) (sym (c .before .before .before .is-word .ensures) ∙ c .before .before .if3 .taken))
 
--- src/lib.rt:45:22
 slice-aggregate-is-word-2 : tie.Need-slice-aggregate-is-word-2
 slice-aggregate-is-word-2 c = search needs
 
--- src/lib.rt:45:8
 is-word-requires-2 : tie.Need-is-word-requires-2
 is-word-requires-2 c κs = search needs
 
--- src/lib.rt:46:31
 sub-on-trees-2 : tie.Need-sub-on-trees-2
 sub-on-trees-2 c = trees-fit (c .before .before .before .before .before .before .before .before)
 
--- src/lib.rt:46:31
 part-on-trees-start-2 : tie.Need-part-on-trees-start-2
 part-on-trees-start-2 c = trees-fit (c .before .before .before .before .before .before .before .before)
 
--- src/lib.rt:46:31
 part-on-trees-end-2 : tie.Need-part-on-trees-end-2
 part-on-trees-end-2 c = search needs
 
--- src/lib.rt:46:9
 on-trees-requires-2 : tie.Need-on-trees-requires-2
 on-trees-requires-2 c κs = asked (c .before .before .before .before .before .before .before .before .before)
 
--- src/lib.rt:46:9
 returns-4 : tie.Need-returns-4
 returns-4 c =
     let start = c .before .before .before .before .before .before .before .before .before .before .before .before .before .before .before in
     let ns = names (firstLine (start .args .input .now)) in
     (c .on-trees2 .ensures ∙ ap (λ (line : List ℕ). told (names line) (onTrees (Input·gather (take (start .args .end) (start .args .input .now)) (from (start .args .end + 1 + c .before .before .before .before .before .before .before .before .before .before .before .line-length .result + 1) (start .args .input .now))) (start .args .end + 1 + c .before .before .before .before .before .before .before .before .before .before .before .line-length .result + 1) false (start .args .n))) (first-line (start .args .input .now) (start .pre .1 .0))) ∙ ap (λ (o : Outcome). told ns o) (genes-mode (start .args .input .now) (start .pre .1 .0) (c .before .before .before .before .before .before .before .before .before .before .before .before .before .if1 .left) (c .before .before .before .before .before .before .before .before .before .before .before .line-length .ensures) (c .before .before .before .before .before .before .before .before .before .before .if2 .left) (start .pre .1 .1 .named) (sym (c .before .before .before .before .before .before .is-word .ensures) ∙ c .before .before .before .before .before .if3 .left) (sym (c .before .before .before .is-word2 .ensures) ∙ c .before .before .if4 .taken))
 
--- src/lib.rt:48:5
 refusal-requires-3 : tie.Need-refusal-requires-3
 refusal-requires-3 c κs = search needs
 
--- src/lib.rt:24:1
 returns-5 : tie.Need-returns-5
 returns-5 c =
     let start = c .before .before .before .before .before .before .before .before .before .before .before .before .before .before in

@@ -11,44 +11,31 @@ use Rattle.report.proofs.Checks.{reports, too-long, roster-faulty, many
 use borrow.Author.Needs.{needs}
 use Rattle.report.proofs.report.Statement.{statement}
 use Rattle.report.proofs.report.Tie as tie
-use Rattle.report.proofs.report.Reads as reads
-use Rattle.report.proofs.report.Lts as lts
-use Rattle.report.proofs.lines.line_length.Reads as line-length-reads
-use Rattle.report.proofs.on_mode.Reads as on-mode-reads
-use Rattle.report.proofs.print.refusal.Reads as refusal-reads
-use Rattle.roster.proofs.judge.Reads as judge-reads
 
 judged : (c : tie.After-judge) → Judged (firstLine (c .before .before .before .before .before .args .input .now)) (c .judge .result)
 judged c =
     subst (λ (line : List ℕ). Judged line (c .judge .result)) (first-line (c .before .before .before .before .before .args .input .now) (c .before .before .line-length .ensures)) (c .judge .ensures)
 
--- src/lib.rt:56:9
 refusal-requires : tie.Need-refusal-requires
 refusal-requires c κs = search needs
 
--- src/lib.rt:56:9
 returns : tie.Need-returns
 returns c = let input = c .before .before .before .args .input .now in reports input (c .refusal .ensures (names (firstLine input))) (too-long input (c .before .if1 .taken))
 
--- src/lib.rt:58:9
 line-length-requires : tie.Need-line-length-requires
 line-length-requires c κs = search needs
 
--- src/lib.rt:59:32
 slice-aggregate-judge : tie.Need-slice-aggregate-judge
 slice-aggregate-judge c =
     let input = c .before .before .before .before .args .input .now in
     sym (length-take-le (c .before .line-length .result) input (first-within input (c .before .line-length .ensures)))
 
--- src/lib.rt:59:9
 judge-requires : tie.Need-judge-requires
 judge-requires c κs = search needs
 
--- src/lib.rt:61:9
 refusal-requires-2 : tie.Need-refusal-requires-2
 refusal-requires-2 c κs = search needs
 
--- src/lib.rt:61:9
 returns-2 : tie.Need-returns-2
 returns-2 c =
     let judge = c .before .before .before in
@@ -56,11 +43,9 @@ returns-2 c =
     reports input (c .refusal2 .ensures (names (firstLine input)))
     (roster-faulty input (c .before .before .before .before .before .before .if1 .left) (judge .judge .result) (judged judge) (c .before .if2 .taken))
 
--- src/lib.rt:65:9
 refusal-requires-3 : tie.Need-refusal-requires-3
 refusal-requires-3 c κs = search needs
 
--- src/lib.rt:65:9
 returns-3 : tie.Need-returns-3
 returns-3 c =
     let judge = c .before .before .before .before in
@@ -68,7 +53,6 @@ returns-3 c =
     reports input (c .refusal3 .ensures (names (firstLine input)))
     (many-species input (c .before .before .before .before .before .before .before .if1 .left) (judge .judge .result) (judged judge) (c .before .before .if2 .left) (c .before .if3 .taken))
 
--- src/lib.rt:67:5
 on-mode-requires : tie.Need-on-mode-requires
 on-mode-requires c κs =
     let judge = c .before .before .before in
@@ -81,7 +65,6 @@ on-mode-requires c κs =
       ),
     )
 
--- src/lib.rt:52:1
 returns-4 : tie.Need-returns-4
 returns-4 c =
     let judge = c .before .before .before .before in

@@ -10,9 +10,6 @@ use Rattle.roster.proofs.Runs.{run-on, run-off, run-end}
 use Rattle.reader.specs.Tokens.{blanks}
 use Rattle.report.proofs.gather.behind_blanks.Statement.{statement}
 use Rattle.report.proofs.gather.behind_blanks.Tie as tie
-use Rattle.report.proofs.gather.behind_blanks.Reads as reads
-use Rattle.report.proofs.gather.behind_blanks.Lts as lts
-use Rattle.roster.proofs.is_blank.Reads as is-blank-reads
 
 abbrev Inv-loop : tie.InvT-loop
 Inv-loop text at i₀ i = at + blanks (drop at text) ≡ i + blanks (drop i text)
@@ -20,19 +17,15 @@ Inv-loop text at i₀ i = at + blanks (drop at text) ≡ i + blanks (drop i text
 abbrev μ-loop : tie.MeasureT-loop
 μ-loop text at i₀ i = length text - i
 
--- src/gather.rt:21:5
 loop-holds : tie.Need-loop-holds Inv-loop μ-loop
 loop-holds c = search needs
 
--- src/gather.rt:22:30
 shared-slice-read-is-blank : tie.Need-shared-slice-read-is-blank Inv-loop μ-loop
 shared-slice-read-is-blank c = search needs
 
--- src/gather.rt:22:13
 is-blank-requires : tie.Need-is-blank-requires Inv-loop μ-loop
 is-blank-requires c κs = search needs
 
--- src/gather.rt:23:13
 returns : tie.Need-returns Inv-loop μ-loop
 unfolding blanks
 returns c =
@@ -40,15 +33,12 @@ returns c =
     let off = run-off isBlank (at-loop .before .before .args .text .now) (at-loop .loop .i) (c .before .before .before .loop-test .taken) (sym (c .before .is-blank .ensures) ∙ not-true _ (c .if1 .taken)) in
     omega arith
 
--- src/gather.rt:25:9
 add-i : tie.Need-add-i Inv-loop μ-loop
 add-i c = search needs
 
--- src/gather.rt:21:5
 loop-less : tie.Need-loop-less Inv-loop μ-loop
 loop-less c = search needs
 
--- src/gather.rt:21:5
 loop-again : tie.Need-loop-again Inv-loop μ-loop
 unfolding blanks
 loop-again c =
@@ -56,7 +46,6 @@ loop-again c =
     let on = run-on isBlank (at-loop .before .before .args .text .now) (at-loop .loop .i) (c .before .before .before .loop-test .taken) (sym (c .before .is-blank .ensures) ∙ not-false _ (c .if1 .left)) in
     omega arith
 
--- src/gather.rt:17:1
 returns-2 : tie.Need-returns-2 Inv-loop μ-loop
 unfolding blanks
 returns-2 c =

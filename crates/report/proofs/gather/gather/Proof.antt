@@ -1,15 +1,9 @@
 -- The loop keeps: what is left to do gives the same as at the start.
 use Prim.Native.Nat.{_-_}
-use native.Mathlib.Omega.{arith}
 use borrow.Author.Needs.{needs}
 use Rattle.report.proofs.Gathering.{Left, left-begins, left-done, left-full, left-stops, left-goes}
 use Rattle.report.proofs.gather.gather.Statement.{statement}
 use Rattle.report.proofs.gather.gather.Tie as tie
-use Rattle.report.proofs.gather.gather.Reads as reads
-use Rattle.report.proofs.gather.gather.Lts as lts
-use Rattle.reader.proofs.read.Reads as read-reads
-use Rattle.report.proofs.gather.behind_blanks.Reads as behind-blanks-reads
-use Rattle.report.proofs.gather.put.Reads as put-reads
 
 abbrev Inv-loop : tie.InvT-loop
 Inv-loop line trees genes₀ count₀ at₀ genes count at = Left line trees count genes at
@@ -17,31 +11,24 @@ Inv-loop line trees genes₀ count₀ at₀ genes count at = Left line trees cou
 abbrev μ-loop : tie.MeasureT-loop
 μ-loop line trees genes₀ count₀ at₀ genes count at = 513 - count
 
--- src/gather.rt:49:9
 behind-blanks-requires : tie.Need-behind-blanks-requires Inv-loop μ-loop
 behind-blanks-requires c κs = search needs
 
--- src/gather.rt:50:5
 loop-holds : tie.Need-loop-holds Inv-loop μ-loop
 loop-holds c = left-begins (c .before .before .before .before .pre) (c .behind-blanks .ensures)
 
--- src/gather.rt:52:13
 same-length : tie.Need-same-length Inv-loop μ-loop
 same-length c = search needs
 
--- src/gather.rt:52:13
 returns : tie.Need-returns Inv-loop μ-loop
 returns c = left-full (c .before .before .loop .inv) (c .before .loop-test .taken) (c .if1 .taken)
 
--- src/gather.rt:57:13
 read-requires : tie.Need-read-requires Inv-loop μ-loop
 read-requires c κs = search needs
 
--- src/gather.rt:59:13
 same-length-2 : tie.Need-same-length-2 Inv-loop μ-loop
 same-length-2 c = search needs
 
--- src/gather.rt:59:13
 returns-2 : tie.Need-returns-2 Inv-loop μ-loop
 returns-2 c =
     let test = c .before .before .before in
@@ -49,23 +36,18 @@ returns-2 c =
     (c .before .before .read .ensures)
     (c .if2 .taken)
 
--- src/gather.rt:65:9
 put-requires : tie.Need-put-requires Inv-loop μ-loop
 put-requires c κs = search needs
 
--- src/gather.rt:66:9
 add-count : tie.Need-add-count Inv-loop μ-loop
 add-count c = search needs
 
--- src/gather.rt:67:9
 behind-blanks-requires-2 : tie.Need-behind-blanks-requires-2 Inv-loop μ-loop
 behind-blanks-requires-2 c κs = search needs
 
--- src/gather.rt:50:5
 loop-less : tie.Need-loop-less Inv-loop μ-loop
 loop-less c = search needs
 
--- src/gather.rt:50:5
 loop-again : tie.Need-loop-again Inv-loop μ-loop
 loop-again c =
     let put = c .before .before .before in
@@ -78,11 +60,9 @@ loop-again c =
     (put .put .ensures .1)
     (c .behind-blanks2 .ensures)
 
--- src/gather.rt:44:1
 same-length-3 : tie.Need-same-length-3 Inv-loop μ-loop
 same-length-3 c = search needs
 
--- src/gather.rt:44:1
 returns-3 : tie.Need-returns-3 Inv-loop μ-loop
 returns-3 c = left-done (c .before .loop .inv) (c .loop-test .left)
 

@@ -1,5 +1,5 @@
 -- The loop keeps: the numbers that have been passed stand behind the first records.
-use Prim.Native.Nat.{_+_, _-_, _*_, _≤_, _<_}
+use Prim.Native.Nat.{_-_, _*_, _≤_, _<_}
 use mathlib.Core.Path.{_≡_, refl, _∙_}
 use native.Mathlib.Omega.{arith}
 use lib.ListN.{length, take, length-set}
@@ -8,8 +8,6 @@ use borrow.Author.Needs.{needs}
 use Rattle.writer.proofs.Stores.{copy-more}
 use Rattle.report.proofs.gather.put.Statement.{statement}
 use Rattle.report.proofs.gather.put.Tie as tie
-use Rattle.report.proofs.gather.put.Reads as reads
-use Rattle.report.proofs.gather.put.Lts as lts
 
 abbrev Inv-loop : tie.InvT-loop
 Inv-loop genes₀ count numbers at i₀ genes i = (i ≤ 32) × (at ≡ 32 * count) × (length genes ≡ length genes₀) × (genes ≡ sets genes₀ at (take i numbers))
@@ -17,43 +15,33 @@ Inv-loop genes₀ count numbers at i₀ genes i = (i ≤ 32) × (at ≡ 32 * cou
 abbrev μ-loop : tie.MeasureT-loop
 μ-loop genes₀ count numbers at i₀ genes i = 32 - i
 
--- src/gather.rt:35:14
 mul-at : tie.Need-mul-at Inv-loop μ-loop
 mul-at c = search needs
 
--- src/gather.rt:37:5
 loop-holds : tie.Need-loop-holds Inv-loop μ-loop
 loop-holds c = search needs
 
--- src/gather.rt:38:25
 mul-genes : tie.Need-mul-genes Inv-loop μ-loop
 mul-genes c = search needs
 
--- src/gather.rt:38:25
 array-read-genes : tie.Need-array-read-genes Inv-loop μ-loop
 array-read-genes c = search needs
 
--- src/gather.rt:38:15
 add-genes : tie.Need-add-genes Inv-loop μ-loop
 add-genes c = search needs
 
--- src/gather.rt:38:9
 mul-genes-2 : tie.Need-mul-genes-2 Inv-loop μ-loop
 mul-genes-2 c = search needs
 
--- src/gather.rt:38:9
 slice-write-genes : tie.Need-slice-write-genes Inv-loop μ-loop
 slice-write-genes c = search needs
 
--- src/gather.rt:39:9
 add-i : tie.Need-add-i Inv-loop μ-loop
 add-i c = search needs
 
--- src/gather.rt:37:5
 loop-less : tie.Need-loop-less Inv-loop μ-loop
 loop-less c = search needs
 
--- src/gather.rt:37:5
 loop-again : tie.Need-loop-again Inv-loop μ-loop
 loop-again c =
     let at-loop = c .before in
@@ -66,11 +54,9 @@ loop-again c =
       rw (at-loop .loop .inv .3) (copy-more (args .genes .now) (args .t3) (32 * args .count) i h),
     )
 
--- src/gather.rt:31:1
 same-length : tie.Need-same-length Inv-loop μ-loop
 same-length c = search needs
 
--- src/gather.rt:31:1
 returns : tie.Need-returns Inv-loop μ-loop
 returns c =
     let numbers = c .before .before .args .t3 in

@@ -1,5 +1,5 @@
 -- The loop keeps: s is the word exactly when what is left of both from i on is the same.
-use Prim.Native.Nat.{_+_, _-_, _≤_}
+use Prim.Native.Nat.{_-_, _≤_}
 use mathlib.Core.Path.{_≡_, sym, _∙_}
 use native.Mathlib.Omega.{arith}
 use lib.ListN.{length, drop}
@@ -8,8 +8,6 @@ use Rattle.roster.specs.Roster.{same}
 use Rattle.report.proofs.Bytewise.{same-on, same-off, same-end, same-lengths}
 use Rattle.report.proofs.lines.is_word.Statement.{statement}
 use Rattle.report.proofs.lines.is_word.Tie as tie
-use Rattle.report.proofs.lines.is_word.Reads as reads
-use Rattle.report.proofs.lines.is_word.Lts as lts
 
 abbrev Inv-loop : tie.InvT-loop
 Inv-loop s word i₀ i = (i ≤ length s) × (same s word ≡ same (drop i s) (drop i word))
@@ -17,23 +15,18 @@ Inv-loop s word i₀ i = (i ≤ length s) × (same s word ≡ same (drop i s) (d
 abbrev μ-loop : tie.MeasureT-loop
 μ-loop s word i₀ i = length s - i
 
--- src/lines.rt:25:9
 returns : tie.Need-returns Inv-loop μ-loop
 returns c = sym (same-lengths (c .before .args .s .now) (c .before .args .word .now) (c .if1 .taken))
 
--- src/lines.rt:28:5
 loop-holds : tie.Need-loop-holds Inv-loop μ-loop
 loop-holds c = search needs
 
--- src/lines.rt:29:12
 shared-slice-read-if2 : tie.Need-shared-slice-read-if2 Inv-loop μ-loop
 shared-slice-read-if2 c = search needs
 
--- src/lines.rt:29:20
 shared-slice-read-if2-2 : tie.Need-shared-slice-read-if2-2 Inv-loop μ-loop
 shared-slice-read-if2-2 c = search needs
 
--- src/lines.rt:30:13
 returns-2 : tie.Need-returns-2 Inv-loop μ-loop
 returns-2 c =
     let at-loop = c .before .before .before .before in
@@ -41,15 +34,12 @@ returns-2 c =
     let taken = c .before .before .before .loop-test .taken in
     sym (at-loop .loop .inv .1 ∙ same-off (args .s .now) (args .word .now) (at-loop .loop .i) taken (omega arith) (c .if2 .taken))
 
--- src/lines.rt:32:9
 add-i : tie.Need-add-i Inv-loop μ-loop
 add-i c = search needs
 
--- src/lines.rt:28:5
 loop-less : tie.Need-loop-less Inv-loop μ-loop
 loop-less c = search needs
 
--- src/lines.rt:28:5
 loop-again : tie.Need-loop-again Inv-loop μ-loop
 loop-again c =
     let at-loop = c .before .before .before .before in
@@ -59,7 +49,6 @@ loop-again c =
       at-loop .loop .inv .1 ∙ same-on (args .s .now) (args .word .now) (at-loop .loop .i) taken (omega arith) (c .if2 .left),
     )
 
--- src/lines.rt:21:1
 returns-3 : tie.Need-returns-3 Inv-loop μ-loop
 returns-3 c =
     let args = c .before .before .before .args in

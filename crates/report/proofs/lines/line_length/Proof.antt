@@ -8,8 +8,6 @@ use Rattle.report.specs.Input.{lineLength}
 use Rattle.report.proofs.Bytewise.{line-on, line-feed, line-end}
 use Rattle.report.proofs.lines.line_length.Statement.{statement}
 use Rattle.report.proofs.lines.line_length.Tie as tie
-use Rattle.report.proofs.lines.line_length.Reads as reads
-use Rattle.report.proofs.lines.line_length.Lts as lts
 
 abbrev Inv-loop : tie.InvT-loop
 Inv-loop s i₀ i = (i ≤ length s) × (lineLength s ≡ i + lineLength (drop i s))
@@ -17,37 +15,30 @@ Inv-loop s i₀ i = (i ≤ length s) × (lineLength s ≡ i + lineLength (drop i
 abbrev μ-loop : tie.MeasureT-loop
 μ-loop s i₀ i = length s - i
 
--- src/lines.rt:11:5
 loop-holds : tie.Need-loop-holds Inv-loop μ-loop
 loop-holds c = search needs
 
--- src/lines.rt:12:12
 shared-slice-read-if1 : tie.Need-shared-slice-read-if1 Inv-loop μ-loop
 shared-slice-read-if1 c = search needs
 
--- src/lines.rt:13:13
 returns : tie.Need-returns Inv-loop μ-loop
 returns c =
     let at-loop = c .before .before .before in
     let off = line-feed (at-loop .before .args .s .now) (at-loop .loop .i) (c .before .before .loop-test .taken) (c .if1 .taken) in
     omega arith
 
--- src/lines.rt:15:9
 add-i : tie.Need-add-i Inv-loop μ-loop
 add-i c = search needs
 
--- src/lines.rt:11:5
 loop-less : tie.Need-loop-less Inv-loop μ-loop
 loop-less c = search needs
 
--- src/lines.rt:11:5
 loop-again : tie.Need-loop-again Inv-loop μ-loop
 loop-again c =
     let at-loop = c .before .before .before in
     let on = line-on (at-loop .before .args .s .now) (at-loop .loop .i) (c .before .before .loop-test .taken) (c .if1 .left) in
     omega arith
 
--- src/lines.rt:7:1
 returns-2 : tie.Need-returns-2 Inv-loop μ-loop
 returns-2 c =
     let over = line-end (c .before .before .args .s .now) (c .before .loop .i) (c .loop-test .left) in

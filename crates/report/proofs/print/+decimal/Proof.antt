@@ -1,6 +1,6 @@
 -- The measure is the number, of which the call has a tenth.
 use native.Mathlib.Omega.{arith}
-use lib.ListN.{length, length-set}
+use lib.ListN.{length-set}
 use borrow.Author.Needs.{needs}
 use Rattle.report.proofs.Printing.{put-digit, put-digits, one-digit, one-digit-more, put-length}
 use Prim.Native.Nat.{ℕ, _<_}
@@ -21,61 +21,51 @@ decimal-at t = and 1 decimal-kinds.ps (is 1 decimal-kinds.ps μ-decimal t) decim
 abbrev decimal-below : ℕ → In 1 decimal-kinds.ps
 decimal-below t = and 1 decimal-kinds.ps (falls 1 decimal-kinds.ps _<_ μ-decimal t) decimal.Pre
 
--- src/print.rt:26:24
 decimal-cast-out :
     (t : ℕ) →
     decimal-lts.Need-cast-out (decimal-below t, decimal.Post) (decimal-at t) decimal.Post
 decimal-cast-out t c = search needs
 
--- src/print.rt:26:19
 decimal-add-out :
     (t : ℕ) → decimal-lts.Need-add-out (decimal-below t, decimal.Post) (decimal-at t) decimal.Post
 decimal-add-out t c = search needs
 
--- src/print.rt:26:9
 decimal-slice-write-out : (t : ℕ) → decimal-lts.Need-slice-write-out (
   decimal-below t,
   decimal.Post,
 ) (decimal-at t) decimal.Post
 decimal-slice-write-out t c = let d = one-digit (c .before .before .args .x) (c .if1 .taken) in omega arith
 
--- src/print.rt:27:16
 decimal-add-result :
     (t : ℕ) →
     decimal-lts.Need-add-result (decimal-below t, decimal.Post) (decimal-at t) decimal.Post
 decimal-add-result t c = let d = one-digit (c .before .before .args .x) (c .if1 .taken) in omega arith
 
--- src/print.rt:27:9
 decimal-same-length :
     (t : ℕ) →
     decimal-lts.Need-same-length (decimal-below t, decimal.Post) (decimal-at t) decimal.Post
 decimal-same-length t c = simp length-set
 
--- src/print.rt:27:9
 decimal-returns :
     (t : ℕ) → decimal-lts.Need-returns (decimal-below t, decimal.Post) (decimal-at t) decimal.Post
 decimal-returns t c = let args = c .before .before .args in put-digit (args .x) (args .out .now) (args .at) (c .if1 .taken)
 
--- src/print.rt:29:9
 decimal-decimal-requires : (t : ℕ) → decimal-lts.Need-decimal-requires (
   decimal-below t,
   decimal.Post,
 ) (decimal-at t) decimal.Post
 decimal-decimal-requires t c κs = let d = one-digit-more (c .before .before .before .args .x) (omega arith) (omega arith) in (omega arith, omega arith)
 
--- src/print.rt:30:21
 decimal-cast-out-2 :
     (t : ℕ) →
     decimal-lts.Need-cast-out-2 (decimal-below t, decimal.Post) (decimal-at t) decimal.Post
 decimal-cast-out-2 t c = search needs
 
--- src/print.rt:30:16
 decimal-add-out-2 :
     (t : ℕ) →
     decimal-lts.Need-add-out-2 (decimal-below t, decimal.Post) (decimal-at t) decimal.Post
 decimal-add-out-2 t c = search needs
 
--- src/print.rt:30:5
 decimal-slice-write-out-2 : (t : ℕ) → decimal-lts.Need-slice-write-out-2 (
   decimal-below t,
   decimal.Post,
@@ -85,7 +75,6 @@ decimal-slice-write-out-2 t c =
     let l = put-length (c .before .before .decimal .ensures) in
     omega arith
 
--- src/print.rt:31:5
 decimal-add-result-2 :
     (t : ℕ) →
     decimal-lts.Need-add-result-2 (decimal-below t, decimal.Post) (decimal-at t) decimal.Post
@@ -93,13 +82,11 @@ decimal-add-result-2 t c =
     let d = one-digit-more (c .before .before .before .before .before .before .args .x) (omega arith) (omega arith) in
     omega arith
 
--- src/print.rt:21:1
 decimal-same-length-2 :
     (t : ℕ) →
     decimal-lts.Need-same-length-2 (decimal-below t, decimal.Post) (decimal-at t) decimal.Post
 decimal-same-length-2 t c = simp length-set (put-length (c .before .before .decimal .ensures))
 
--- src/print.rt:21:1
 decimal-returns-2 :
     (t : ℕ) →
     decimal-lts.Need-returns-2 (decimal-below t, decimal.Post) (decimal-at t) decimal.Post

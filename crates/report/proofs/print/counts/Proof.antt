@@ -5,10 +5,6 @@ use Rattle.report.proofs.Printing.{put-then, put-then-both, Room, room-
 use borrow.Author.Needs.{needs}
 use Rattle.report.proofs.print.counts.Statement.{statement}
 use Rattle.report.proofs.print.counts.Tie as tie
-use Rattle.report.proofs.print.counts.Reads as reads
-use Rattle.report.proofs.print.counts.Lts as lts
-use Rattle.report.proofs.print.decimal.Reads as decimal-reads
-use Rattle.report.proofs.print.word.Reads as word-reads
 
 after-taxa : (c : tie.After-word) → Room 5 (c .word .result) (c .word .last .0)
 after-taxa c = room-first (c .before .before .before .before .pre) (c .word .ensures)
@@ -28,55 +24,42 @@ after-words c = room-text (after-trees (c .before .before .before .before .befor
 after-score : (c : tie.After-decimal3) → Room 79 (c .decimal3 .result) (c .decimal3 .last .0)
 after-score c = room-number (c .before .before .before .before .before .before .before .before .before .before .before .before .before .before .before .before .before .before .before .before .before .before .before .before .before .before .args .score) (after-words (c .before .before .before .before)) (c .decimal3 .ensures)
 
--- src/print.rt:66:27
 slice-aggregate-word : tie.Need-slice-aggregate-word
 slice-aggregate-word c = search needs
 
--- src/print.rt:66:9
 word-requires : tie.Need-word-requires
 word-requires c κs = search needs
 
--- src/print.rt:67:9
 decimal-requires : tie.Need-decimal-requires
 decimal-requires c κs = number-fits (c .before .before .before .before .before .before .before .args .n) (after-taxa (c .before .before .before)) (omega arith)
 
--- src/print.rt:68:28
 slice-aggregate-word-2 : tie.Need-slice-aggregate-word-2
 slice-aggregate-word-2 c = search needs
 
--- src/print.rt:68:9
 word-requires-2 : tie.Need-word-requires-2
 word-requires-2 c κs = text-fits 7 (after-species (c .before .before .before .before)) (omega arith)
 
--- src/print.rt:69:9
 decimal-requires-2 : tie.Need-decimal-requires-2
 decimal-requires-2 c κs = number-fits (c .before .before .before .before .before .before .before .before .before .before .before .before .before .before .before .before .args .count) (after-genes (c .before .before .before)) (omega arith)
 
--- src/print.rt:70:28
 slice-aggregate-word-3 : tie.Need-slice-aggregate-word-3
 slice-aggregate-word-3 c = search needs
 
--- src/print.rt:70:9
 word-requires-3 : tie.Need-word-requires-3
 word-requires-3 c κs = text-fits 7 (after-trees (c .before .before .before .before)) (omega arith)
 
--- src/print.rt:71:9
 decimal-requires-3 : tie.Need-decimal-requires-3
 decimal-requires-3 c κs = number-fits (c .before .before .before .before .before .before .before .before .before .before .before .before .before .before .before .before .before .before .before .before .before .before .before .before .before .args .score) (after-words (c .before .before .before)) (omega arith)
 
--- src/print.rt:72:19
 slice-aggregate-word-4 : tie.Need-slice-aggregate-word-4
 slice-aggregate-word-4 c = search needs
 
--- src/print.rt:72:5
 word-requires-4 : tie.Need-word-requires-4
 word-requires-4 c κs = text-fits 1 (after-score (c .before .before .before .before)) (omega arith)
 
--- src/print.rt:62:1
 same-length : tie.Need-same-length
 same-length c = search needs
 
--- src/print.rt:62:1
 returns : tie.Need-returns
 returns c =
     let score = c .before .before .before .before .before .before .before in

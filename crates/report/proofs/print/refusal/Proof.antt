@@ -5,10 +5,6 @@ use Rattle.report.proofs.Printing.{put-then, put-report, refused-length
 use borrow.Author.Needs.{needs}
 use Rattle.report.proofs.print.refusal.Statement.{statement}
 use Rattle.report.proofs.print.refusal.Tie as tie
-use Rattle.report.proofs.print.refusal.Reads as reads
-use Rattle.report.proofs.print.refusal.Lts as lts
-use Rattle.report.proofs.print.decimal.Reads as decimal-reads
-use Rattle.report.proofs.print.word.Reads as word-reads
 
 after-word : (c : tie.After-word) → Room 8 (c .word .result) (c .word .last .0)
 after-word c = room-first refl (c .word .ensures)
@@ -22,59 +18,45 @@ after-at c = room-text (after-number (c .before .before .before .before)) (c .wo
 after-place : (c : tie.After-decimal2) → Room 52 (c .decimal2 .result) (c .decimal2 .last .0)
 after-place c = room-number (c .before .before .before .before .before .before .before .before .before .before .before .before .before .args .place) (after-at (c .before .before .before)) (c .decimal2 .ensures)
 
--- src/print.rt:53:19
 slice-aggregate-word : tie.Need-slice-aggregate-word
 slice-aggregate-word c = search needs
 
--- src/print.rt:53:33
 slice-aggregate-word-2 : tie.Need-slice-aggregate-word-2
 slice-aggregate-word-2 c = search needs
 
--- src/print.rt:53:9
 word-requires : tie.Need-word-requires
 word-requires c κs = search needs
 
--- src/print.rt:54:22
 slice-aggregate-decimal : tie.Need-slice-aggregate-decimal
 slice-aggregate-decimal c = search needs
 
--- src/print.rt:54:9
 decimal-requires : tie.Need-decimal-requires
 decimal-requires c κs = number-fits (c .before .before .before .before .before .args .number) (after-word (c .before .before)) (omega arith)
 
--- src/print.rt:55:19
 slice-aggregate-word-3 : tie.Need-slice-aggregate-word-3
 slice-aggregate-word-3 c = search needs
 
--- src/print.rt:55:34
 slice-aggregate-word-4 : tie.Need-slice-aggregate-word-4
 slice-aggregate-word-4 c = search needs
 
--- src/print.rt:55:9
 word-requires-2 : tie.Need-word-requires-2
 word-requires-2 c κs = text-fits 4 (after-number (c .before .before .before)) (omega arith)
 
--- src/print.rt:56:22
 slice-aggregate-decimal-2 : tie.Need-slice-aggregate-decimal-2
 slice-aggregate-decimal-2 c = search needs
 
--- src/print.rt:56:9
 decimal-requires-2 : tie.Need-decimal-requires-2
 decimal-requires-2 c κs = number-fits (c .before .before .before .before .before .before .before .before .before .before .before .before .args .place) (after-at (c .before .before)) (omega arith)
 
--- src/print.rt:57:20
 slice-aggregate-word-5 : tie.Need-slice-aggregate-word-5
 slice-aggregate-word-5 c = search needs
 
--- src/print.rt:57:35
 slice-aggregate-word-6 : tie.Need-slice-aggregate-word-6
 slice-aggregate-word-6 c = search needs
 
--- src/print.rt:57:9
 word-requires-3 : tie.Need-word-requires-3
 word-requires-3 c κs = text-fits 1 (after-place (c .before .before .before)) (omega arith)
 
--- src/print.rt:49:1
 returns : tie.Need-returns
 returns c ns =
     let place = c .before .before .before .before .before in

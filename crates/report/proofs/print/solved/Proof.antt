@@ -8,42 +8,30 @@ use Rattle.report.proofs.TreeText.{tree-length, tree-value, tree-put}
 use borrow.Author.Needs.{needs}
 use Rattle.report.proofs.print.solved.Statement.{statement}
 use Rattle.report.proofs.print.solved.Tie as tie
-use Rattle.report.proofs.print.solved.Reads as reads
-use Rattle.report.proofs.print.solved.Lts as lts
-use Rattle.report.proofs.print.counts.Reads as counts-reads
-use Rattle.report.proofs.print.word.Reads as word-reads
-use Rattle.writer.proofs.write.Reads as write-reads
 
 after-counts : (c : tie.After-counts) → Room 80 (c .counts .result) (c .counts .last .0)
 after-counts c =
     let args = c .before .before .before .args in
     room-within 80 refl (counts-length (args .n) (args .count) (args .score)) (c .counts .ensures)
 
--- src/print.rt:82:21
 slice-aggregate-counts : tie.Need-slice-aggregate-counts
 slice-aggregate-counts c = search needs
 
--- src/print.rt:82:9
 counts-requires : tie.Need-counts-requires
 counts-requires c κs = search needs
 
--- src/print.rt:83:45
 sub-write : tie.Need-sub-write
 sub-write c = omega (arith, after-counts (c .before) .used)
 
--- src/print.rt:83:45
 part-text-start : tie.Need-part-text-start
 part-text-start c = omega (arith, after-counts (c .before) .used)
 
--- src/print.rt:83:45
 part-text-end : tie.Need-part-text-end
 part-text-end c = search needs
 
--- src/print.rt:83:9
 write-requires : tie.Need-write-requires
 write-requires c κs = search needs
 
--- src/print.rt:84:20
 slice-aggregate-word : tie.Need-slice-aggregate-word
 slice-aggregate-word c =
     let write = c .before .before in
@@ -51,7 +39,6 @@ slice-aggregate-word c =
     let start = write .before .before .before .before .before .before in
     sym (put-length (tree-put (start .pre .0) (start .pre .1) room (write .write .ensures)) ∙ room .bytes)
 
--- src/print.rt:84:31
 add-word : tie.Need-add-word
 add-word c =
     let write = c .before .before .before in
@@ -59,11 +46,9 @@ add-word c =
     let start = write .before .before .before .before .before .before in
     omega (arith, room .used, tree-value (start .pre .0) (start .pre .1) room (write .write .ensures), tree-length (start .pre .0) (start .pre .1))
 
--- src/print.rt:84:51
 slice-aggregate-word-2 : tie.Need-slice-aggregate-word-2
 slice-aggregate-word-2 c = search needs
 
--- src/print.rt:84:9
 word-requires : tie.Need-word-requires
 word-requires c κs =
     let write = c .before .before .before .before in
@@ -72,7 +57,6 @@ word-requires c κs =
     let l = put-length (tree-put (start .pre .0) (start .pre .1) room (write .write .ensures)) ∙ room .bytes in
     omega (arith, room .used, tree-value (start .pre .0) (start .pre .1) room (write .write .ensures), tree-length (start .pre .0) (start .pre .1), l)
 
--- src/print.rt:76:1
 returns : tie.Need-returns
 returns c =
     let write = c .before .before .before .before .before .before in

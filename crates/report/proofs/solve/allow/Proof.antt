@@ -4,34 +4,24 @@ use Rattle.report.proofs.Allowed.{marked}
 use borrow.Author.Needs.{needs}
 use Rattle.report.proofs.solve.allow.Statement.{statement}
 use Rattle.report.proofs.solve.allow.Tie as tie
-use Rattle.report.proofs.solve.allow.Reads as reads
-use Rattle.report.proofs.solve.allow.Lts as lts
-use Rattle.lineages.proofs.mark.Reads as mark-reads
-use Rattle.report.proofs.solve.fill.Reads as fill-reads
 
--- src/solve.rt:36:9
 fill-requires : tie.Need-fill-requires
 fill-requires c κs = search needs
 
--- src/solve.rt:37:9
 same-length : tie.Need-same-length
 same-length c = search needs
 
--- src/solve.rt:37:9
 returns : tie.Need-returns
 returns c =
     let start = c .before .before .before .before .before .before .before in
     c .before .before .fill .ensures ∙ rw (c .before .before .before .before .if1 .taken, start .pre .1)
 
--- src/solve.rt:39:5
 mark-requires : tie.Need-mark-requires
 mark-requires c κs = search needs
 
--- src/solve.rt:30:1
 same-length-2 : tie.Need-same-length-2
 same-length-2 c = search needs
 
--- src/solve.rt:30:1
 returns-2 : tie.Need-returns-2
 returns-2 c =
     let start = c .before .before .before .before .before .before .before in

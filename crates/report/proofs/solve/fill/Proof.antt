@@ -1,6 +1,6 @@
 -- The loop keeps: the bytes that have been passed are 1.
-use Prim.Native.Nat.{_+_, _-_, _≤_, _<_}
-use mathlib.Core.Path.{_≡_, refl, sym, ap, _∙_}
+use Prim.Native.Nat.{_-_, _≤_, _<_}
+use mathlib.Core.Path.{_≡_, refl, _∙_}
 use native.Mathlib.Omega.{arith}
 use mathlib.Core.List.{_++_, append-nil}
 use lib.ListN.{length, drop, replicate, length-set}
@@ -9,8 +9,6 @@ use borrow.Author.Fill.{fill-none, fill-more}
 use borrow.Author.Needs.{needs}
 use Rattle.report.proofs.solve.fill.Statement.{statement}
 use Rattle.report.proofs.solve.fill.Tie as tie
-use Rattle.report.proofs.solve.fill.Reads as reads
-use Rattle.report.proofs.solve.fill.Lts as lts
 
 abbrev Inv-loop : tie.InvT-loop
 Inv-loop out₀ i₀ out i = (i ≤ length out₀) × (length out ≡ length out₀) × (out ≡ replicate i 1 ++ drop i out₀)
@@ -18,23 +16,18 @@ Inv-loop out₀ i₀ out i = (i ≤ length out₀) × (length out ≡ length out
 abbrev μ-loop : tie.MeasureT-loop
 μ-loop out₀ i₀ out i = length out₀ - i
 
--- src/solve.rt:23:5
 loop-holds : tie.Need-loop-holds Inv-loop μ-loop
 loop-holds c = (omega arith, refl, fill-none (c .args .out .now) 1)
 
--- src/solve.rt:24:9
 slice-write-out : tie.Need-slice-write-out Inv-loop μ-loop
 slice-write-out c = search needs
 
--- src/solve.rt:25:9
 add-i : tie.Need-add-i Inv-loop μ-loop
 add-i c = search needs
 
--- src/solve.rt:23:5
 loop-less : tie.Need-loop-less Inv-loop μ-loop
 loop-less c = search needs
 
--- src/solve.rt:23:5
 loop-again : tie.Need-loop-again Inv-loop μ-loop
 loop-again c =
     let at-loop = c .before in
@@ -43,11 +36,9 @@ loop-again c =
     let h : i < length out = omega arith in
     (omega arith, simp length-set (omega arith), rw (at-loop .loop .inv .2) (fill-more i 1 out h))
 
--- src/solve.rt:19:1
 same-length : tie.Need-same-length Inv-loop μ-loop
 same-length c = search needs
 
--- src/solve.rt:19:1
 returns : tie.Need-returns Inv-loop μ-loop
 returns c =
     let out = c .before .before .args .out .now in

@@ -4,23 +4,16 @@ use Rattle.report.proofs.Searching.{found}
 use borrow.Author.Needs.{needs}
 use Rattle.report.proofs.solve.find.Statement.{statement}
 use Rattle.report.proofs.solve.find.Tie as tie
-use Rattle.report.proofs.solve.find.Reads as reads
-use Rattle.report.proofs.solve.find.Lts as lts
-use Rattle.search.proofs.search.Reads as search-reads
 
--- src/solve.rt:55:46
 slice-aggregate-search : tie.Need-slice-aggregate-search
 slice-aggregate-search c = search needs
 
--- src/solve.rt:55:59
 slice-aggregate-search-2 : tie.Need-slice-aggregate-search-2
 slice-aggregate-search-2 c = search needs
 
--- src/solve.rt:55:5
 search-requires : tie.Need-search-requires
 search-requires c κs = search needs
 
--- src/solve.rt:46:1
 returns : tie.Need-returns
 returns c = let start = c .before .before .before .before .before .before .before in found (start .pre .0) (start .pre .1) refl refl (c .before .before .search .ensures)
 

@@ -1,7 +1,5 @@
 -- What was gathered decides: a refusal, no gene tree, or what the search is asked.
-use Prim.Native.Nat.{_≤_}
 use mathlib.Core.Path.{_≡_, sym, ap, _∙_}
-use mathlib.Core.List.{List}
 use native.Mathlib.Omega.{arith}
 use Rattle.roster.specs.Roster.{names}
 use Rattle.lineages.specs.Count.{recordsIn}
@@ -14,11 +12,6 @@ use Rattle.report.proofs.GeneTrees.{stopped-inside, gathered-genes, wit
 use borrow.Author.Needs.{needs}
 use Rattle.report.proofs.solve.on_trees.Statement.{statement}
 use Rattle.report.proofs.solve.on_trees.Tie as tie
-use Rattle.report.proofs.solve.on_trees.Reads as reads
-use Rattle.report.proofs.solve.on_trees.Lts as lts
-use Rattle.report.proofs.gather.gather.Reads as gather-reads
-use Rattle.report.proofs.print.refusal.Reads as refusal-reads
-use Rattle.report.proofs.solve.solve.Reads as solve-reads
 
 -- what was gathered, case by case
 was-stopped : (c : tie.After-number) → stopped (c .number .given .0 .0) (c .number .given .0 .1 .0) ≡ Input·gather (c .before .before .before .before .before .before .before .args .line .now) (c .before .before .before .before .before .before .before .args .trees .now)
@@ -27,38 +20,30 @@ was-stopped c = ap (λ (r : Trees). gatheredIn (c .before .before .before .gathe
 was-gathered : (c : tie.After-count) → gathered (recordsIn (c .count .given .0 .0) (c .before .before .before .gather .last .1 .1 .0)) ≡ Input·gather (c .before .before .before .before .before .before .before .args .line .now) (c .before .before .before .before .before .before .before .args .trees .now)
 was-gathered c = ap (λ (r : Trees). gatheredIn (c .before .before .before .gather .last .1 .1 .0) r) (sym (c .count .given .1)) ∙ c .before .before .before .gather .ensures
 
--- src/solve.rt:70:31
 slice-aggregate-gather : tie.Need-slice-aggregate-gather
 slice-aggregate-gather c = search needs
 
--- src/solve.rt:70:11
 gather-requires : tie.Need-gather-requires
 gather-requires c κs = search needs
 
--- src/solve.rt:71:26
 enum-known-number : tie.Need-enum-known-number
 enum-known-number c = search needs
 
--- src/solve.rt:71:61
 add-refusal : tie.Need-add-refusal
 add-refusal c =
     let start = c .before .before .before .before .before .before .before .before in
     let inside = stopped-inside (start .args .line .now) (start .args .trees .now) (start .pre .0 .good) (omega arith) (was-stopped (c .before)) in
     omega arith
 
--- src/solve.rt:71:45
 refusal-requires : tie.Need-refusal-requires
 refusal-requires c κs = search needs
 
--- src/solve.rt:72:27
 enum-known-count : tie.Need-enum-known-count
 enum-known-count c = search needs
 
--- src/solve.rt:74:17
 refusal-requires-2 : tie.Need-refusal-requires-2
 refusal-requires-2 c κs = search needs
 
--- src/solve.rt:74:17
 returns : tie.Need-returns
 returns c =
     let args = c .before .before .before .before .before .before .before .before .before .before .args in
@@ -68,24 +53,20 @@ returns c =
     ∙ (ap (λ (o : Outcome). told ns o) (without-genes genes (args .all) (args .n) (c .before .if1 .taken))
     ∙ ap (λ (g : Gathered). told ns (onTrees g (args .shift) (args .all) (args .n))) (was-gathered (c .before .before .before)))
 
--- src/solve.rt:76:28
 slice-aggregate-solve : tie.Need-slice-aggregate-solve
 slice-aggregate-solve c = search needs
 
--- src/solve.rt:76:13
 solve-requires : tie.Need-solve-requires
 solve-requires c κs =
     let start = c .before .before .before .before .before .before .before .before .before .before in
     (start .pre .0, gathered-genes (start .args .trees .now) (start .pre .0) (omega arith) (c .before .before .before .before .before .genes2 .given) (was-gathered (c .before .before .before)) (c .before .if1 .left))
 
--- src/solve.rt:64:1
 returns-2 : tie.Need-returns-2
 returns-2 c =
     let args = c .before .before .before .before .before .before .before .before .before .args in
     let ns = names (args .line .now) in
     c .refusal .ensures ns ∙ ap (λ (g : Gathered). told ns (onTrees g (args .shift) (args .all) (args .n))) (was-stopped (c .before .before))
 
--- src/solve.rt:64:1
 returns-3 : tie.Need-returns-3
 returns-3 c =
     let args = c .before .before .before .before .before .before .before .before .before .before .before .args in

@@ -18,13 +18,6 @@ use Rattle.report.proofs.Searching.{entries-most, searched-refused, sea
 use borrow.Author.Needs.{needs}
 use Rattle.report.proofs.solve.solve.Statement.{statement}
 use Rattle.report.proofs.solve.solve.Tie as tie
-use Rattle.report.proofs.solve.solve.Reads as reads
-use Rattle.report.proofs.solve.solve.Lts as lts
-use Rattle.clusters.proofs.single.Reads as single-reads
-use Rattle.report.proofs.print.refusal.Reads as refusal-reads
-use Rattle.report.proofs.print.solved.Reads as solved-reads
-use Rattle.report.proofs.solve.allow.Reads as allow-reads
-use Rattle.report.proofs.solve.find.Reads as find-reads
 
 entries : (c : tie.After-single) → c .single .result ≡ 2 ^ c .before .before .before .args .n
 unfolding single
@@ -56,46 +49,36 @@ found-by c =
     let gs = recordsIn (args .count) (args .genes .now) in
     c .find .ensures ∙ ap (λ (l : List ℕ). foundBy (bestFor (args .n) gs l (whole (args .n))) gs) (handed (c .before .before .before))
 
--- src/solve.rt:66:19
 single-requires : tie.Need-single-requires
 single-requires c κs = search needs
 
--- src/solve.rt:66:19
 cast-entries : tie.Need-cast-entries
 cast-entries c = search needs
 
--- src/solve.rt:68:33
 array-borrow-prefix-allowed : tie.Need-array-borrow-prefix-allowed
 array-borrow-prefix-allowed c = entries-fit c
 
--- src/solve.rt:68:33
 slice-aggregate-allow : tie.Need-slice-aggregate-allow
 slice-aggregate-allow c = sym (length-take-le (c .before .single .result) (replicate 4096 0) (entries-fit (c .before)))
 
--- src/solve.rt:68:5
 allow-requires : tie.Need-allow-requires
 allow-requires c κs = (c .before .before .before .before .pre .1, length-take-le (c .before .single .result) (replicate 4096 0) (entries-fit (c .before)) ∙ entries (c .before))
 
--- src/solve.rt:69:39
 array-share-prefix-allowed : tie.Need-array-share-prefix-allowed
 array-share-prefix-allowed c = front-fits (c .before .allow .last .1 .1 .1 .1 .0) (behind (c .before)) (allowed-entries (c .before))
 
--- src/solve.rt:69:39
 slice-aggregate-find : tie.Need-slice-aggregate-find
 slice-aggregate-find c = sym (ap length (handed (c .before .before)) ∙ (ap length (sym (c .before .before .allow .ensures)) ∙ allowed-entries (c .before .before)))
 
--- src/solve.rt:69:9
 find-requires : tie.Need-find-requires
 find-requires c κs =
     let args = c .before .before .before .before .before .before .before .args in
     let gs = recordsIn (args .count) (args .genes .now) in
     (c .before .before .before .before .before .before .before .pre .1, rw (handed (c .before .before)) (allowed-marked (args .all) (args .n) gs))
 
--- src/solve.rt:71:9
 refusal-requires : tie.Need-refusal-requires
 refusal-requires c κs = search needs
 
--- src/solve.rt:71:9
 returns : tie.Need-returns
 returns c =
     let find = c .before .before .before in
@@ -104,7 +87,6 @@ returns c =
     let ns = names (args .line .now) in
     c .refusal .ensures ns ∙ ap (λ (o : Outcome). told ns o) (searched-refused (args .n) gs (allowed (find .before .before .before)) (found-by find) (c .before .if1 .taken))
 
--- src/solve.rt:74:5
 solved-requires : tie.Need-solved-requires
 solved-requires c κs =
     let find = c .before .before .before in
@@ -113,7 +95,6 @@ solved-requires c κs =
     let gs = recordsIn (args .count) (args .genes .now) in
     (start .pre .0, found-valid (args .n) gs (allowed (find .before .before .before)) (found-by find) (omega (arith, start .pre .0 .few)) (c .before .if1 .left))
 
--- src/solve.rt:59:1
 returns-2 : tie.Need-returns-2
 returns-2 c =
     let find = c .before .before .before .before in

@@ -1,0 +1,12 @@
+-- The two forms of the output (01, "The program").
+use Prim.Native.Nat.{ℕ}
+use mathlib.Core.List.{List, _++_}
+use Rattle.writer.specs.Writing.{written}
+use Rattle.report.specs.Words.{taxaText, genesText, scoreText, refusedText, atText, newline, decimal}
+
+-- one line, "the number and the place"; or three: "species and gene trees read, the score, and the tree"
+pub data Form (names : List (List ℕ)) : List ℕ → Type 0 where
+  refusal : (number place : ℕ) → Form names (refusedText ++ decimal number ++ atText ++ decimal place ++ newline)
+  answer :
+      (n m score : ℕ) (r : List ℕ)
+      → Form names (taxaText ++ decimal n ++ genesText ++ decimal m ++ newline ++ scoreText ++ decimal score ++ newline ++ written names r ++ newline)
