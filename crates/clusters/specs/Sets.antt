@@ -1,5 +1,5 @@
 -- A set of species as a number: species i is in it when bit i is set (01, "Species, clusters, records").
-use Prim.Native.Nat.{ℕ, _-_, _/_, _%_, _^_, _≤_, _<_}
+use Prim.Native.Nat.{ℕ, _-_, _/_, _%_, _^_}
 use mathlib.Core.Path.{_≡_}
 use mathlib.Core.Bool.{Bool}
 use lib.Bits.{bitAnd, bitOr}
@@ -9,11 +9,6 @@ use lib.Dec.{eqb}
 -- "species i is in it when bit i is set"
 unfoldable pub Has : ℕ → ℕ → Type 0
 Has a i = a / 2 ^ i % 2 ≡ 1
-
--- "A cluster is a number from 1 to 2^n - 1"
-pub record Cluster (n a : ℕ) : Type 0 where
-  pub some : 1 ≤ a
-  pub below : a < 2 ^ n
 
 -- the set of all n species
 unfoldable pub whole : ℕ → ℕ

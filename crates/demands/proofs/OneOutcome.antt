@@ -1,4 +1,4 @@
--- For each public call: "it is proved that the promise admits a single outcome".
+-- "For each, it is proved that the promise admits a single outcome": one theorem for each promise. The C names of `capi` have these same promises.
 use Prim.Native.Nat.{ℕ}
 use mathlib.Core.Path.{_≡_, sym, _∙_}
 use mathlib.Core.List.{List}

@@ -1,8 +1,8 @@
 // Extra lineages counted: the weight of a cluster, the score of a species tree, the clusters that gene trees show.
-pub mod adding;
+mod adding;
 pub mod checks;
 pub mod count;
-pub mod marking;
+mod marking;
 
 use roster::Reply;
 ghost use mathlib.Core.Path.{_≡_};
