@@ -12,3 +12,4 @@ pub mod Gathering
 pub mod Allowing
 pub mod Solved
 pub mod Signed
+pub mod Locality
