@@ -201,6 +201,7 @@ fn program_borders(c: &mut Cases) {
         b"a b c d\ngenes\n((a,b),c,d);", b"a b c d\ngenes\n((a,b),c,d);((a,b),(c,d));", b"a\nall\na;", b"a\ngenes\na;", b"", b"\n", b"a", b"a b", b"a b\n", b"a b\nall", b"a b\n all\n", b"a b\nall\r\n",
         b"a b\nALL\n", b"a b\n\n", b"a b\nall\n", b"a b\ngenes\n \t\r\n", b"a b\nallgenes\n", b"a b\ngene\n", b"a b\ngenes \n", b"a  b\nall\n", b"a b\nall\n(a,b);(a,x);", b"a b\nall\n(a,b); a;", b"a b\nall\n(a,b)",
         b"a b c d e f g h i j k l m", b"a b c d e f g h i j k l m\nall\n", b"a b c d e f g h i j k l m n o p q\nall\n", b"a b\nall\n(a,b);;", b"a b\r\nall\n(a,b);",
+        b"a b\nall\n(a,b):1234567890123;", b"a b\nall\n(a,b)abcdefghijklmnop;", b"a b\nall\n(b,a);(a,a);", b"a b\ngenes\n((a),b);", b"a b\nall\n((((((((((((((((a,b);",
     ] {
         c.report(input);
     }
