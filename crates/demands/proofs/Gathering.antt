@@ -1,18 +1,20 @@
--- The gene trees that the program gathers are those that stand in its input, one after the other.
-use Prim.Native.Nat.{ℕ, zero, suc, _+_, _≤_, _<_}
-use mathlib.Core.Path.{_≡_, refl, sym, _∙_, subst}
+-- The gene trees that the program gathers are those that stand in its input, one after the other, and it gathers all of them.
+use Prim.Native.Nat.{ℕ, zero, suc, _+_, _-_, _≤_, _<_}
+use mathlib.Core.Path.{_≡_, refl, sym, ap, _∙_, subst}
 use mathlib.Core.Logic.{_⊎_, inl, inr}
 use mathlib.Core.Bool.{Bool, true, false}
 use mathlib.Core.List.{List, [], _∷_, _++_, map, append-nil, append-assoc, List·Memᴰ, List·Memᴰ·not-nil, List·Memᴰ·cases-cons}
 use native.Mathlib.Omega.{arith}
-use lib.ListN.{length, drop, length-append, drop-of-length-le}
+use lib.ListN.{length, drop, length-append, length-drop, drop-of-length-le}
 use lib.Seq.{drop-drop}
 use lib.Dec.{leb}
-use borrow.Author.Tests.{leb-true, leb-false}
+use borrow.Author.Tests.{leb-true, leb-false, le-leb, lt-leb}
 use Rattle.clusters.specs.Sets.{whole}
 use Rattle.trees.specs.Tree.{Tree, On, clusters}
 use Rattle.trees.specs.Records.{recordOf}
+use Rattle.roster.specs.Bytes.{isBlank, run}
 use Rattle.roster.specs.Roster.{names}
+use Rattle.roster.proofs.Runs.{run-within}
 use Rattle.reader.specs.Answers.{Answer}
 use Rattle.reader.specs.Answers.Answer.{parsed, refused}
 use Rattle.reader.specs.Tokens.{blanks, skip}
@@ -22,7 +24,8 @@ use Rattle.reader.specs.Grammar.Node.{a-leaf, an-inner}
 use Rattle.reader.specs.Grammar.Text.{text}
 use Rattle.reader.specs.Promise.{readingOf, answerTo}
 use Rattle.reader.specs.Accepted.{Draws, JustBehind}
-use Rattle.reader.proofs.Accepts.{accepted-derives}
+use Rattle.reader.proofs.Accepts.{accepted-derives, derives-accepted}
+use Rattle.reader.proofs.Exact.{blanks-skip, skip-to, name-no-blank, run-first}
 use Rattle.reader.proofs.Sound.{skip-blanks}
 use Rattle.report.specs.Input.{genesMost, gatherOn, gatherAt, gatherMore, gatherTo, gather}
 use Rattle.report.specs.Input.Gathered.{gathered, stopped}
@@ -136,7 +139,7 @@ module _ (line txt : List ℕ) (genes : List (List ℕ)) where
 
 -- ---- all of them
 
-each-on : {line txt : List ℕ} {at : ℕ} {trees : List Tree} → TreesFrom line txt at trees → (t : Tree) → List·Memᴰ t trees → On (whole (length (names line))) t
+pub each-on : {line txt : List ℕ} {at : ℕ} {trees : List Tree} → TreesFrom line txt at trees → (t : Tree) → List·Memᴰ t trees → On (whole (length (names line))) t
 each-on (only-blanks b) t m = absurd (List·Memᴰ·not-nil m)
 each-on {line} (a-tree {t = u} {trees = trees} d j later) t m = go (List·Memᴰ·cases-cons m) (each-on later t)
   where
@@ -156,3 +159,98 @@ unfolding gather
 gathered-from line txt genes e =
     let g = gathers line txt genes 514 [] 0 (omega arith) (omega arith) e in
     record { trees = g .trees; stand = g .stand; records = record { records = g .records; on = each-on (g .stand) }; few = g .few }
+
+-- ---- and the other way: what stands there is gathered
+
+blanks-all : {s : List ℕ} → Blanks s [] → blanks s ≡ length s
+unfolding blanks run
+blanks-all none = refl
+blanks-all (blank e b) = rw e (ap suc (blanks-all b))
+
+text-without-blanks : {R : Rules} {k : ℕ} {s rest : List ℕ} {t : Tree} → Text R k s t rest → Text R k (skip s) t rest
+text-without-blanks (text (a-leaf {s₁ = m} gap w known behind) ends) =
+    text (a-leaf (subst (λ (l : List ℕ). Blanks l m) (sym (blanks-skip gap (name-no-blank m (run-first w)))) none) w known behind) ends
+text-without-blanks (text (an-inner {s₁ = m} opens first comma others inner behind) ends) =
+    text (an-inner (subst (λ (l : List ℕ). Blanks l (40 ∷ m)) (sym (skip-to 40 refl opens)) none) first comma others inner behind) ends
+
+module _ (line txt : List ℕ) (at : ℕ) where
+  begun-within : at ≤ length txt → begun line txt at ≤ length txt
+  unfolding blanks
+  begun-within h = omega (arith, run-within isBlank (drop at txt), length-drop at txt)
+
+  -- a tree drawn with blanks before it is drawn behind them
+  draws-from-begun : {t : Tree} {rest : List ℕ} → Draws line txt at t rest → Draws line txt (begun line txt at) t rest
+  unfolding blanks skip
+  draws-from-begun d = record {
+    good = d .good;
+    short = d .short;
+    inside = begun-within (d .inside);
+    derives = rw (← drop-drop (blanks (drop at txt)) at txt) (text-without-blanks (d .derives));
+    on = d .on;
+  }
+
+  -- so it is read there
+  reads-from-begun :
+      {t : Tree} {rest : List ℕ} {next : ℕ} → Draws line txt at t rest → JustBehind txt at rest next
+      → (begun line txt at < length txt) × (answerTo line txt (begun line txt at) ≡ parsed t rest next)
+  reads-from-begun {t} {rest} {next} d j =
+      let e = derives-accepted line txt (begun line txt at) (draws-from-begun d) in
+      let p = accepted-derives line txt (begun line txt at) e .place in
+      let l : length rest ≡ length txt - next = ap length (j .left) ∙ length-drop next txt in
+      let q : length txt - length rest ≡ next = let w = j .within in omega arith in
+      (let a = p .after in let w = p .within in omega arith, e ∙ ap (λ (q : ℕ). parsed t rest q) q)
+
+module _ (line txt : List ℕ) where
+  gathers-all :
+      (k : ℕ) (before : List (List ℕ)) {at : ℕ} {trees : List Tree} → TreesFrom line txt at trees → length before + length trees ≤ genesMost → 514 ≤ k + length before
+      → gatherTo k line txt before at ≡ gathered (before ++ map (λ (t : Tree). recordOf (clusters t)) trees)
+  unfolding gatherTo
+  gathers-all zero before stand few enough = absurd (omega arith)
+  gathers-all (suc k) before {at} (only-blanks b) few enough =
+      rw (le-leb (length txt) (begun line txt at) (omega (arith, blanks-all b, length-drop at txt))) (ap gathered (sym (append-nil before)))
+  gathers-all (suc k) before {at} (a-tree {next = next} {t = t} {trees = trees} d j later) few enough =
+      let r = reads-from-begun line txt at d j in
+      let step = gathers-all k (before ++ (recordOf (clusters t) ∷ [])) later (omega (arith, length-more before (recordOf (clusters t)))) (omega (arith, length-more before (recordOf (clusters t)))) in
+      rw (lt-leb (length txt) (begun line txt at) (r .0), lt-leb genesMost (length before) (omega arith), r .1)
+      (step ∙ ap gathered (append-assoc before (recordOf (clusters t) ∷ []) (map (λ (t : Tree). recordOf (clusters t)) trees)))
+
+-- the gene trees that stand in a text are gathered
+pub gathers-standing :
+    (line txt : List ℕ) {trees : List Tree} → TreesFrom line txt 0 trees → length trees ≤ genesMost
+    → gather line txt ≡ gathered (map (λ (t : Tree). recordOf (clusters t)) trees)
+unfolding gather
+gathers-standing line txt stand few = gathers-all line txt 514 [] stand (omega arith) (omega arith)
+
+-- ---- a refusal on the way
+
+module _ (line txt : List ℕ) {number place : ℕ} where
+  stops : (k : ℕ) (before : List (List ℕ)) (at : ℕ) → gatherTo k line txt before at ≡ stopped number place → number ≡ 14 → ⊥
+  unfolding gatherTo
+  stops zero before at e = absurd (stopped-gathered (sym e))
+  stops (suc k) before at e = ends (leb (length txt) (begun line txt at)) e (λ r q. stops k (before ++ (r ∷ [])) q)
+    where
+      Later : Type 0
+      Later = (r : List ℕ) (q : ℕ) → gatherTo k line txt (before ++ (r ∷ [])) q ≡ stopped number place → number ≡ 14 → ⊥
+
+      read :
+          (a : Answer Tree) → answerTo line txt (begun line txt at) ≡ a
+          → gatherOn (readingOf (begun line txt at) a .number) (readingOf (begun line txt at) a) (λ numbers next. gatherTo k line txt (before ++ (numbers ∷ [])) next) ≡ stopped number place
+          → Later → number ≡ 14 → ⊥
+      read (parsed t rest q) a e later = later (recordOf (clusters t)) q e
+      read (refused zero p) a e later = absurd (omega (arith, fault-numbers (fault-of-refusal line txt (begun line txt at) 0 p a)))
+      read (refused (suc m) p) a e later =
+          let i : suc m ≡ number = cc in
+          λ f. omega (arith, fault-numbers (fault-of-refusal line txt (begun line txt at) (suc m) p a))
+
+      room : (b : Bool) → gatherAt b line txt (begun line txt at) (λ numbers next. gatherTo k line txt (before ++ (numbers ∷ [])) next) ≡ stopped number place → Later → number ≡ 14 → ⊥
+      room true e later = let i : 17 ≡ number = cc in λ f. omega arith
+      room false e later = read (answerTo line txt (begun line txt at)) refl e later
+
+      ends : (b : Bool) → gatherMore b line txt before (begun line txt at) (λ numbers next. gatherTo k line txt (before ++ (numbers ∷ [])) next) ≡ stopped number place → Later → number ≡ 14 → ⊥
+      ends true e later = absurd (stopped-gathered (sym e))
+      ends false e later = room (leb genesMost (length before)) e later
+
+  -- "14" is not said of a tree's text
+  pub stopped-early : gather line txt ≡ stopped number place → number ≡ 14 → ⊥
+  unfolding gather
+  stopped-early e = stops 514 [] 0 e

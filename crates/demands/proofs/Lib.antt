@@ -10,6 +10,8 @@ pub mod ThirdDemand
 pub mod ShutOut
 pub mod Gathering
 pub mod Allowing
+pub mod TwoLines
 pub mod Solved
 pub mod Signed
+pub mod Taken
 pub mod Locality

@@ -3,7 +3,7 @@ use Prim.Native.Nat.{ℕ, _-_, _≤_}
 use mathlib.Core.Path.{_≡_, refl, sym, ap, _∙_, subst}
 use mathlib.Core.Logic.{_⊎_, inl, inr}
 use mathlib.Core.Bool.{Bool, true, false}
-use mathlib.Core.List.{List, _++_, append-assoc}
+use mathlib.Core.List.{List, _∷_, _++_, append-assoc}
 use native.Mathlib.Omega.{arith}
 use lib.ListN.{length, getD, take, drop, replicate, length-map}
 use lib.Seq.{take-append-seam}
@@ -24,39 +24,38 @@ use Rattle.report.specs.Program.{Outcome, allowedBy, program}
 use Rattle.report.specs.Program.Outcome.{refused, solved}
 use Rattle.report.specs.Promise.{printed, output, Reports}
 use Rattle.demands.specs.GeneTrees.{RecordsOf}
-use Rattle.demands.specs.Input.{Allows}
+use Rattle.demands.specs.Input.{Holds}
 use Rattle.demands.specs.Signed.{Eligible, Signed}
 use Rattle.demands.proofs.GeneTrees.{score-drawn}
-use Rattle.demands.proofs.Gathering.{gathered-from}
+use Rattle.demands.proofs.Gathering.{GatheredFrom, gathered-from}
+use Rattle.demands.proofs.TwoLines.{feed-splits, trees-behind}
 use Rattle.demands.proofs.Allowing.{modeWord, byte-allows, allows-byte}
-use Rattle.demands.proofs.Solved.{Solved, speciesIn, program-solved}
+use Rattle.demands.proofs.Solved.{Best, searched-best, speciesIn, Reached, program-reached}
+use Rattle.demands.proofs.Solved.Late.{a-tree}
 
 -- ---- the trees that compete
 
-module _ (input : List ℕ) {genes : List (List ℕ)} {trees : List Tree} (all : Bool) (mode : firstLine (behindLine input) ≡ modeWord all)
-    (r : RecordsOf (speciesIn input) genes trees) (c : List ℕ) where
+module _ {n : ℕ} {genes : List (List ℕ)} {trees : List Tree} (all : Bool) (r : RecordsOf n genes trees) (c : List ℕ) where
   -- what is eligible competes in the search, and the other way round
-  eligible-competes : Eligible input (speciesIn input) trees c → Candidate (speciesIn input) (allowedBy all (speciesIn input) genes) c
+  pub eligible-competes : Eligible n (modeWord all) trees c → Candidate n (allowedBy all n genes) c
   eligible-competes e = record {
     valid = e .valid;
     binary = e .binary;
-    over = λ a m.
-        allows-byte r a (below-of-within (speciesIn input) (e .valid .inside a m .1)) all
-        (subst (λ (w : List ℕ). Allows (speciesIn input) trees w a) mode (e .allowed a m));
+    over = λ a m. allows-byte r a (below-of-within n (e .valid .inside a m .1)) all (e .allowed a m);
   }
 
-  competitor-eligible : Candidate (speciesIn input) (allowedBy all (speciesIn input) genes) c → Eligible input (speciesIn input) trees c
+  pub competitor-eligible : Candidate n (allowedBy all n genes) c → Eligible n (modeWord all) trees c
   competitor-eligible k = record {
     valid = k .valid;
     binary = k .binary;
-    allowed = λ a m.
-        subst (λ (w : List ℕ). Allows (speciesIn input) trees w a) (sym mode)
-        (byte-allows r a (below-of-within (speciesIn input) (k .valid .inside a m .1)) all (k .over a m));
+    allowed = λ a m. byte-allows r a (below-of-within n (k .valid .inside a m .1)) all (k .over a m);
   }
 
-mode-word : (all : Bool) (w : List ℕ) → w ≡ modeWord all → (w ≡ allWord) ⊎ (w ≡ genesWord)
-mode-word true w e = inl e
-mode-word false w e = inr e
+-- ---- the input
+
+mode-word : (all : Bool) → (modeWord all ≡ allWord) ⊎ (modeWord all ≡ genesWord)
+mode-word true = inl refl
+mode-word false = inr refl
 
 -- ---- the three lines
 
@@ -76,47 +75,68 @@ three-lines input n m s r e =
 
 -- ---- the theorem
 
+module _ (input : List ℕ) {o : Outcome} (v : Reached input o) where
+  pub gathered-trees : GatheredFrom (firstLine input) (drop (treesPlace input) input) (v .genes)
+  gathered-trees = gathered-from (firstLine input) (drop (treesPlace input) input) (v .genes) (v .gathers)
+
+  as-many : length (v .genes) ≡ length (gathered-trees .trees)
+  as-many = ap length (gathered-trees .records .records) ∙ length-map (gathered-trees .trees) (λ (t : Tree). recordOf (clusters t))
+
+  pub input-holds : Holds input (firstLine input) (modeWord (v .all)) (gathered-trees .trees)
+  input-holds = record {
+    text = drop (treesPlace input) input;
+    parts =
+        feed-splits input (v .first-feed)
+        ∙ ap (λ (l : List ℕ). firstLine input ++ (10 ∷ l)) (feed-splits (behindLine input) (v .second-feed) ∙ rw (v .mode, ← trees-behind input));
+    short = v .short;
+    roster-good = v .good;
+    few-species = v .few;
+    mode-word = mode-word (v .all);
+    stand = gathered-trees .stand;
+    some-trees = let h = v .some-genes in omega (arith, as-many);
+    few-trees = let h = gathered-trees .few in omega (arith, as-many);
+  }
+
 -- for an input that the program solves
 pub signed : (input : List ℕ) (n m s : ℕ) (r : List ℕ) → program input ≡ solved n m s r → Signed input n m s r
-signed input n m s r e = go (program-solved input e)
+signed input n m s r e = let v = program-reached input a-tree e in go v (searched-best (speciesIn input) (v .genes) (allowedBy (v .all) (speciesIn input) (v .genes)) (v .result))
   where
-    go : Solved input n m s r → Signed input n m s r
-    go v =
-        let b = v .best in
-        let g = gathered-from (firstLine input) (drop (treesPlace input) input) (v .genes) (v .gathers) in
+    go : (v : Reached input (solved n m s r)) → Best (speciesIn input) (v .genes) (allowedBy (v .all) (speciesIn input) (v .genes)) n m s r → Signed input n m s r
+    go v b =
+        let g = gathered-trees input v in
         let k = v .few in
         let a = found-answers (speciesIn input) (v .genes) (allowedBy (v .all) (speciesIn input) (v .genes)) (omega arith) (b .tree) (b .is-best) in
-        let size : length (v .genes) ≡ length (g .trees) = ap length (g .records .records) ∙ length-map (g .trees) (λ (t : Tree). recordOf (clusters t)) in
         let told : program input ≡ solved (speciesIn input) (length (v .genes)) (scoreOf (weight (v .genes)) (b .tree)) (recordOf (clustersIn (b .tree))) =
         cc (e, b .species, b .count, b .scored, b .recorded)
         in
         rw (← b .species, ← b .count, ← b .scored, ← b .recorded) (record {
-          roster-good = v .good;
-          species = refl;
-          few-species = v .few;
-          mode = mode-word (v .all) (firstLine (behindLine input)) (v .mode);
+          line = firstLine input;
+          mode = modeWord (v .all);
           trees = g .trees;
-          stand = g .stand;
-          count = size;
-          some-trees = v .some-genes;
-          few-trees = g .few;
-          eligible = competitor-eligible input (v .all) (v .mode) (g .records) (recordOf (clustersIn (b .tree))) (a .competes);
+          holds = input-holds input v;
+          species = refl;
+          count = as-many input v;
+          eligible = competitor-eligible (v .all) (g .records) (recordOf (clustersIn (b .tree))) (a .competes);
           counted = sym (score-drawn (g .records) (recordOf (clustersIn (b .tree)))) ∙ a .counted;
-          least = λ c h. subst (λ (x : ℕ). scoreOf (weight (v .genes)) (b .tree) ≤ x) (score-drawn (g .records) c) (a .least c (eligible-competes input (v .all) (v .mode) (g .records) c h));
+          least = λ c h. subst (λ (x : ℕ). scoreOf (weight (v .genes)) (b .tree) ≤ x) (score-drawn (g .records) c) (a .least c (eligible-competes (v .all) (g .records) c h));
           reads-back = λ q. reads-back (firstLine input) (v .good) (a .competes .valid);
           lines = three-lines input (speciesIn input) (length (v .genes)) (scoreOf (weight (v .genes)) (b .tree)) (recordOf (clustersIn (b .tree))) told;
         })
 
 -- ---- what is printed
 
--- "prints species and gene trees read, the score, and the tree": an output that begins with a `t` is signed
-pub printed-is-signed : (input : List ℕ) → getD (output input) 0 0 ≡ 116 → (n : ℕ) × (m : ℕ) × (s : ℕ) × (r : List ℕ) × Signed input n m s r
+-- an output that begins with a `t` is that of a tree
+pub printed-solved : (input : List ℕ) → getD (output input) 0 0 ≡ 116 → (n : ℕ) × (m : ℕ) × (s : ℕ) × (r : List ℕ) × (program input ≡ solved n m s r)
 unfolding output
-printed-is-signed input t = go (program input) refl
+printed-solved input t = go (program input) refl
   where
-    go : (o : Outcome) → program input ≡ o → (n : ℕ) × (m : ℕ) × (s : ℕ) × (r : List ℕ) × Signed input n m s r
+    go : (o : Outcome) → program input ≡ o → (n : ℕ) × (m : ℕ) × (s : ℕ) × (r : List ℕ) × (program input ≡ solved n m s r)
     go (refused number place) e = absurd (omega (arith, ap (λ (o : Outcome). getD (printed (names (firstLine input)) o) 0 0) e, t))
-    go (solved n m s r) e = (n, m, s, r, signed input n m s r e)
+    go (solved n m s r) e = (n, m, s, r, e)
+
+-- "prints species and gene trees read, the score, and the tree": and so it is signed
+pub printed-is-signed : (input : List ℕ) → getD (output input) 0 0 ≡ 116 → (n : ℕ) × (m : ℕ) × (s : ℕ) × (r : List ℕ) × Signed input n m s r
+printed-is-signed input t = let p = printed-solved input t in (p .0, p .1, p .2, p .3, signed input (p .0) (p .1) (p .2) (p .3) (p .4))
 
 -- the first bytes of the reply's text, as many as it says, are the output
 pub report-is-the-output : (input : List ℕ) (reply : _) → Reports input reply → take (reply .len) (reply .text) ≡ output input

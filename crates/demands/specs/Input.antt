@@ -1,14 +1,21 @@
--- The gene trees that stand in the program's input, and the clusters that its mode line allows (01, "The program").
-use Prim.Native.Nat.{ℕ}
+-- Which inputs the program takes, and the clusters that the mode line allows (01, "The program").
+use Prim.Native.Nat.{ℕ, _≤_}
 use mathlib.Core.Path.{_≡_}
-use mathlib.Core.List.{List, [], _∷_, List·Memᴰ}
-use lib.ListN.{drop}
+use mathlib.Core.Logic.{_⊎_}
+use mathlib.Core.Bool.{false}
+use mathlib.Core.List.{List, [], _∷_, _++_, List·Memᴰ}
+use lib.ListN.{length, drop}
 use Rattle.clusters.specs.Sets.{whole, size}
 use Rattle.trees.specs.Lists.{Among}
 use Rattle.trees.specs.Tree.{Tree, clusters}
+use Rattle.roster.specs.Roster.{names, faulty}
+use Rattle.roster.specs.Judged.{speciesMost}
 use Rattle.reader.specs.Grammar.{Blanks}
+use Rattle.reader.specs.Promise.{textMost}
 use Rattle.reader.specs.Accepted.{Draws, JustBehind}
 use Rattle.report.specs.Words.{allWord, genesWord}
+use Rattle.report.specs.Input.{genesMost}
+use Rattle.report.specs.Program.{programMost}
 
 -- "then trees until only blanks remain": each is drawn from the offset just behind the one before it
 pub data TreesFrom (line text : List ℕ) : ℕ → List Tree → Type 0 where
@@ -16,6 +23,22 @@ pub data TreesFrom (line text : List ℕ) : ℕ → List Tree → Type 0 where
   a-tree :
       {at next : ℕ} {t : Tree} {rest : List ℕ} {trees : List Tree}
       → Draws line text at t rest → JustBehind text at rest next → TreesFrom line text next trees → TreesFrom line text at (t ∷ trees)
+
+-- "Standard input holds the roster line, a line that is exactly `all` or `genes`, then trees", inside the program's limits
+pub record Holds (input line mode : List ℕ) (trees : List Tree) : Type 0 where
+  pub text : List ℕ
+  -- "Each of the first two lines ends in a line feed"
+  pub parts : input ≡ line ++ (10 ∷ (mode ++ (10 ∷ text)))
+  pub short : length input ≤ textMost
+  -- the roster line is good
+  pub roster-good : faulty speciesMost line ≡ false
+  pub few-species : length (names line) ≤ programMost
+  -- "exactly `all` or `genes`"
+  pub mode-word : (mode ≡ allWord) ⊎ (mode ≡ genesWord)
+  -- gene trees stand behind the two lines, each drawn by the grammar with every species once, and nothing else
+  pub stand : TreesFrom line text 0 trees
+  pub some-trees : 1 ≤ length trees
+  pub few-trees : length trees ≤ genesMost
 
 -- "a line that is exactly `all` or `genes`": what it allows. "Single species and the whole are allowed whether marked or not"
 pub data Allows (n : ℕ) (trees : List Tree) : List ℕ → ℕ → Type 0 where

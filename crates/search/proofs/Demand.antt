@@ -101,7 +101,7 @@ module _ (n : ℕ) (genes : List (List ℕ)) (allowed : List ℕ) (h : n ≤ 16)
         first = λ c k q. found-first t e c k q;
       }
 
-  none-competes : bestFor n genes allowed (whole n) ≡ none → (c : List ℕ) → Candidate n allowed c → ⊥
+  pub none-competes : bestFor n genes allowed (whole n) ≡ none → (c : List ℕ) → Candidate n allowed c → ⊥
   unfolding bestFor
   none-competes e c k =
       let u = competitor n allowed c h k in
