@@ -10,9 +10,9 @@ use Rattle.clusters.specs.Sets.{whole, single, union, has, within, apart, size,
 use Rattle.demands.specs.Examples.{recordIn, foundIn, holds, allHold}
 use Rattle.lineages.specs.Count.{kOf, extra, total, weight, score, recordsIn}
 use Rattle.lineages.specs.Promise.{shown, marks}
+use Rattle.tokens.specs.Tokens.{nextIs, nextName, blanks, skip, number, numberBehind, numbers, name, innerName}
 use Rattle.reader.specs.Promise.{answerTo}
 use Rattle.reader.specs.Reading.{leafAt, closing, readTreeTo, readTree, readNode}
-use Rattle.reader.specs.Tokens.{nextIs, nextName, blanks, skip, number, numberBehind, numbers, name, innerName}
 use Rattle.roster.specs.Bytes.{run}
 use Rattle.roster.specs.Labels.{word, padded}
 use Rattle.roster.specs.Roster.{upTo, same, position, begins, beginnings, nameAt, names, strayAt, longAt, manyAt, againAt, openAt, faultAt, least, firstFault, faulty}

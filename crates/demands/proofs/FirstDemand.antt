@@ -14,8 +14,8 @@ use Rattle.roster.specs.Roster.{names, faulty, firstFault, upTo}
 use Rattle.roster.specs.Judged.{Judged, judgedBy, speciesMost}
 use Rattle.roster.specs.Verdict.{Test, Verdict, verdict, lengthTest, replyOf}
 use Rattle.roster.specs.declared.Reply.{Reply}
-use Rattle.reader.specs.Answers.{Answer}
-use Rattle.reader.specs.Answers.Answer.{parsed, refused}
+use Rattle.tokens.specs.Answers.{Answer}
+use Rattle.tokens.specs.Answers.Answer.{parsed, refused}
 use Rattle.reader.specs.Promise.{readingOf, answerTo, Reads}
 use Rattle.reader.specs.declared.Reading.{Reading}
 use Rattle.writer.specs.Writing.{written}

@@ -15,9 +15,9 @@ use Rattle.trees.specs.Records.{recordOf}
 use Rattle.roster.specs.Bytes.{isBlank, run}
 use Rattle.roster.specs.Roster.{names}
 use Rattle.roster.proofs.Runs.{run-within}
-use Rattle.reader.specs.Answers.{Answer}
-use Rattle.reader.specs.Answers.Answer.{parsed, refused}
-use Rattle.reader.specs.Tokens.{blanks, skip}
+use Rattle.tokens.specs.Answers.{Answer}
+use Rattle.tokens.specs.Answers.Answer.{parsed, refused}
+use Rattle.tokens.specs.Tokens.{blanks, skip}
 use Rattle.reader.specs.Grammar.{Rules, Blanks, Text}
 use Rattle.reader.specs.Grammar.Blanks.{none, blank}
 use Rattle.reader.specs.Grammar.Node.{a-leaf, an-inner}

@@ -10,7 +10,7 @@ use lib.Dec.{leb}
 use Rattle.clusters.specs.Sets.{whole}
 use Rattle.roster.specs.Roster.{names, faulty}
 use Rattle.roster.specs.Judged.{speciesMost}
-use Rattle.reader.specs.Answers.Answer.{refused}
+use Rattle.tokens.specs.Answers.Answer.{refused}
 use Rattle.reader.specs.Reading.{readTree}
 use Rattle.reader.specs.Promise.{textMost, fromStart, inLimit, onRoster, answerTo}
 use Rattle.reader.specs.Meaning.{reach}

@@ -17,9 +17,9 @@ use Rattle.roster.specs.Roster.{upTo, same, position, begins, beginnings, nameA
 use Rattle.roster.specs.Judged.{Judged}
 use Rattle.roster.specs.Verdict.{verdict, lengthTest}
 use Rattle.roster.specs.declared.Reply.{Reply}
+use Rattle.tokens.specs.Tokens.{nextIs, nextName, blanks, skip, number, numberBehind, numbers, name, innerName}
 use Rattle.reader.specs.Promise.{answerTo, Reads}
 use Rattle.reader.specs.Reading.{leafAt, closing, readTreeTo, readTree, readNode}
-use Rattle.reader.specs.Tokens.{nextIs, nextName, blanks, skip, number, numberBehind, numbers, name, innerName}
 use Rattle.reader.specs.declared.Reading.{Reading}
 use Rattle.writer.specs.Writing.{treeText, written, nodeText}
 use Rattle.writer.specs.Promise.{rosterTest, recordTest, writeTests, Writes}

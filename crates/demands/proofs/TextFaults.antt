@@ -10,7 +10,7 @@ use borrow.Author.Tests.{leb-true, leb-false}
 use Rattle.clusters.specs.Sets.{whole}
 use Rattle.roster.specs.Roster.{names, faulty, firstFault}
 use Rattle.roster.specs.Judged.{speciesMost}
-use Rattle.reader.specs.Answers.Answer.{refused}
+use Rattle.tokens.specs.Answers.Answer.{refused}
 use Rattle.reader.specs.Promise.{textMost, fromStart, inLimit, onRoster, answerTo}
 use Rattle.reader.proofs.Meaning.{refusal-means, refusal-numbers}
 use Rattle.demands.specs.TextFaults.{TextFault}

@@ -15,7 +15,7 @@ use Rattle.trees.specs.Tree.{Tree, On, leaves, cluster}
 use Rattle.trees.proofs.Nodes.{has-leaf}
 use Rattle.roster.specs.Roster.{names, faulty}
 use Rattle.roster.specs.Judged.{speciesMost}
-use Rattle.reader.specs.Answers.Answer.{parsed}
+use Rattle.tokens.specs.Answers.Answer.{parsed}
 use Rattle.reader.specs.Reading.{openMost}
 use Rattle.reader.specs.Grammar.{strict, Text}
 use Rattle.reader.specs.Accepted.{Draws, JustBehind, Accepted}

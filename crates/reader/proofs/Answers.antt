@@ -4,8 +4,8 @@ use mathlib.Core.Path.{_≡_, refl}
 use mathlib.Core.Logic.{_⊎_, inl, inr}
 use mathlib.Core.List.{List, [], _∷_}
 use native.Mathlib.Omega.{arith}
-use Rattle.reader.specs.Answers.{Answer, andThen, unexpected}
-use Rattle.reader.specs.Answers.Answer.{parsed, refused}
+use Rattle.tokens.specs.Answers.{Answer, andThen, unexpected}
+use Rattle.tokens.specs.Answers.Answer.{parsed, refused}
 
 -- a refusal is no reading
 pub refused-parsed : {A : Type 0} {n q p : ℕ} {x : A} {s : List ℕ} → refused n q ≡ parsed x s p → ⊥

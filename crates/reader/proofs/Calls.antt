@@ -13,7 +13,7 @@ use Rattle.roster.specs.Judged.{speciesMost, rosterOf}
 use Rattle.roster.specs.declared.Roster.{Roster}
 use Rattle.roster.proofs.Judging.{read-good, read-faulty}
 use Rattle.roster.proofs.Names.{word-fits, table-tells}
-use Rattle.reader.specs.Answers.Answer.{refused}
+use Rattle.tokens.specs.Answers.Answer.{refused}
 use Rattle.reader.specs.Reading.{openMost, readTree, readTreeTo}
 use Rattle.reader.specs.Core.{Holds, treeAnswer, ReadsRecord}
 use Rattle.reader.specs.Promise.{textMost, readingOf, answerTo, Reads}

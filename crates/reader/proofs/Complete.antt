@@ -18,9 +18,9 @@ use Rattle.trees.proofs.Nodes.{children-apart}
 use Rattle.roster.specs.Bytes.{isName}
 use Rattle.roster.specs.Labels.{labelBytes}
 use Rattle.roster.specs.Roster.{position}
-use Rattle.reader.specs.Answers.{andThen}
-use Rattle.reader.specs.Answers.Answer.{parsed}
-use Rattle.reader.specs.Tokens.{nextIs, nextName, blanks, skip, numbers, name, innerName}
+use Rattle.tokens.specs.Answers.{andThen}
+use Rattle.tokens.specs.Answers.Answer.{parsed}
+use Rattle.tokens.specs.Tokens.{nextIs, nextName, blanks, skip, numbers, name, innerName}
 use Rattle.reader.specs.Reading.{openMost, leafKnown, leafAt, closing, afterFirst, afterChild, readNode, readForest, ended, readTreeTo, readTree}
 use Rattle.reader.specs.Grammar.{strict, Blanks, Run, Numbers, Inner, Node, Text}
 use Rattle.reader.specs.Grammar.Blanks.{none, blank}

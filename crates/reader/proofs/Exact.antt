@@ -11,9 +11,9 @@ use borrow.Author.Tests.{eqb-true, eq-eqb, le-leb}
 use Rattle.trees.specs.Tree.{Behind}
 use Rattle.roster.specs.Bytes.{isDigit, isName, isBlank, run}
 use Rattle.roster.specs.Labels.{labelBytes, word}
-use Rattle.reader.specs.Answers.{Answer, andThen}
-use Rattle.reader.specs.Answers.Answer.{parsed}
-use Rattle.reader.specs.Tokens.{numberBytes, nextIs, nextName, blanks, skip, numeral, pointed, digits, number, numberBehind, secondNumber, numbersBy, numbers, name, innerName}
+use Rattle.tokens.specs.Answers.{Answer, andThen}
+use Rattle.tokens.specs.Answers.Answer.{parsed}
+use Rattle.tokens.specs.Tokens.{numberBytes, nextIs, nextName, blanks, skip, numeral, pointed, digits, number, numberBehind, secondNumber, numbersBy, numbers, name, innerName}
 use Rattle.reader.specs.Grammar.{Rules, strict, Blanks, Run, Number, ColonNumber, Numbers, Inner}
 use Rattle.reader.specs.Grammar.Blanks.{none, blank}
 use Rattle.reader.specs.Grammar.Run.{one, next}

@@ -8,9 +8,9 @@ use lib.ListN.{length}
 use Rattle.clusters.specs.Sets.{union}
 use Rattle.trees.specs.Tree.{Tree, Forest, cluster}
 use Rattle.trees.specs.Tree.Forest.{more}
-use Rattle.reader.specs.Answers.{Answer, andThen}
-use Rattle.reader.specs.Answers.Answer.{parsed, refused}
-use Rattle.reader.specs.Tokens.{nextIs, nextName, blanks, skip}
+use Rattle.tokens.specs.Answers.{Answer, andThen}
+use Rattle.tokens.specs.Answers.Answer.{parsed, refused}
+use Rattle.tokens.specs.Tokens.{nextIs, nextName, blanks, skip}
 use Rattle.reader.specs.Reading.{openMost, closing, afterFirst, opened, nodeBy, afterChild, readNode, readForest, ended, readTreeTo, readTree}
 use Rattle.reader.proofs.Rests.{Reader, AllAdvance, moves-length, advances-shorter, skip-moves, nextIs-tail, readNode-advances}
 

@@ -16,9 +16,9 @@ use Rattle.trees.specs.Tree.{Tree, Forest, cluster, clusterOf, clusters, cluste
 use Rattle.trees.specs.Tree.Tree.{leaf, node}
 use Rattle.trees.specs.Tree.Forest.{last, more}
 use Rattle.roster.specs.Roster.{position}
-use Rattle.reader.specs.Answers.{Answer, andThen}
-use Rattle.reader.specs.Answers.Answer.{parsed}
-use Rattle.reader.specs.Tokens.{nextIs, nextName, blanks, skip, numbers, name, innerName}
+use Rattle.tokens.specs.Answers.{Answer, andThen}
+use Rattle.tokens.specs.Answers.Answer.{parsed}
+use Rattle.tokens.specs.Tokens.{nextIs, nextName, blanks, skip, numbers, name, innerName}
 use Rattle.reader.specs.Reading.{leafNew, leafKnown, leafAt, closing, afterFirst, opened, nodeBy, afterChild, readNode, readForest}
 use Rattle.reader.proofs.Answers.{refused-parsed, andThen-parsed, unexpected-parsed}
 

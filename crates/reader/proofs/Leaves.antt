@@ -18,17 +18,18 @@ use Rattle.roster.specs.Roster.{position}
 use Rattle.roster.specs.Table.{slots}
 use Rattle.roster.specs.declared.label.Scanned.{Scanned}
 use Rattle.roster.specs.declared.label.Label.the-variants.{Ended, TooLong}
-use Rattle.reader.specs.Answers.{Answer, andThen}
-use Rattle.reader.specs.Answers.Answer.{parsed, refused}
-use Rattle.reader.specs.Tokens.{name, numbers}
+use Rattle.tokens.specs.Answers.{Answer, andThen}
+use Rattle.tokens.specs.Answers.Answer.{parsed, refused}
+use Rattle.tokens.specs.Tokens.{name, numbers}
+use Rattle.tokens.specs.Says.{refusal, nameSays, nameFault, behindSays}
+use Rattle.tokens.specs.declared.answer.Refusal.{Refusal}
+use Rattle.tokens.specs.declared.answer.BehindRead.{BehindRead}
 use Rattle.reader.specs.Reading.{leafKnown, leafAt}
-use Rattle.reader.specs.Core.{refusal, nameSays, nameFault, behindSays, endedAs, keptAs, Holds, Given, NodeReads}
-use Rattle.reader.specs.declared.answer.Refusal.{Refusal}
-use Rattle.reader.specs.declared.answer.BehindRead.{BehindRead}
+use Rattle.reader.specs.Core.{endedAs, keptAs, Holds, Given, NodeReads}
 use Rattle.reader.specs.declared.answer.NodeRead.{NodeRead}
+use Rattle.tokens.proofs.Pieces.{name-refused, name-read}
+use Rattle.tokens.proofs.BehindNodes.{scanned-name}
 use Rattle.reader.proofs.NodeAnswers.{node-ended}
-use Rattle.reader.proofs.Pieces.{name-refused, name-read}
-use Rattle.reader.proofs.BehindNodes.{scanned-name}
 
 -- a label that ends is short enough, and its bytes are the name
 pub record Short (text : List ℕ) (at : ℕ) (name : List ℕ) : Type 0 where

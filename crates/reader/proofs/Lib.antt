@@ -1,6 +1,5 @@
 pub mod Accepts
 pub mod Answers
-pub mod BehindNodes
 pub mod Calls
 pub mod Complete
 pub mod Derivations
@@ -19,9 +18,6 @@ pub mod MeaningSteps
 pub mod NodeAnswers
 pub mod NodeSteps
 pub mod NodeWays
-pub mod Numerals
-pub mod Pieces
-pub mod Places
 pub mod Rests
 pub mod Sound
 pub mod TreeWays

@@ -17,9 +17,9 @@ use Rattle.trees.specs.Tree.Forest.{last, more}
 use Rattle.roster.specs.Bytes.{isDigit, isName, isBlank, oneMore, run}
 use Rattle.roster.specs.Labels.{word}
 use Rattle.roster.specs.Roster.{position}
-use Rattle.reader.specs.Answers.{Answer, andThen, unexpected}
-use Rattle.reader.specs.Answers.Answer.{parsed, refused}
-use Rattle.reader.specs.Tokens.{nextIs, nextName, blanks, skip, numeral, pointed, fraction, digits, number, numberBehind, secondNumber, firstNumber, numbersBy, numbers, name, innerNameBy, innerName}
+use Rattle.tokens.specs.Answers.{Answer, andThen, unexpected}
+use Rattle.tokens.specs.Answers.Answer.{parsed, refused}
+use Rattle.tokens.specs.Tokens.{nextIs, nextName, blanks, skip, numeral, pointed, fraction, digits, number, numberBehind, secondNumber, firstNumber, numbersBy, numbers, name, innerNameBy, innerName}
 use Rattle.reader.specs.Reading.{openMost, leafNew, leafKnown, leafAt, closing, afterFirst, opened, nodeBy, afterChild, readNode, readForest, complete, ended, readTreeTo, readTree}
 use Rattle.reader.specs.Meaning.{judgedAtEnd, extra, reach}
 use Rattle.reader.proofs.Answers.{refused-parsed}

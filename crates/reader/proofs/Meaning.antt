@@ -19,9 +19,9 @@ use Rattle.roster.specs.Bytes.{isDigit, isName, oneMore, run}
 use Rattle.roster.specs.Labels.{labelBytes, word}
 use Rattle.roster.specs.Roster.{position}
 use Rattle.roster.proofs.Positions.{position-within}
-use Rattle.reader.specs.Answers.{Answer, andThen, unexpected}
-use Rattle.reader.specs.Answers.Answer.{parsed, refused}
-use Rattle.reader.specs.Tokens.{nextIs, nextName, blanks, skip, pointed, fraction, digits, number, numberBehind, secondNumber, firstNumber, numbersBy, numbers, shortName, name, innerNameBy, innerName}
+use Rattle.tokens.specs.Answers.{Answer, andThen, unexpected}
+use Rattle.tokens.specs.Answers.Answer.{parsed, refused}
+use Rattle.tokens.specs.Tokens.{nextIs, nextName, blanks, skip, pointed, fraction, digits, number, numberBehind, secondNumber, firstNumber, numbersBy, numbers, shortName, name, innerNameBy, innerName}
 use Rattle.reader.specs.Reading.{openMost, leafNew, leafKnown, leafAt, closing, afterFirst, opened, nodeBy, afterChild, readNode, readForest, complete, ended, readTreeTo, readTree}
 use Rattle.reader.specs.Grammar.{strict, lifted, Blanks, Run, Number, ColonNumber, Numbers, Inner, Node, Children, Text}
 use Rattle.reader.specs.Grammar.Blanks.{none}

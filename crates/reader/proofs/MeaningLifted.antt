@@ -14,9 +14,9 @@ use Rattle.trees.specs.Tree.Tree.{leaf, node}
 use Rattle.trees.specs.Tree.Forest.{last, more}
 use Rattle.roster.specs.Bytes.{isDigit, isName, run}
 use Rattle.roster.specs.Roster.{position}
-use Rattle.reader.specs.Answers.{Answer, andThen}
-use Rattle.reader.specs.Answers.Answer.{parsed, refused}
-use Rattle.reader.specs.Tokens.{numberBytes, nextIs, nextName, blanks, skip, number, numberBehind, secondNumber, numbersBy, numbers, name, innerName}
+use Rattle.tokens.specs.Answers.{Answer, andThen}
+use Rattle.tokens.specs.Answers.Answer.{parsed, refused}
+use Rattle.tokens.specs.Tokens.{numberBytes, nextIs, nextName, blanks, skip, number, numberBehind, secondNumber, numbersBy, numbers, name, innerName}
 use Rattle.reader.specs.Reading.{openMost, leafNew, leafKnown, leafAt, closing, afterFirst, opened, afterChild, readNode, readForest, complete, ended, readTreeTo, readTree}
 use Rattle.reader.specs.Grammar.{lifted, Blanks, Run, Number, ColonNumber, Numbers, Inner, Node, Text}
 use Rattle.reader.specs.Grammar.Run.{one, next}

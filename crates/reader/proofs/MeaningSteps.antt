@@ -18,9 +18,9 @@ use Rattle.roster.specs.Bytes.{isDigit, isName, oneMore, run}
 use Rattle.roster.specs.Labels.{labelBytes, word}
 use Rattle.roster.specs.Roster.{same, position, countOn}
 use Rattle.roster.proofs.Positions.{same-is}
-use Rattle.reader.specs.Answers.{Answer}
-use Rattle.reader.specs.Answers.Answer.{parsed, refused}
-use Rattle.reader.specs.Tokens.{numberBytes, nextIs, nextName, blanks, skip, limited, numeral, number, numberBehind, shortName, name, innerName}
+use Rattle.tokens.specs.Answers.{Answer}
+use Rattle.tokens.specs.Answers.Answer.{parsed, refused}
+use Rattle.tokens.specs.Tokens.{numberBytes, nextIs, nextName, blanks, skip, limited, numeral, number, numberBehind, shortName, name, innerName}
 use Rattle.reader.specs.Reading.{readNode, readForest}
 use Rattle.reader.specs.Grammar.{Rules, strict, lifted, Blanks, Run, Number, ColonNumber, Numbers, Inner}
 use Rattle.reader.specs.Grammar.Blanks.{none}

@@ -7,13 +7,14 @@ use lib.ListN.{length, drop, set, length-append}
 use lib.Seq.{sets}
 use Rattle.clusters.specs.Sets.{union}
 use Rattle.trees.specs.Tree.{Tree, Forest, Behind, cluster, clusterOf, clusters, clustersOf}
-use Rattle.reader.specs.Answers.{Answer, andThen}
-use Rattle.reader.specs.Answers.Answer.{parsed, refused}
-use Rattle.reader.specs.Core.{refusal, between, Met, treeMet, forestMet, nodeSays, behindSays, endedAs, keptAs, NodeReads, ListReads}
-use Rattle.reader.specs.declared.answer.Refusal.{Refusal}
+use Rattle.tokens.specs.Answers.{Answer, andThen}
+use Rattle.tokens.specs.Answers.Answer.{parsed, refused}
+use Rattle.tokens.specs.Says.{refusal, between, behindSays}
+use Rattle.tokens.specs.declared.answer.Refusal.{Refusal}
+use Rattle.tokens.specs.declared.answer.BehindRead.{BehindRead}
+use Rattle.tokens.specs.declared.answer.BehindRead.the-variants.{Behind as Extended, Refused as NotExtended}
+use Rattle.reader.specs.Core.{Met, treeMet, forestMet, nodeSays, endedAs, keptAs, NodeReads, ListReads}
 use Rattle.reader.specs.declared.answer.Cursor.{Cursor}
-use Rattle.reader.specs.declared.answer.BehindRead.{BehindRead}
-use Rattle.reader.specs.declared.answer.BehindRead.the-variants.{Behind as Extended, Refused as NotExtended}
 use Rattle.reader.specs.declared.answer.NodeRead.{NodeRead}
 use Rattle.reader.specs.declared.answer.NodeRead.the-variants.{Node, Refused as NoNode}
 use Rattle.reader.proofs.Answers.{refused-parsed, andThen-parsed, Reached}

@@ -7,12 +7,13 @@ use lib.ListN.{drop}
 use Rattle.clusters.specs.Sets.{union, within}
 use Rattle.trees.specs.Tree.{Tree, Forest, cluster}
 use Rattle.trees.specs.Tree.Forest.{last, more}
-use Rattle.reader.specs.Answers.{Answer, andThen}
-use Rattle.reader.specs.Answers.Answer.{parsed, refused}
-use Rattle.reader.specs.Tokens.{nextIs, nextName, blanks, skip}
+use Rattle.tokens.specs.Answers.{Answer, andThen}
+use Rattle.tokens.specs.Answers.Answer.{parsed, refused}
+use Rattle.tokens.specs.Tokens.{nextIs, nextName, blanks, skip}
+use Rattle.tokens.specs.Says.{refusal, strayAt}
 use Rattle.reader.specs.Reading.{leafAt, closing, afterFirst, afterChild, readNode, readForest, ended}
-use Rattle.reader.specs.Core.{refusal, strayAt, noCommaAt, noCommaBy}
-use Rattle.reader.proofs.Places.{skip-to, tail-at, stray-unexpected}
+use Rattle.reader.specs.Core.{noCommaAt, noCommaBy}
+use Rattle.tokens.proofs.Places.{skip-to, tail-at, stray-unexpected}
 
 -- the blanks from `at` on end at `here`
 module _ (text : List ℕ) (at here : ℕ) (skipped : here ≡ at + blanks (drop at text)) where

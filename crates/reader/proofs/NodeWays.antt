@@ -12,20 +12,21 @@ use Rattle.clusters.proofs.Sizes.{size-apart, size-le}
 use Rattle.trees.specs.Tree.{Forest, cluster, clusterOf, clusters, clustersOf}
 use Rattle.trees.specs.Tree.Tree.{node}
 use Rattle.trees.specs.Tree.Forest.{last, more}
-use Rattle.reader.specs.Answers.{Answer, andThen}
-use Rattle.reader.specs.Answers.Answer.{parsed, refused}
-use Rattle.reader.specs.Tokens.{nextIs, nextName, blanks, skip, numbers, innerName}
+use Rattle.tokens.specs.Answers.{Answer, andThen}
+use Rattle.tokens.specs.Answers.Answer.{parsed, refused}
+use Rattle.tokens.specs.Tokens.{nextIs, nextName, blanks, skip, numbers, innerName}
+use Rattle.tokens.specs.Says.{strayAt, behindSays, innerWord}
+use Rattle.tokens.specs.declared.answer.Refusal.{Refusal}
+use Rattle.tokens.specs.declared.answer.BehindRead.{BehindRead}
 use Rattle.reader.specs.Reading.{leafAt, closing, afterFirst, afterChild, readNode, readForest}
-use Rattle.reader.specs.Core.{strayAt, noCommaAt, behindSays, innerWord, endedAs, keptAs, Holds, Given, NodeReads, ListReads, ReadsLeaf, ReadsNode, ReadsList}
-use Rattle.reader.specs.declared.answer.Refusal.{Refusal}
+use Rattle.reader.specs.Core.{noCommaAt, endedAs, keptAs, Holds, Given, NodeReads, ListReads, ReadsLeaf, ReadsNode, ReadsList}
 use Rattle.reader.specs.declared.answer.Cursor.{Cursor}
-use Rattle.reader.specs.declared.answer.BehindRead.{BehindRead}
 use Rattle.reader.specs.declared.answer.NodeRead.{NodeRead}
 use Rattle.reader.specs.declared.answer.NodeRead.the-variants.{Node, Refused as NoNode}
+use Rattle.tokens.proofs.Places.{next-is-inside}
 use Rattle.reader.proofs.Growth.{Fresh, readNode-fresh, readForest-fresh}
 use Rattle.reader.proofs.NodeAnswers.{node-refused, list-refused, refused-node, refused-list, TreeRead, ForestRead, list-read, read-node, read-list, node-ended}
 use Rattle.reader.proofs.NodeSteps.{node-is-leaf, node-stray, node-full, node-opened, comma-follows, comma-missing, list-begins, list-goes-on, list-closes, list-stray}
-use Rattle.reader.proofs.Places.{next-is-inside}
 use Rattle.reader.proofs.Rests.{readNode-advances, readForest-advances}
 use Rattle.trees.proofs.Stores.{sets-append}
 

@@ -14,9 +14,9 @@ use Rattle.trees.specs.Tree.Forest.{more}
 use Rattle.roster.specs.Bytes.{isDigit, isName, isBlank, oneMore, run}
 use Rattle.roster.specs.Labels.{labelBytes}
 use Rattle.roster.specs.Roster.{position}
-use Rattle.reader.specs.Answers.{Answer, andThen, unexpected}
-use Rattle.reader.specs.Answers.Answer.{parsed}
-use Rattle.reader.specs.Tokens.{numberBytes, nextIs, nextName, blanks, skip, limited, numeral, pointed, fraction, digits, number, numberBehind, secondNumber, firstNumber, numbersBy, numbers, shortName, name, innerNameBy, innerName}
+use Rattle.tokens.specs.Answers.{Answer, andThen, unexpected}
+use Rattle.tokens.specs.Answers.Answer.{parsed}
+use Rattle.tokens.specs.Tokens.{numberBytes, nextIs, nextName, blanks, skip, limited, numeral, pointed, fraction, digits, number, numberBehind, secondNumber, firstNumber, numbersBy, numbers, shortName, name, innerNameBy, innerName}
 use Rattle.reader.specs.Reading.{openMost, leafNew, leafKnown, leafAt, closing, afterFirst, opened, nodeBy, afterChild, readNode, readForest, complete, ended, readTreeTo, readTree}
 use Rattle.reader.proofs.Answers.{refused-parsed, andThen-parsed, unexpected-parsed}
 use Rattle.roster.proofs.Runs.{run-within}

@@ -11,13 +11,14 @@ use Rattle.clusters.specs.Sets.{within}
 use Rattle.clusters.proofs.Sizes.{size-le}
 use Rattle.trees.specs.Tree.{Tree, cluster, clusters}
 use Rattle.trees.specs.Records.{recordOf}
-use Rattle.reader.specs.Answers.Answer.{parsed, refused}
-use Rattle.reader.specs.Tokens.{nextIs, blanks, skip}
+use Rattle.tokens.specs.Answers.Answer.{parsed, refused}
+use Rattle.tokens.specs.Tokens.{nextIs, blanks, skip}
+use Rattle.tokens.specs.Says.{strayAt}
+use Rattle.tokens.specs.declared.answer.Refusal.{Refusal}
 use Rattle.reader.specs.Reading.{readNode, complete, ended}
-use Rattle.reader.specs.Core.{strayAt, nodeFault, Holds, Given, NodeReads, treeAnswer, ReadsTree}
+use Rattle.reader.specs.Core.{nodeFault, Holds, Given, NodeReads, treeAnswer, ReadsTree}
 use Rattle.reader.specs.Promise.{readingOf}
 use Rattle.reader.specs.declared.Reading.{Reading}
-use Rattle.reader.specs.declared.answer.Refusal.{Refusal}
 use Rattle.reader.specs.declared.answer.Cursor.{Cursor}
 use Rattle.reader.specs.declared.answer.NodeRead.{NodeRead}
 use Rattle.reader.specs.declared.answer.NodeRead.the-variants.{Node, Refused as NoNode}

@@ -12,7 +12,7 @@ use Rattle.trees.specs.Tree.Forest.{last, more}
 use Rattle.roster.specs.Bytes.{isName, isBlank}
 use Rattle.roster.specs.Labels.{labelBytes}
 use Rattle.roster.specs.Roster.{position}
-use Rattle.reader.specs.Tokens.{nextName, skip, numbers, name, innerName}
+use Rattle.tokens.specs.Tokens.{nextName, skip, numbers, name, innerName}
 use Rattle.reader.specs.Grammar.{strict, Blanks, Run, Numbers, Inner, Node, Children, Text}
 use Rattle.reader.specs.Grammar.Text.{text}
 use Rattle.reader.proofs.Derivations.{Steps, over-node, LeafForm, InnerForm, LastForm, MoreForm, node-form, children-form}

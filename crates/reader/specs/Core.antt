@@ -2,45 +2,28 @@
 use Prim.Native.Nat.{ℕ, _+_, _-_, _*_, _^_, _≤_, _<_}
 use mathlib.Core.Path.{_≡_}
 use mathlib.Core.Bool.{Bool, true, false}
-use mathlib.Core.List.{List, [], _∷_}
-use lib.ListN.{length, take, drop, set}
+use mathlib.Core.List.{List}
+use lib.ListN.{length, drop, set}
 use lib.Seq.{sets}
 use Rattle.clusters.specs.Sets.{whole, union, size}
-use Rattle.trees.specs.Tree.{Tree, Forest, Behind, cluster, clusterOf, clusters, clustersOf}
+use Rattle.trees.specs.Tree.{Tree, Forest, cluster, clusterOf, clusters, clustersOf}
 use Rattle.roster.specs.Bytes.{isName, run}
 use Rattle.roster.specs.Labels.{labelBytes, word, padded}
 use Rattle.roster.specs.Roster.{position}
 use Rattle.roster.specs.Table.{slots}
-use Rattle.roster.specs.declared.label.Label.{Label}
-use Rattle.roster.specs.declared.label.Label.the-variants.{Ended, TooLong}
-use Rattle.reader.specs.Answers.{Answer, andThen}
-use Rattle.reader.specs.Answers.Answer.{parsed, refused}
-use Rattle.reader.specs.Tokens.{nextIs, nextName, blanks, skip}
+use Rattle.tokens.specs.Answers.{Answer, andThen}
+use Rattle.tokens.specs.Answers.Answer.{parsed}
+use Rattle.tokens.specs.Tokens.{nextIs, blanks, skip}
+use Rattle.tokens.specs.Says.{refusal, noFault, strayAt}
+use Rattle.tokens.specs.declared.answer.Refusal.{Refusal}
+use Rattle.tokens.specs.declared.answer.BehindRead.{BehindRead}
+use Rattle.tokens.specs.declared.answer.BehindRead.the-variants.{Behind as Extended, Refused as NotExtended}
 use Rattle.reader.specs.Reading.{leafAt, readNode, readForest, ended}
 use Rattle.reader.specs.Promise.{readingOf}
 use Rattle.reader.specs.declared.Reading.{Reading}
-use Rattle.reader.specs.declared.answer.Refusal.{Refusal}
-use Rattle.reader.specs.declared.answer.Extent.{Extent}
 use Rattle.reader.specs.declared.answer.Cursor.{Cursor}
-use Rattle.reader.specs.declared.answer.NumberRead.{NumberRead}
-use Rattle.reader.specs.declared.answer.NumberRead.the-variants.{Number, Refused as NoNumber}
-use Rattle.reader.specs.declared.answer.BehindRead.{BehindRead}
-use Rattle.reader.specs.declared.answer.BehindRead.the-variants.{Behind as Extended, Refused as NotExtended}
 use Rattle.reader.specs.declared.answer.NodeRead.{NodeRead}
 use Rattle.reader.specs.declared.answer.NodeRead.the-variants.{Node, Refused as NoNode}
-
--- a fault's number and place, as an answer
-abbrev pub refusal : {A : Type 0} → Refusal → Answer A
-refusal e = refused (e .number) (e .place)
-
--- where there is no fault
-abbrev pub noFault : Refusal
-noFault = record { number = 0; place = 0 }
-
--- "10 | text ends first" or "3 | byte not allowed here"
-abbrev pub strayAt : List ℕ → ℕ → Refusal
-strayAt [] p = record { number = 10; place = p }
-strayAt (b ∷ s) p = record { number = 3; place = p }
 
 -- "7 | `)` closes a single child", or nothing that may stand here does
 abbrev pub noCommaBy : Bool → List ℕ → ℕ → Refusal
@@ -50,50 +33,6 @@ noCommaBy false s p = strayAt s p
 -- no comma behind a first child: 7 at a closing parenthesis, else 3 or 10
 unfoldable pub noCommaAt : List ℕ → ℕ → Refusal
 noCommaAt s p = noCommaBy (nextIs 41 s) s p
-
--- the bytes of a text from one place up to another
-abbrev pub between : List ℕ → Extent → List ℕ
-between text e = take (e .to - e .from) (drop (e .from) text)
-
--- a number was read, or a fault was met
-abbrev pub numberSays : List ℕ → NumberRead → Answer (List ℕ)
-numberSays text (Number e) = parsed (between text e) (drop (e .to) text) (e .to)
-numberSays text (NoNumber e) = refusal e
-
--- the refusal of a number
-abbrev pub numberFault : NumberRead → Refusal
-numberFault (Number e) = noFault
-numberFault (NoNumber e) = e
-
--- the numbers behind a node were read, or a fault was met; w is the node's name
-abbrev pub behindSays : List ℕ → List ℕ → BehindRead → Answer Behind
-behindSays text w (Extended e) =
-    parsed (record { name = w; distance = between text (e .distance); support = between text (e .support) }) (drop (e .next) text) (e .next)
-behindSays text w (NotExtended e) = refusal e
-
--- the refusal of what stands behind a node
-abbrev pub behindFault : BehindRead → Refusal
-behindFault (Extended e) = noFault
-behindFault (NotExtended e) = e
-
--- the name w was read, or "4 | sixteenth byte of a name"
-abbrev pub nameSays : List ℕ → List ℕ → Label → Answer (List ℕ)
-nameSays text w (Ended next) = parsed w (drop next text) next
-nameSays text w (TooLong place) = refused 4 place
-
--- the refusal of a name
-abbrev pub nameFault : Label → Refusal
-nameFault (Ended next) = noFault
-nameFault (TooLong place) = record { number = 4; place = place }
-
--- the name behind a closing parenthesis, empty where none stands there
-abbrev pub innerWordBy : Bool → List ℕ → List ℕ
-innerWordBy false s = []
-innerWordBy true s = word (skip s)
-
--- the inner name that stands at the front, if any
-unfoldable pub innerWord : List ℕ → List ℕ
-innerWord s = innerWordBy (nextName (skip s)) s
 
 -- what is kept of a node, or of a list of nodes: the set of its leaves, the species met by then, and how many clusters were met by then
 pub record Met : Type 0 where

@@ -10,7 +10,7 @@ use Rattle.trees.specs.Tree.Forest.{last, more}
 use Rattle.roster.specs.Bytes.{isDigit, isName, isBlank}
 use Rattle.roster.specs.Labels.{labelBytes}
 use Rattle.roster.specs.Roster.{position}
-use Rattle.reader.specs.Tokens.{numberBytes}
+use Rattle.tokens.specs.Tokens.{numberBytes}
 
 -- which names and numbers a grammar takes: the roster and the limits
 pub record Rules : Type 1 where

@@ -1,5 +1,3 @@
-pub mod Answers
-pub mod Tokens
 pub mod Reading
 pub mod Grammar
 pub mod Promise

@@ -10,7 +10,7 @@ use Rattle.trees.specs.Tree.{Tree, cluster}
 use Rattle.roster.specs.Bytes.{isName, run}
 use Rattle.roster.specs.Labels.{labelBytes, word}
 use Rattle.roster.specs.Roster.{position}
-use Rattle.reader.specs.Tokens.{numberBytes}
+use Rattle.tokens.specs.Tokens.{numberBytes}
 use Rattle.reader.specs.Reading.{openMost}
 use Rattle.reader.specs.Grammar.{strict, lifted, Blanks, Run, Number, Node, Text}
 

@@ -10,8 +10,8 @@ use Rattle.trees.specs.Tree.{Tree, clusters}
 use Rattle.trees.specs.Records.{recordOf}
 use Rattle.roster.specs.Roster.{names, faulty, firstFault}
 use Rattle.roster.specs.Judged.{speciesMost}
-use Rattle.reader.specs.Answers.{Answer}
-use Rattle.reader.specs.Answers.Answer.{parsed, refused}
+use Rattle.tokens.specs.Answers.{Answer}
+use Rattle.tokens.specs.Answers.Answer.{parsed, refused}
 use Rattle.reader.specs.Reading.{readTree}
 use Rattle.reader.specs.declared.Reading.{Reading}
 

@@ -9,9 +9,9 @@ use Rattle.trees.specs.Tree.{Tree, Forest, cluster}
 use Rattle.trees.specs.Tree.Tree.{leaf, node}
 use Rattle.trees.specs.Tree.Forest.{last, more}
 use Rattle.roster.specs.Roster.{position}
-use Rattle.reader.specs.Answers.{Answer, andThen, unexpected}
-use Rattle.reader.specs.Answers.Answer.{parsed, refused}
-use Rattle.reader.specs.Tokens.{nextIs, nextName, blanks, skip, numbers, name, innerName}
+use Rattle.tokens.specs.Answers.{Answer, andThen, unexpected}
+use Rattle.tokens.specs.Answers.Answer.{parsed, refused}
+use Rattle.tokens.specs.Tokens.{nextIs, nextName, blanks, skip, numbers, name, innerName}
 
 -- "open parentheses at once | 15"
 abbrev pub openMost : ℕ

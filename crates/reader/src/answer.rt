@@ -1,36 +1,7 @@
-// What the pieces of reading answer: a value with the place behind it, or a refusal.
+// What reading a node answers: the set of its leaves with the place behind it, or a refusal.
 ghost use mathlib.Core.Path.{_≡_};
-ghost use Rattle.reader.specs.Core.{numberFault, behindFault, nodeFault, nameFault};
-use roster::Label;
-
-// A fault: its number, and its place in the text.
-pub struct Refusal {
-    pub number: u32,
-    pub place: usize,
-}
-
-// The bytes from `from` up to `to`; none where the two are equal.
-pub struct Extent {
-    pub from: usize,
-    pub to: usize,
-}
-
-pub enum NumberRead {
-    Number(Extent),
-    Refused(Refusal),
-}
-
-// Where the two numbers behind a node stand, with no bytes where one is not written, and the place behind them.
-pub struct Extents {
-    pub distance: Extent,
-    pub support: Extent,
-    pub next: usize,
-}
-
-pub enum BehindRead {
-    Behind(Extents),
-    Refused(Refusal),
-}
+ghost use Rattle.reader.specs.Core.{nodeFault};
+use tokens::Refusal;
 
 // Where reading is: the place, the species met so far, and how many clusters are stored.
 pub struct Cursor {
@@ -56,53 +27,13 @@ pub fn moved(c: Cursor, at: usize) -> Cursor
     }
 }
 
-// The refusals of each answer; a number and a place of 0 where there is none.
-pub fn number_refusal(read: NumberRead) -> Refusal
-    ensures { λ r. ⌜ r ≡ numberFault read ⌝ }
-{
-    match read {
-        NumberRead::Refused(refusal) => refusal,
-        NumberRead::Number(_) => Refusal {
-            number: 0,
-            place: 0,
-        },
-    }
-}
-
-pub fn behind_refusal(read: BehindRead) -> Refusal
-    ensures { λ r. ⌜ r ≡ behindFault read ⌝ }
-{
-    match read {
-        BehindRead::Refused(refusal) => refusal,
-        BehindRead::Behind(_) => Refusal {
-            number: 0,
-            place: 0,
-        },
-    }
-}
-
+// The refusal of a node; a number and a place of 0 where there is none.
 pub fn node_refusal(read: NodeRead) -> Refusal
     ensures { λ r. ⌜ r ≡ nodeFault read ⌝ }
 {
     match read {
         NodeRead::Refused(refusal) => refusal,
         NodeRead::Node { mask: _, next: _ } => Refusal {
-            number: 0,
-            place: 0,
-        },
-    }
-}
-
-// A name that is too long is refused at its sixteenth byte.
-pub fn label_refusal(label: Label) -> Refusal
-    ensures { λ r. ⌜ r ≡ nameFault label ⌝ }
-{
-    match label {
-        Label::TooLong { place } => Refusal {
-            number: 4,
-            place: place,
-        },
-        Label::Ended { next: _ } => Refusal {
             number: 0,
             place: 0,
         },

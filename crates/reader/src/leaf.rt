@@ -3,19 +3,19 @@ ghost use mathlib.Core.Path.{_≡_};
 ghost use Prim.Native.Nat.{_<_};
 ghost use lib.ListN.{length};
 ghost use Rattle.reader.specs.Core.{endedAs, keptAs, Given, ReadsLeaf};
-use crate::answer::BehindRead;
 use crate::answer::Cursor;
 use crate::answer::NodeRead;
-use crate::answer::Refusal;
-use crate::answer::behind_refusal;
-use crate::answer::label_refusal;
-use crate::behind::behind;
 use clusters::apart;
 use clusters::single;
 use clusters::union;
 use roster::Label;
 use roster::scan;
 use roster::species;
+use tokens::BehindRead;
+use tokens::Refusal;
+use tokens::behind::behind;
+use tokens::behind_refusal;
+use tokens::label_refusal;
 
 // A node with this set of leaves ends behind what was read: its cluster is stored.
 pub fn ended(read: BehindRead, mask: u32, seen: u32, stored: usize, found: &mut [u32]) -> NodeRead

@@ -1,10 +1,7 @@
 // Tree text read to a record, with every refusal.
 mod answer;
-mod behind;
-mod cursor;
 mod leaf;
 mod node;
-mod number;
 mod tree;
 
 pub use tree::read;

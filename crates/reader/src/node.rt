@@ -4,16 +4,16 @@ ghost use lib.ListN.{drop};
 ghost use Rattle.reader.specs.Core.{Given, ReadsNode, ReadsList, noCommaAt};
 use crate::answer::Cursor;
 use crate::answer::NodeRead;
-use crate::answer::Refusal;
 use crate::answer::moved;
-use crate::behind::closing;
-use crate::cursor::blanks;
-use crate::cursor::next_is;
-use crate::cursor::next_name;
-use crate::cursor::stray;
 use crate::leaf::ended;
 use crate::leaf::leaf;
 use clusters::union;
+use tokens::Refusal;
+use tokens::behind::closing;
+use tokens::blanks;
+use tokens::next_is;
+use tokens::next_name;
+use tokens::stray;
 
 // No comma stands behind a first child: a parenthesis that closes here closes a single child.
 fn no_comma(text: &[u8], at: usize) -> Refusal
@@ -62,20 +62,11 @@ pub fn node(
         return NodeRead::Refused(no_comma(text, comma));
     }
     let others = list(text, table, count, moved(next, comma + 1), room - 1, found);
-    let NodeRead::Node {
-        mask: rest,
-        next: end,
-    } = others
-    else {
+    let NodeRead::Node { mask: rest, next } = others else {
         return others;
     };
-    ended(
-        closing(text, end.at),
-        union(mask, rest),
-        end.seen,
-        end.stored,
-        found,
-    )
+    let read = closing(text, next.at);
+    ended(read, union(mask, rest), next.seen, next.stored, found)
 }
 
 // The nodes from the cursor up to the closing parenthesis.
@@ -97,16 +88,12 @@ fn list(
     let at = blanks(text, next.at);
     if next_is(text, at, b',') {
         let others = list(text, table, count, moved(next, at + 1), room, found);
-        let NodeRead::Node {
-            mask: rest,
-            next: end,
-        } = others
-        else {
+        let NodeRead::Node { mask: rest, next } = others else {
             return others;
         };
         return NodeRead::Node {
             mask: union(mask, rest),
-            next: end,
+            next: next,
         };
     }
     if next_is(text, at, b')') {

@@ -3,22 +3,22 @@ ghost use mathlib.Core.Path.{_≡_};
 ghost use mathlib.Core.List.{List};
 ghost use Prim.Native.Nat.{ℕ, _*_, _≤_};
 ghost use lib.ListN.{length};
-ghost use Rattle.reader.specs.Answers.Answer.{refused as Answer·refused};
+ghost use Rattle.tokens.specs.Answers.Answer.{refused as Answer·refused};
 ghost use Rattle.reader.specs.Core.{Holds, Given, ReadsTree, ReadsRecord};
 ghost use Rattle.reader.specs.Promise.{readingOf, Reads};
 use crate::Reading;
 use crate::answer::Cursor;
 use crate::answer::NodeRead;
-use crate::answer::Refusal;
 use crate::answer::moved;
 use crate::answer::node_refusal;
-use crate::cursor::blanks;
-use crate::cursor::next_is;
-use crate::cursor::stray;
 use crate::node::node;
 use clusters::whole;
 use clusters::within;
 use roster::parse;
+use tokens::Refusal;
+use tokens::blanks;
+use tokens::next_is;
+use tokens::stray;
 use trees::record_of;
 
 // A tree: a node and `;`, with every species of `needed` in it.

@@ -8,7 +8,7 @@ use lib.ListN.{length, drop, length-append}
 use lib.Seq.{sets, length-sets}
 use lib.Dec.{leb}
 use borrow.Author.Tests.{le-leb, lt-leb, leb-false}
-use Rattle.reader.specs.Tokens.{blanks}
+use Rattle.tokens.specs.Tokens.{blanks}
 use Rattle.reader.specs.Promise.{answerTo, readingOf, Reads}
 use Rattle.reader.specs.declared.Reading.{Reading}
 use Rattle.lineages.specs.Count.{recordsIn}

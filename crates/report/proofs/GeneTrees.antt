@@ -17,9 +17,9 @@ use Rattle.trees.proofs.Bounds.{whole-below-sixteen}
 use Rattle.trees.proofs.Recorded.{valid-of-drawn}
 use Rattle.roster.specs.Roster.{names, faulty}
 use Rattle.roster.specs.Judged.{speciesMost}
-use Rattle.reader.specs.Answers.{Answer}
-use Rattle.reader.specs.Answers.Answer.{parsed, refused as refusedAt}
-use Rattle.reader.specs.Tokens.{blanks}
+use Rattle.tokens.specs.Answers.{Answer}
+use Rattle.tokens.specs.Answers.Answer.{parsed, refused as refusedAt}
+use Rattle.tokens.specs.Tokens.{blanks}
 use Rattle.reader.specs.Reading.{readTree}
 use Rattle.reader.specs.Meaning.{Means}
 use Rattle.reader.specs.Promise.{textMost, answerTo, readingOf}

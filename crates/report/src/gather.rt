@@ -3,7 +3,7 @@ ghost use mathlib.Core.Path.{_≡_};
 ghost use Prim.Native.Nat.{_+_, _*_, _≤_};
 ghost use lib.ListN.{length, drop};
 ghost use lib.Seq.{sets};
-ghost use Rattle.reader.specs.Tokens.{blanks};
+ghost use Rattle.tokens.specs.Tokens.{blanks};
 ghost use Rattle.report.specs.Input.{gather as Input·gather};
 ghost use Rattle.report.specs.Work.{gatheredIn};
 

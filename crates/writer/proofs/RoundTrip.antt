@@ -17,8 +17,8 @@ use Rattle.trees.proofs.Bounds.{whole-below-sixteen}
 use Rattle.roster.specs.Roster.{names, faulty}
 use Rattle.roster.specs.Judged.{speciesMost}
 use Rattle.roster.specs.declared.Reply.{Reply}
-use Rattle.reader.specs.Answers.{Answer}
-use Rattle.reader.specs.Answers.Answer.{parsed, refused}
+use Rattle.tokens.specs.Answers.{Answer}
+use Rattle.tokens.specs.Answers.Answer.{parsed, refused}
 use Rattle.reader.specs.Promise.{textMost, readingOf, fromStart, inLimit, onRoster, answerTo, Reads}
 use Rattle.reader.specs.declared.Reading.{Reading}
 use Rattle.reader.specs.Accepted.{Draws}

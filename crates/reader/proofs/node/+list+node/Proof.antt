@@ -7,11 +7,11 @@ use mathlib.Core.Bool.{true, false}
 use lib.ListN.{length, drop}
 use borrow.Author.Needs.{needs}
 use borrow.Author.Tests.{not-true, not-false}
-use Rattle.reader.specs.Tokens.{nextIs, nextName}
+use Rattle.tokens.specs.Tokens.{nextIs, nextName}
 use Rattle.reader.specs.Core.{ReadsNode, ReadsList}
 use Rattle.reader.specs.declared.answer.Cursor.{Cursor}
+use Rattle.tokens.proofs.Places.{next-is-inside}
 use Rattle.reader.proofs.NodeWays.{Asked, inside, onwards, NodeCall, ListCall, Followed, Opening, given-moved, leaf-way, stray-way, full-way, opening-inside, first-falls, first-refused-way, no-comma-way, first-grown, others-fall, others-refused-way, others-grown, node-way, child-refused-way, list-stray-way, last-way, child-grown, rest-falls, rest-refused-way, more-way}
-use Rattle.reader.proofs.Places.{next-is-inside}
 use borrow.Fn.Kinds.{In}
 use borrow.Fn.PlainCycle.{Measures, is, falls, and}
 use Rattle.reader.proofs.node.list.Reads as list
@@ -21,12 +21,12 @@ use Rattle.reader.proofs.node.node.Reads as node
 use Rattle.reader.proofs.node.node.Kinds as node-kinds
 use Rattle.reader.proofs.node.+list+node.Lts-node as node-lts
 use Rattle.clusters.proofs.union.Reads as union-reads
+use Rattle.tokens.proofs.behind.closing.Reads as closing-reads
+use Rattle.tokens.proofs.blanks.Reads as blanks-reads
+use Rattle.tokens.proofs.next_is.Reads as next-is-reads
+use Rattle.tokens.proofs.next_name.Reads as next-name-reads
+use Rattle.tokens.proofs.stray.Reads as stray-reads
 use Rattle.reader.proofs.answer.moved.Reads as moved-reads
-use Rattle.reader.proofs.behind.closing.Reads as closing-reads
-use Rattle.reader.proofs.cursor.blanks.Reads as blanks-reads
-use Rattle.reader.proofs.cursor.next_is.Reads as next-is-reads
-use Rattle.reader.proofs.cursor.next_name.Reads as next-name-reads
-use Rattle.reader.proofs.cursor.stray.Reads as stray-reads
 use Rattle.reader.proofs.leaf.ended.Reads as ended-reads
 use Rattle.reader.proofs.leaf.leaf.Reads as leaf-reads
 use Rattle.reader.proofs.node.no_comma.Reads as no-comma-reads

@@ -5,9 +5,9 @@ use mathlib.Core.Path.{_≡_, refl, sym, _∙_}
 use mathlib.Core.Bool.{true}
 use lib.ListN.{drop}
 use borrow.Author.Tests.{not-true, not-false}
-use Rattle.reader.specs.Tokens.{nextIs}
+use Rattle.tokens.specs.Tokens.{nextIs}
 use Rattle.reader.specs.Core.{ReadsTree}
-use Rattle.reader.proofs.Places.{next-is-inside}
+use Rattle.tokens.proofs.Places.{next-is-inside}
 use Rattle.reader.proofs.NodeWays.{NodeCall, Followed}
 use Rattle.reader.proofs.TreeWays.{fromStart, root-refused-way, end-missing-way, species-missing-way, tree-way}
 use Rattle.reader.proofs.tree.tree.Statement.{statement}

@@ -7,7 +7,7 @@ use borrow.Author.Needs.{needs}
 use borrow.Author.Tests.{not-true, not-false}
 use Rattle.roster.specs.Bytes.{isBlank}
 use Rattle.roster.proofs.Runs.{run-on, run-off, run-end}
-use Rattle.reader.specs.Tokens.{blanks}
+use Rattle.tokens.specs.Tokens.{blanks}
 use Rattle.report.proofs.gather.behind_blanks.Statement.{statement}
 use Rattle.report.proofs.gather.behind_blanks.Tie as tie
 

@@ -1,0 +1,94 @@
+-- What stands behind a node, read from a place of the text, for each way that it can go on.
+use Prim.Native.Nat.{ℕ, _+_, _-_}
+use native.Mathlib.Omega.{arith}
+use mathlib.Core.Path.{_≡_, refl}
+use mathlib.Core.Bool.{Bool, true, false}
+use mathlib.Core.List.{List, []}
+use lib.ListN.{drop}
+use lib.Seq.{drop-drop}
+use lib.Dec.{leb}
+use Rattle.roster.specs.Bytes.{isName, run}
+use Rattle.roster.specs.Labels.{labelBytes, word, scannedBy, scannedAt}
+use Rattle.tokens.specs.Answers.{andThen}
+use Rattle.tokens.specs.Answers.Answer.{parsed}
+use Rattle.tokens.specs.Tokens.{nextIs, nextName, blanks, skip, number, numberBehind, secondNumber, firstNumber, numbers, shortName, name, innerName}
+use Rattle.tokens.specs.Says.{between, nameSays, innerWord}
+use Rattle.tokens.specs.declared.answer.Extent.{Extent}
+use Rattle.tokens.proofs.Places.{skip-to, tail-at}
+
+-- no bytes
+pub between-none : (text : List ℕ) (p : ℕ) → between text (record { from = p; to = p }) ≡ []
+between-none text p = let e : p - p ≡ 0 = omega arith in rw e
+
+-- the blanks from `at` on end at `colon`
+module _ (text : List ℕ) (at colon : ℕ) (skipped : colon ≡ at + blanks (drop at text)) where
+  -- the number behind a colon begins behind the blanks
+  pub number-behind : numberBehind (drop at text) at ≡ number (drop colon text) colon
+  unfolding numberBehind
+  number-behind = rw (skip-to text at colon skipped, ← skipped)
+
+module _ (text : List ℕ) (at colon : ℕ) (skipped : colon ≡ at + blanks (drop at text)) where
+  -- a second number follows a first, or none does
+  pub second-follows :
+      (w d : List ℕ) → nextIs 58 (drop colon text) ≡ true
+      → secondNumber (nextIs 58 (skip (drop at text))) w d (drop at text) at
+      ≡ andThen (numberBehind (drop (colon + 1) text) (colon + 1)) (λ b s p. parsed (record { name = w; distance = d; support = b }) s p)
+  second-follows w d t = rw (skip-to text at colon skipped, t, skip-to text at colon skipped, ← skipped, tail-at text colon)
+
+  pub second-missing :
+      (w d : List ℕ) → nextIs 58 (drop colon text) ≡ false
+      → secondNumber (nextIs 58 (skip (drop at text))) w d (drop at text) at ≡ parsed (record { name = w; distance = d; support = [] }) (drop at text) at
+  second-missing w d t = rw (skip-to text at colon skipped, t)
+
+  -- no numbers
+  pub numbers-missing :
+      (w : List ℕ) → nextIs 58 (drop colon text) ≡ false
+      → parsed (record { name = w; distance = []; support = [] }) (drop at text) at ≡ numbers w (drop at text) at
+  unfolding numbers
+  numbers-missing w t = rw (skip-to text at colon skipped, t)
+
+  -- a colon, and blanks up to `second`
+  module _ (second : ℕ) (again : second ≡ colon + 1 + blanks (drop (colon + 1) text)) (w : List ℕ) (t : nextIs 58 (drop colon text) ≡ true) where
+    numbers-first :
+        numbers w (drop at text) at ≡ firstNumber (nextIs 58 (skip (drop (colon + 1) text))) w (drop (colon + 1) text) (colon + 1)
+    unfolding numbers
+    numbers-first = rw (skip-to text at colon skipped, t, skip-to text at colon skipped, ← skipped, tail-at text colon)
+
+    -- a second colon: the support alone
+    pub support-alone :
+        (none : Extent) → none ≡ record { from = second; to = second } → nextIs 58 (drop second text) ≡ true
+        → andThen (numberBehind (drop (second + 1) text) (second + 1))
+        (λ b s p. parsed (record { name = w; distance = between text none; support = b }) s p)
+        ≡ numbers w (drop at text) at
+    support-alone none e u =
+        let n : between text none ≡ [] = rw e (between-none text second) in
+        rw (numbers-first, skip-to text (colon + 1) second again, u, skip-to text (colon + 1) second again, ← again, tail-at text second, n)
+
+    -- else the distance
+    pub distance-first :
+        nextIs 58 (drop second text) ≡ false
+        → andThen (number (drop second text) second) (λ d s p. secondNumber (nextIs 58 (skip s)) w d s p) ≡ numbers w (drop at text) at
+    distance-first u =
+        rw (numbers-first, skip-to text (colon + 1) second again, u, number-behind text (colon + 1) second again)
+
+-- the label that is scanned is the name
+pub scanned-name : (text : List ℕ) (at : ℕ) → nameSays text (word (drop at text)) (scannedAt text at .label) ≡ name (drop at text) at
+unfolding scannedAt name
+scanned-name text at = by-length (leb (run isName (drop at text)) labelBytes)
+  where
+    by-length : (t : Bool) → nameSays text (word (drop at text)) (scannedBy t (drop at text) at .label) ≡ shortName t (drop at text) at
+    by-length true = rw (drop-drop (run isName (drop at text)) at text)
+    by-length false = refl
+
+-- an inner node's name
+module _ (text : List ℕ) (at begun : ℕ) (skipped : begun ≡ at + blanks (drop at text)) where
+  pub inner-named :
+      nextName (drop begun text) ≡ true → nameSays text (innerWord (drop at text)) (scannedAt text begun .label) ≡ innerName (drop at text) at
+  unfolding innerWord innerName
+  inner-named t =
+      rw (skip-to text at begun skipped, t, skip-to text at begun skipped, ← skipped) (scanned-name text begun)
+
+  pub inner-nameless : nextName (drop begun text) ≡ false → parsed (innerWord (drop at text)) (drop at text) at ≡ innerName (drop at text) at
+  unfolding innerWord innerName
+  inner-nameless t =
+      rw (skip-to text at begun skipped, t)

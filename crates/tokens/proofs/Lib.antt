@@ -1,0 +1,4 @@
+pub mod BehindNodes
+pub mod Numerals
+pub mod Pieces
+pub mod Places

@@ -1,0 +1,46 @@
+-- `behind::closing` meets its contract: the numbers stand behind the name.
+use borrow.Author.Needs.{needs}
+use mathlib.Core.Path.{_∙_}
+use lib.ListN.{drop}
+use Rattle.tokens.specs.Tokens.{numbers}
+use Rattle.tokens.specs.Says.{innerWord}
+use Rattle.tokens.proofs.Pieces.{name-refused, name-read}
+use Rattle.tokens.proofs.behind.closing.Statement.{statement}
+use Rattle.tokens.proofs.behind.closing.Tie as tie
+
+inner-name-requires : tie.Need-inner-name-requires
+inner-name-requires c κs = search needs
+
+enum-known-label : tie.Need-enum-known-label
+enum-known-label c = search needs
+
+enum-told : tie.Need-enum-told
+enum-told c = search needs
+
+label-refusal-requires : tie.Need-label-refusal-requires
+label-refusal-requires c κs = search needs
+
+returns : tie.Need-returns
+returns c =
+    name-refused (c .before .before .before .before .before .args .text .now) _ (c .before .before .before .inner-name .result) _ (c .before .before .before .inner-name .ensures) _ _ _ (c .before .enum-told .given .1) (c .label-refusal .ensures)
+
+behind-requires : tie.Need-behind-requires
+behind-requires c κs = search needs
+
+returns-2 : tie.Need-returns-2
+returns-2 c =
+    let text = c .before .before .before .before .before .before .args .text .now in
+    c .behind .ensures (innerWord (drop (c .before .before .before .before .before .before .args .at) text))
+    ∙ name-read text (innerWord (drop (c .before .before .before .before .before .before .args .at) text)) (c .before .before .before .before .inner-name .result) _ (c .before .before .before .before .inner-name .ensures) (λ w s p. numbers w s p) _ (c .before .before .label .given .1)
+
+pub closing-spec : {M : Type 1} → statement M
+closing-spec =
+    tie.close
+    (tie.spec
+    inner-name-requires
+    enum-known-label
+    enum-told
+    label-refusal-requires
+    returns
+    behind-requires
+    returns-2)

@@ -1,0 +1,77 @@
+-- `behind::distance` meets its contract: the number is the distance, and a colon behind it brings the support.
+use borrow.Author.Needs.{needs}
+use native.Mathlib.Omega.{arith}
+use mathlib.Core.Path.{sym, _∙_}
+use Rattle.tokens.specs.Tokens.{nextIs, skip, secondNumber}
+use Rattle.tokens.specs.Says.{between}
+use Rattle.tokens.proofs.Places.{next-is-inside}
+use Rattle.tokens.proofs.Pieces.{number-refused, number-read}
+use Rattle.tokens.proofs.BehindNodes.{between-none, second-follows, second-missing}
+use Rattle.tokens.proofs.behind.distance.Statement.{statement}
+use Rattle.tokens.proofs.behind.distance.Tie as tie
+
+number-requires : tie.Need-number-requires
+number-requires c κs = search needs
+
+enum-known-read : tie.Need-enum-known-read
+enum-known-read c = search needs
+
+enum-told : tie.Need-enum-told
+enum-told c = search needs
+
+number-refusal-requires : tie.Need-number-refusal-requires
+number-refusal-requires c κs = search needs
+
+returns : tie.Need-returns
+returns c = λ w.
+    number-refused (c .before .before .before .before .before .args .text .now) (c .before .before .before .number .result) _ (c .before .before .before .number .ensures) _ _ _ (c .before .enum-told .given .1) (c .number-refusal .ensures)
+
+blanks-requires : tie.Need-blanks-requires
+blanks-requires c κs = search needs
+
+next-is-requires : tie.Need-next-is-requires
+next-is-requires c κs = search needs
+
+add-support : tie.Need-add-support
+add-support c =
+    let h = next-is-inside (c .before .before .before .before .before .before .before .before .args .text .now) (c .before .before .blanks .result) 58 (sym (c .before .next-is .ensures) ∙ c .if1 .taken) in
+    omega arith
+
+support-requires : tie.Need-support-requires
+support-requires c κs = search needs
+
+returns-2 : tie.Need-returns-2
+returns-2 c = λ w.
+    let text = c .before .before .before .before .before .before .before .before .before .args .text .now in
+    let x = c .before .before .before .before .before .read .given .0 .0 in
+    c .support .ensures w
+    ∙ sym (second-follows text (x .to) (c .before .before .before .blanks .result) (c .before .before .before .blanks .ensures) w (between text x) (sym (c .before .before .next-is .ensures) ∙ c .before .if1 .taken))
+    ∙ number-read text (c .before .before .before .before .before .before .before .number .result) _ (c .before .before .before .before .before .before .before .number .ensures) (λ d s p. secondNumber (nextIs 58 (skip s)) w d s p) x (c .before .before .before .before .before .read .given .1)
+
+nothing-requires : tie.Need-nothing-requires
+nothing-requires c κs = search needs
+
+returns-3 : tie.Need-returns-3
+returns-3 c = λ w.
+    let text = c .before .before .before .before .before .before .before .before .before .args .text .now in
+    let x = c .before .before .before .before .before .read .given .0 .0 in
+    rw (c .nothing .ensures, between-none text (x .to))
+    (sym (second-missing text (x .to) (c .before .before .before .blanks .result) (c .before .before .before .blanks .ensures) w (between text x) (sym (c .before .before .next-is .ensures) ∙ c .before .if1 .left))
+    ∙ number-read text (c .before .before .before .before .before .before .before .number .result) _ (c .before .before .before .before .before .before .before .number .ensures) (λ d s p. secondNumber (nextIs 58 (skip s)) w d s p) x (c .before .before .before .before .before .read .given .1))
+
+pub distance-spec : {M : Type 1} → statement M
+distance-spec =
+    tie.close
+    (tie.spec
+    number-requires
+    enum-known-read
+    enum-told
+    number-refusal-requires
+    returns
+    blanks-requires
+    next-is-requires
+    add-support
+    support-requires
+    returns-2
+    nothing-requires
+    returns-3)

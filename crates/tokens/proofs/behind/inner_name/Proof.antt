@@ -1,0 +1,28 @@
+-- `behind::inner_name` meets its contract: a name behind the blanks, or none.
+use borrow.Author.Needs.{needs}
+use mathlib.Core.Path.{sym, _∙_}
+use Rattle.tokens.proofs.BehindNodes.{inner-named, inner-nameless}
+use Rattle.tokens.proofs.behind.inner_name.Statement.{statement}
+use Rattle.tokens.proofs.behind.inner_name.Tie as tie
+
+blanks-requires : tie.Need-blanks-requires
+blanks-requires c κs = search needs
+
+next-name-requires : tie.Need-next-name-requires
+next-name-requires c κs = search needs
+
+scan-requires : tie.Need-scan-requires
+scan-requires c κs = search needs
+
+returns : tie.Need-returns
+returns c =
+    rw (c .scan .ensures)
+    (inner-named (c .before .before .before .before .before .args .text .now) (c .before .before .before .before .before .args .at) (c .before .before .before .blanks .result) (c .before .before .before .blanks .ensures) (sym (c .before .before .next-name .ensures) ∙ c .before .if1 .taken))
+
+returns-2 : tie.Need-returns-2
+returns-2 c =
+    inner-nameless (c .before .before .before .before .args .text .now) (c .before .before .before .before .args .at) (c .before .before .blanks .result) (c .before .before .blanks .ensures) (sym (c .before .next-name .ensures) ∙ c .if1 .left)
+
+pub inner-name-spec : {M : Type 1} → statement M
+inner-name-spec =
+    tie.close (tie.spec blanks-requires next-name-requires scan-requires returns returns-2)

@@ -1,0 +1,48 @@
+-- `behind::support` meets its contract: the number behind the colon is the support.
+use borrow.Author.Needs.{needs}
+use Rattle.tokens.specs.Answers.Answer.{parsed}
+use Rattle.tokens.specs.Says.{between}
+use Rattle.tokens.proofs.Pieces.{number-refused, number-read}
+use Rattle.tokens.proofs.BehindNodes.{number-behind}
+use Rattle.tokens.proofs.behind.support.Statement.{statement}
+use Rattle.tokens.proofs.behind.support.Tie as tie
+
+blanks-requires : tie.Need-blanks-requires
+blanks-requires c κs = search needs
+
+number-requires : tie.Need-number-requires
+number-requires c κs = search needs
+
+enum-known-read : tie.Need-enum-known-read
+enum-known-read c = search needs
+
+enum-told : tie.Need-enum-told
+enum-told c = search needs
+
+number-refusal-requires : tie.Need-number-refusal-requires
+number-refusal-requires c κs = search needs
+
+returns : tie.Need-returns
+returns c = λ w.
+    rw (number-behind (c .before .before .before .before .before .before .args .text .now) (c .before .before .before .before .before .before .args .at) (c .before .before .before .before .blanks .result) (c .before .before .before .before .blanks .ensures))
+    (number-refused (c .before .before .before .before .before .before .args .text .now) (c .before .before .before .number .result) _ (c .before .before .before .number .ensures) _ _ _ (c .before .enum-told .given .1) (c .number-refusal .ensures))
+
+returns-2 : tie.Need-returns-2
+returns-2 c = λ w.
+    rw (number-behind (c .before .before .before .before .before .before .args .text .now) (c .before .before .before .before .before .before .args .at) (c .before .before .before .before .blanks .result) (c .before .before .before .before .blanks .ensures))
+    (number-read (c .before .before .before .before .before .before .args .text .now) (c .before .before .before .number .result) _ (c .before .before .before .number .ensures)
+    (λ b s p. parsed (record { name = w; distance = between (c .before .before .before .before .before .before .args .text .now) (c .before .before .before .before .before .before .args .distance); support = b }) s p)
+    _
+    (c .before .read .given .1))
+
+pub support-spec : {M : Type 1} → statement M
+support-spec =
+    tie.close
+    (tie.spec
+    blanks-requires
+    number-requires
+    enum-known-read
+    enum-told
+    number-refusal-requires
+    returns
+    returns-2)

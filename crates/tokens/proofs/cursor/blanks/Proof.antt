@@ -1,0 +1,67 @@
+-- `cursor::blanks` meets its contract. The loop keeps: the run from `at` is what has been passed, and the run from i.
+use Prim.Native.Nat.{_+_, _-_, _≤_}
+use native.Mathlib.Omega.{arith}
+use mathlib.Core.Path.{_≡_, sym, _∙_}
+use lib.ListN.{length, drop}
+use borrow.Author.Needs.{needs}
+use borrow.Author.Tests.{not-true, not-false}
+use Rattle.roster.specs.Bytes.{isBlank, run}
+use Rattle.tokens.specs.Tokens.{blanks}
+use Rattle.roster.proofs.Runs.{run-on, run-off, run-end}
+use Rattle.tokens.proofs.cursor.blanks.Statement.{statement}
+use Rattle.tokens.proofs.cursor.blanks.Tie as tie
+
+abbrev Inv-loop : tie.InvT-loop
+Inv-loop text at i₀ i = (at ≤ i) × (run isBlank (drop at text) ≡ (i - at) + run isBlank (drop i text))
+
+abbrev μ-loop : tie.MeasureT-loop
+μ-loop text at i₀ i = length text - i
+
+loop-holds : tie.Need-loop-holds Inv-loop μ-loop
+loop-holds c = search needs
+
+shared-slice-read-is-blank : tie.Need-shared-slice-read-is-blank Inv-loop μ-loop
+shared-slice-read-is-blank c = search needs
+
+is-blank-requires : tie.Need-is-blank-requires Inv-loop μ-loop
+is-blank-requires c κs = search needs
+
+returns : tie.Need-returns Inv-loop μ-loop
+unfolding blanks
+returns c =
+    let at-loop = c .before .before .before .before in
+    let off = run-off isBlank (at-loop .before .before .args .text .now) (at-loop .loop .i) (c .before .before .before .loop-test .taken) (sym (c .before .is-blank .ensures) ∙ not-true _ (c .if1 .taken)) in
+    omega arith
+
+add-i : tie.Need-add-i Inv-loop μ-loop
+add-i c = search needs
+
+loop-less : tie.Need-loop-less Inv-loop μ-loop
+loop-less c = search needs
+
+loop-again : tie.Need-loop-again Inv-loop μ-loop
+loop-again c =
+    let at-loop = c .before .before .before .before in
+    let on = run-on isBlank (at-loop .before .before .args .text .now) (at-loop .loop .i) (c .before .before .before .loop-test .taken) (sym (c .before .is-blank .ensures) ∙ not-false _ (c .if1 .left)) in
+    omega arith
+
+returns-2 : tie.Need-returns-2 Inv-loop μ-loop
+unfolding blanks
+returns-2 c =
+    let over = run-end isBlank (c .before .before .before .args .text .now) (c .before .loop .i) (c .loop-test .left) in
+    omega arith
+
+pub blanks-spec : {M : Type 1} → statement M
+blanks-spec =
+    tie.close
+    (tie.spec
+    Inv-loop
+    μ-loop
+    loop-holds
+    shared-slice-read-is-blank
+    is-blank-requires
+    returns
+    add-i
+    loop-less
+    loop-again
+    returns-2)

@@ -1,0 +1,75 @@
+-- What the code's answers say of the text: the number and the place of a fault, or what was read and where reading goes on.
+use Prim.Native.Nat.{ℕ, _-_}
+use mathlib.Core.Bool.{Bool, true, false}
+use mathlib.Core.List.{List, [], _∷_}
+use lib.ListN.{take, drop}
+use Rattle.trees.specs.Tree.{Behind}
+use Rattle.roster.specs.Labels.{word}
+use Rattle.roster.specs.declared.label.Label.{Label}
+use Rattle.roster.specs.declared.label.Label.the-variants.{Ended, TooLong}
+use Rattle.tokens.specs.Answers.{Answer}
+use Rattle.tokens.specs.Answers.Answer.{parsed, refused}
+use Rattle.tokens.specs.Tokens.{nextName, skip}
+use Rattle.tokens.specs.declared.answer.Refusal.{Refusal}
+use Rattle.tokens.specs.declared.answer.Extent.{Extent}
+use Rattle.tokens.specs.declared.answer.NumberRead.{NumberRead}
+use Rattle.tokens.specs.declared.answer.NumberRead.the-variants.{Number, Refused as NoNumber}
+use Rattle.tokens.specs.declared.answer.BehindRead.{BehindRead}
+use Rattle.tokens.specs.declared.answer.BehindRead.the-variants.{Behind as Extended, Refused as NotExtended}
+
+-- a fault's number and place, as an answer
+abbrev pub refusal : {A : Type 0} → Refusal → Answer A
+refusal e = refused (e .number) (e .place)
+
+-- where there is no fault
+abbrev pub noFault : Refusal
+noFault = record { number = 0; place = 0 }
+
+-- "10 | text ends first" or "3 | byte not allowed here"
+abbrev pub strayAt : List ℕ → ℕ → Refusal
+strayAt [] p = record { number = 10; place = p }
+strayAt (b ∷ s) p = record { number = 3; place = p }
+
+-- the bytes of a text from one place up to another
+abbrev pub between : List ℕ → Extent → List ℕ
+between text e = take (e .to - e .from) (drop (e .from) text)
+
+-- a number was read, or a fault was met
+abbrev pub numberSays : List ℕ → NumberRead → Answer (List ℕ)
+numberSays text (Number e) = parsed (between text e) (drop (e .to) text) (e .to)
+numberSays text (NoNumber e) = refusal e
+
+-- the refusal of a number
+abbrev pub numberFault : NumberRead → Refusal
+numberFault (Number e) = noFault
+numberFault (NoNumber e) = e
+
+-- the numbers behind a node were read, or a fault was met; w is the node's name
+abbrev pub behindSays : List ℕ → List ℕ → BehindRead → Answer Behind
+behindSays text w (Extended e) =
+    parsed (record { name = w; distance = between text (e .distance); support = between text (e .support) }) (drop (e .next) text) (e .next)
+behindSays text w (NotExtended e) = refusal e
+
+-- the refusal of what stands behind a node
+abbrev pub behindFault : BehindRead → Refusal
+behindFault (Extended e) = noFault
+behindFault (NotExtended e) = e
+
+-- the name w was read, or "4 | sixteenth byte of a name"
+abbrev pub nameSays : List ℕ → List ℕ → Label → Answer (List ℕ)
+nameSays text w (Ended next) = parsed w (drop next text) next
+nameSays text w (TooLong place) = refused 4 place
+
+-- the refusal of a name
+abbrev pub nameFault : Label → Refusal
+nameFault (Ended next) = noFault
+nameFault (TooLong place) = record { number = 4; place = place }
+
+-- the name behind a closing parenthesis, empty where none stands there
+abbrev pub innerWordBy : Bool → List ℕ → List ℕ
+innerWordBy false s = []
+innerWordBy true s = word (skip s)
+
+-- the inner name that stands at the front, if any
+unfoldable pub innerWord : List ℕ → List ℕ
+innerWord s = innerWordBy (nextName (skip s)) s

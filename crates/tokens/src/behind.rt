@@ -1,0 +1,105 @@
+// What stands behind a node: an inner node's name, and the numbers `:d`, `:d:b` or `::b`.
+ghost use mathlib.Core.Path.{_≡_};
+ghost use mathlib.Core.List.{List};
+ghost use Prim.Native.Nat.{ℕ};
+ghost use lib.ListN.{drop};
+ghost use Rattle.tokens.specs.Answers.{andThen};
+ghost use Rattle.tokens.specs.Answers.Answer.{parsed};
+ghost use Rattle.tokens.specs.Says.{between, behindSays, nameSays, innerWord};
+ghost use Rattle.tokens.specs.Tokens.{nextIs, skip, number as Tokens·number, numberBehind, secondNumber, numbers, innerName};
+use crate::answer::BehindRead;
+use crate::answer::Extent;
+use crate::answer::Extents;
+use crate::answer::NumberRead;
+use crate::answer::label_refusal;
+use crate::answer::number_refusal;
+use crate::cursor::blanks;
+use crate::cursor::next_is;
+use crate::cursor::next_name;
+use crate::number::number;
+use roster::Label;
+use roster::scan;
+
+// No bytes.
+fn nothing(at: usize) -> Extent
+    ensures { λ r. ⌜ r ≡ record { from = at; to = at } ⌝ }
+{
+    Extent { from: at, to: at }
+}
+
+// The support, behind the colon that ends at `at`; the distance stood before it.
+fn support(text: &[u8], at: usize, distance: Extent) -> BehindRead
+    ensures { λ r. ⌜ ((w : List ℕ) → behindSays (now (text .entry)) w r ≡ andThen (numberBehind (drop at (now (text .entry))) at) (λ b s p. parsed (record { name = w; distance = between (now (text .entry)) distance; support = b }) s p)) ⌝ }
+{
+    let read = number(text, blanks(text, at));
+    let NumberRead::Number(support) = read else {
+        return BehindRead::Refused(number_refusal(read));
+    };
+    BehindRead::Behind(Extents {
+        distance: distance,
+        support: support,
+        next: support.to,
+    })
+}
+
+// The distance, which begins at `at`, and the support if one follows.
+fn distance(text: &[u8], at: usize) -> BehindRead
+    ensures { λ r. ⌜ ((w : List ℕ) → behindSays (now (text .entry)) w r ≡ andThen (Tokens·number (drop at (now (text .entry))) at) (λ d s p. secondNumber (nextIs 58 (skip s)) w d s p)) ⌝ }
+{
+    let read = number(text, at);
+    let NumberRead::Number(distance) = read else {
+        return BehindRead::Refused(number_refusal(read));
+    };
+    let end = distance.to;
+    let colon = blanks(text, end);
+    if next_is(text, colon, b':') {
+        return support(text, colon + 1, distance);
+    }
+    BehindRead::Behind(Extents {
+        distance: distance,
+        support: nothing(end),
+        next: end,
+    })
+}
+
+// The numbers behind a node that ends at `at`.
+pub fn behind(text: &[u8], at: usize) -> BehindRead
+    ensures { λ r. ⌜ ((w : List ℕ) → behindSays (now (text .entry)) w r ≡ numbers w (drop at (now (text .entry))) at) ⌝ }
+{
+    let colon = blanks(text, at);
+    if !next_is(text, colon, b':') {
+        return BehindRead::Behind(Extents {
+            distance: nothing(at),
+            support: nothing(at),
+            next: at,
+        });
+    }
+    let second = blanks(text, colon + 1);
+    if next_is(text, second, b':') {
+        return support(text, second + 1, nothing(second));
+    }
+    distance(text, second)
+}
+
+// The optional name behind the closing parenthesis of a node: where it ends.
+fn inner_name(text: &[u8], at: usize) -> Label
+    ensures { λ r. ⌜ nameSays (now (text .entry)) (innerWord (drop at (now (text .entry)))) r ≡ innerName (drop at (now (text .entry))) at ⌝ }
+{
+    let begun = blanks(text, at);
+    if next_name(text, begun) {
+        let scanned = scan(text, begun);
+        return scanned.label;
+    }
+    Label::Ended { next: at }
+}
+
+// What stands behind a closing parenthesis: an optional name, and numbers.
+pub fn closing(text: &[u8], at: usize) -> BehindRead
+    ensures { λ r. ⌜ behindSays (now (text .entry)) (innerWord (drop at (now (text .entry)))) r ≡ andThen (innerName (drop at (now (text .entry))) at) (λ w s p. numbers w s p) ⌝ }
+{
+    let label = inner_name(text, at);
+    let Label::Ended { next } = label else {
+        return BehindRead::Refused(label_refusal(label));
+    };
+    behind(text, next)
+}

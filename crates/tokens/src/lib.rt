@@ -1,0 +1,16 @@
+// The tokens of tree text: blanks, names, numbers, what stands behind a node, and where each is refused.
+mod answer;
+pub mod behind;
+mod cursor;
+mod number;
+
+pub use answer::BehindRead;
+pub use answer::Extent;
+pub use answer::Extents;
+pub use answer::Refusal;
+pub use answer::behind_refusal;
+pub use answer::label_refusal;
+pub use cursor::blanks;
+pub use cursor::next_is;
+pub use cursor::next_name;
+pub use cursor::stray;
