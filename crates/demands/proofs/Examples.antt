@@ -8,7 +8,7 @@ use Rattle.demands.specs.Examples.Row.{recorded, counted, scored, search
 use Rattle.demands.specs.Examples.Allowed.{every, own, only}
 use Rattle.clusters.specs.Sets.{whole, single, union, has, within, apart, size, lowest}
 use Rattle.demands.specs.Examples.{recordIn, foundIn, holds, allHold}
-use Rattle.lineages.specs.Count.{kOf, extra, total, weight, score, recordsIn}
+use Rattle.lineages.specs.Count.{kOf, extra, total, weight, score}
 use Rattle.lineages.specs.Promise.{shown, marks}
 use Rattle.tokens.specs.Tokens.{nextIs, nextName, blanks, skip, number, numberBehind, numbers, name, innerName}
 use Rattle.reader.specs.Promise.{answerTo}
@@ -20,7 +20,7 @@ use Rattle.search.specs.BinaryTrees.{clustersIn, isLow, lows, each, forks, tree
 use Rattle.search.specs.Least.{those, all, scoreOf, treesOver, leastTrees, best}
 use Rattle.search.specs.Promise.{allowedIn, bestFor}
 use Rattle.trees.specs.Drawn.{properly, maximal, placed, byLowest, children, drawnTo, drawn}
-use Rattle.trees.specs.Lists.{keep, some, insert, sorted}
+use Rattle.trees.specs.Lists.{keep, some, insert, sorted, pieces}
 use Rattle.trees.specs.Records.{recordOf}
 use Rattle.trees.specs.Tree.{cluster, clusters}
 use Rattle.trees.specs.Valid.{every as every-trees, among, rising, singlesFrom}
@@ -57,5 +57,5 @@ examples =
 
 -- every one of them holds, by the definitions that the promises cite
 pub examples-hold : allHold examples ≡ true
-unfolding examples ones onesIn trailingZeros whole single union has within apart size lowest recordIn foundIn holds allHold kOf extra total weight score recordsIn shown marks answerTo leafAt closing readTreeTo readTree readNode nextIs nextName blanks skip number numberBehind numbers name innerName run word padded upTo same position begins beginnings nameAt names strayAt longAt manyAt againAt openAt faultAt least firstFault faulty clustersIn isLow lows each forks treesTo treesOn those all scoreOf treesOver leastTrees best allowedIn bestFor properly maximal placed byLowest children drawnTo drawn keep some insert sorted recordOf cluster clusters every-trees among rising singlesFrom treeText written nodeText
+unfolding examples ones onesIn trailingZeros whole single union has within apart size lowest recordIn foundIn holds allHold kOf extra total weight score pieces shown marks answerTo leafAt closing readTreeTo readTree readNode nextIs nextName blanks skip number numberBehind numbers name innerName run word padded upTo same position begins beginnings nameAt names strayAt longAt manyAt againAt openAt faultAt least firstFault faulty clustersIn isLow lows each forks treesTo treesOn those all scoreOf treesOver leastTrees best allowedIn bestFor properly maximal placed byLowest children drawnTo drawn keep some insert sorted recordOf cluster clusters every-trees among rising singlesFrom treeText written nodeText
 examples-hold = refl

@@ -7,7 +7,7 @@ use lib.Count.{ones, onesIn, trailingZeros}
 use lib.ListN.{length, take, getD, replicate}
 use Rattle.clusters.specs.Sets.{whole, single, union, has, within, apart, size, lowest}
 use Rattle.trees.specs.Drawn.{properly, maximal, placed, byLowest, children, drawnTo, drawn}
-use Rattle.trees.specs.Lists.{keep, some, insert, sorted}
+use Rattle.trees.specs.Lists.{keep, some, insert, sorted, pieces}
 use Rattle.trees.specs.Records.{recordOf}
 use Rattle.trees.specs.Tree.{cluster, clusters}
 use Rattle.trees.specs.Valid.{every, among, rising, singlesFrom, nested, valid, binary}
@@ -23,7 +23,7 @@ use Rattle.reader.specs.Reading.{leafAt, closing, readTreeTo, readTree, readNod
 use Rattle.reader.specs.declared.Reading.{Reading}
 use Rattle.writer.specs.Writing.{treeText, written, nodeText}
 use Rattle.writer.specs.Promise.{rosterTest, recordTest, writeTests, Writes}
-use Rattle.lineages.specs.Count.{kOf, extra, total, weight, score, recordsIn}
+use Rattle.lineages.specs.Count.{kOf, extra, total, weight, score}
 use Rattle.lineages.specs.Checks.{speciesTest, countTest, speciesRecordTest, firstBad, recordsTest, clusterTest, weightTests, scoreTests, markTests}
 use Rattle.lineages.specs.Promise.{shown, marks, Weighs, Scores, Marks}
 use Rattle.search.specs.BinaryTrees.{clustersIn, isLow, lows, each, forks, treesTo, treesOn}
@@ -75,42 +75,42 @@ write-a r after w = (w .answer, w .bytes)
 
 -- cluster 3, `a` with `b`, weighs nothing in two trees that have it, and 1 where the second does not
 weigh-alike : (r : Reply) → Weighs 3 (ab-c ++ ab-c) 2 3 r → r ≡ record { number = 0; place = 0; value = 0 }
-unfolding ab-c Weighs weightTests clusterTest ones onesIn trailingZeros whole single union has within apart size lowest keep some insert sorted recordOf properly maximal every among rising singlesFrom nested valid binary verdict lengthTest kOf extra total weight score recordsIn speciesTest countTest firstBad recordsTest
+unfolding ab-c Weighs weightTests clusterTest ones onesIn trailingZeros whole single union has within apart size lowest keep some insert sorted recordOf properly maximal every among rising singlesFrom nested valid binary verdict lengthTest kOf extra total weight score pieces speciesTest countTest firstBad recordsTest
 weigh-alike r p = p
 
 weigh-unlike : (r : Reply) → Weighs 3 (ab-c ++ ac-b) 2 3 r → r ≡ record { number = 0; place = 0; value = 1 }
-unfolding ab-c ac-b Weighs weightTests clusterTest ones onesIn trailingZeros whole single union has within apart size lowest keep some insert sorted recordOf properly maximal every among rising singlesFrom nested valid binary verdict lengthTest kOf extra total weight score recordsIn speciesTest countTest firstBad recordsTest
+unfolding ab-c ac-b Weighs weightTests clusterTest ones onesIn trailingZeros whole single union has within apart size lowest keep some insert sorted recordOf properly maximal every among rising singlesFrom nested valid binary verdict lengthTest kOf extra total weight score pieces speciesTest countTest firstBad recordsTest
 weigh-unlike r p = p
 
 -- and so for the score of `((a,b),c);`
 score-alike : (r : Reply) → Scores 3 (ab-c ++ ab-c) 2 ab-c r → r ≡ record { number = 0; place = 0; value = 0 }
-unfolding ab-c Scores scoreTests speciesRecordTest ones onesIn trailingZeros whole single union has within apart size lowest keep some insert sorted recordOf properly maximal every among rising singlesFrom nested valid binary verdict lengthTest kOf extra total weight score recordsIn speciesTest countTest firstBad recordsTest
+unfolding ab-c Scores scoreTests speciesRecordTest ones onesIn trailingZeros whole single union has within apart size lowest keep some insert sorted recordOf properly maximal every among rising singlesFrom nested valid binary verdict lengthTest kOf extra total weight score pieces speciesTest countTest firstBad recordsTest
 score-alike r p = p
 
 score-unlike : (r : Reply) → Scores 3 (ab-c ++ ac-b) 2 ab-c r → r ≡ record { number = 0; place = 0; value = 1 }
-unfolding ab-c ac-b Scores scoreTests speciesRecordTest ones onesIn trailingZeros whole single union has within apart size lowest keep some insert sorted recordOf properly maximal every among rising singlesFrom nested valid binary verdict lengthTest kOf extra total weight score recordsIn speciesTest countTest firstBad recordsTest
+unfolding ab-c ac-b Scores scoreTests speciesRecordTest ones onesIn trailingZeros whole single union has within apart size lowest keep some insert sorted recordOf properly maximal every among rising singlesFrom nested valid binary verdict lengthTest kOf extra total weight score pieces speciesTest countTest firstBad recordsTest
 score-unlike r p = p
 
 mark-one : (r : Reply) (after : List ℕ) → Marks 1 a-record 1 (9 ∷ 9 ∷ []) r after → (r ≡ record { number = 0; place = 0; value = 0 }) × (after ≡ 0 ∷ 1 ∷ [])
-unfolding a-record markTests shown marks upTo ones onesIn trailingZeros whole single union has within apart size lowest keep some insert sorted recordOf properly maximal every among rising singlesFrom nested valid binary verdict lengthTest kOf extra total weight score recordsIn speciesTest countTest firstBad recordsTest
+unfolding a-record markTests shown marks upTo ones onesIn trailingZeros whole single union has within apart size lowest keep some insert sorted recordOf properly maximal every among rising singlesFrom nested valid binary verdict lengthTest kOf extra total weight score pieces speciesTest countTest firstBad recordsTest
 mark-one r after p = (p .reply, p .bytes)
 
 find-ab-c : (r : Found) (s p : List ℕ) → Finds 3 ab-c 1 every-cluster lent lent r s p → r ≡ record { number = 0; place = 0; score = 0; numbers = ab-c }
-unfolding ab-c every-cluster lent ones onesIn trailingZeros whole single union has within apart size lowest keep some insert sorted recordOf properly maximal every among rising singlesFrom nested valid binary verdict lengthTest kOf extra total weight score recordsIn speciesTest countTest firstBad recordsTest shown marks upTo least clustersIn isLow lows each forks treesTo treesOn those all scoreOf treesOver leastTrees best allowedIn firstStrange allowedTest searchTests bestFor
+unfolding ab-c every-cluster lent ones onesIn trailingZeros whole single union has within apart size lowest keep some insert sorted recordOf properly maximal every among rising singlesFrom nested valid binary verdict lengthTest kOf extra total weight score pieces speciesTest countTest firstBad recordsTest shown marks upTo least clustersIn isLow lows each forks treesTo treesOn those all scoreOf treesOver leastTrees best allowedIn firstStrange allowedTest searchTests bestFor
 find-ab-c r s p f = f .reply
 
 find-ac-b : (r : Found) (s p : List ℕ) → Finds 3 ac-b 1 every-cluster lent lent r s p → r ≡ record { number = 0; place = 0; score = 0; numbers = ac-b }
-unfolding ac-b every-cluster lent ones onesIn trailingZeros whole single union has within apart size lowest keep some insert sorted recordOf properly maximal every among rising singlesFrom nested valid binary verdict lengthTest kOf extra total weight score recordsIn speciesTest countTest firstBad recordsTest shown marks upTo least clustersIn isLow lows each forks treesTo treesOn those all scoreOf treesOver leastTrees best allowedIn firstStrange allowedTest searchTests bestFor
+unfolding ac-b every-cluster lent ones onesIn trailingZeros whole single union has within apart size lowest keep some insert sorted recordOf properly maximal every among rising singlesFrom nested valid binary verdict lengthTest kOf extra total weight score pieces speciesTest countTest firstBad recordsTest shown marks upTo least clustersIn isLow lows each forks treesTo treesOn those all scoreOf treesOver leastTrees best allowedIn firstStrange allowedTest searchTests bestFor
 find-ac-b r s p f = f .reply
 
 find-both : (r : Found) (s p : List ℕ) → Finds 3 (ab-c ++ ac-b) 2 every-cluster lent lent r s p → r ≡ record { number = 0; place = 0; score = 1; numbers = ab-c }
-unfolding ab-c ac-b every-cluster lent ones onesIn trailingZeros whole single union has within apart size lowest keep some insert sorted recordOf properly maximal every among rising singlesFrom nested valid binary verdict lengthTest kOf extra total weight score recordsIn speciesTest countTest firstBad recordsTest shown marks upTo least clustersIn isLow lows each forks treesTo treesOn those all scoreOf treesOver leastTrees best allowedIn firstStrange allowedTest searchTests bestFor
+unfolding ab-c ac-b every-cluster lent ones onesIn trailingZeros whole single union has within apart size lowest keep some insert sorted recordOf properly maximal every among rising singlesFrom nested valid binary verdict lengthTest kOf extra total weight score pieces speciesTest countTest firstBad recordsTest shown marks upTo least clustersIn isLow lows each forks treesTo treesOn those all scoreOf treesOver leastTrees best allowedIn firstStrange allowedTest searchTests bestFor
 find-both r s p f = f .reply
 
 find-tables :
     (r : Found) (s p : List ℕ) → Finds 3 ab-c 1 every-cluster lent lent r s p
     → (s ≡ noTree ∷ 0 ∷ 0 ∷ 0 ∷ 0 ∷ 1 ∷ 1 ∷ 0 ∷ []) × (p ≡ 0 ∷ 0 ∷ 0 ∷ 1 ∷ 0 ∷ 1 ∷ 2 ∷ 3 ∷ [])
-unfolding ab-c every-cluster lent ones onesIn trailingZeros whole single union has within apart size lowest keep some insert sorted recordOf properly maximal every among rising singlesFrom nested valid binary verdict lengthTest kOf extra total weight score recordsIn speciesTest countTest firstBad recordsTest shown marks upTo least clustersIn isLow lows each forks treesTo treesOn those all scoreOf treesOver leastTrees best allowedIn firstStrange allowedTest searchTests bestFor
+unfolding ab-c every-cluster lent ones onesIn trailingZeros whole single union has within apart size lowest keep some insert sorted recordOf properly maximal every among rising singlesFrom nested valid binary verdict lengthTest kOf extra total weight score pieces speciesTest countTest firstBad recordsTest shown marks upTo least clustersIn isLow lows each forks treesTo treesOn those all scoreOf treesOver leastTrees best allowedIn firstStrange allowedTest searchTests bestFor
 find-tables r s p f = (f .scoreTable, f .splitTable)
 
 -- the input `a`, `all`, `a;` prints three lines, the empty one `refused 1 at 0`
@@ -118,7 +118,7 @@ a-input : List ℕ
 a-input = 97 ∷ 10 ∷ 97 ∷ 108 ∷ 108 ∷ 10 ∷ 97 ∷ 59 ∷ 10 ∷ []
 
 a-output : output a-input ≡ taxaText ++ 49 ∷ genesText ++ 49 ∷ 10 ∷ scoreText ++ 48 ∷ 10 ∷ 97 ∷ 59 ∷ 10 ∷ []
-unfolding a-input lineLength firstLine behindLine endsInFeed modePlace treesPlace gatherTo gather searched program digitsTo decimal output ones onesIn trailingZeros whole single union has within apart size lowest keep some insert sorted recordOf properly maximal every among rising singlesFrom nested valid binary verdict lengthTest kOf extra total weight score recordsIn speciesTest countTest firstBad recordsTest shown marks upTo least clustersIn isLow lows each forks treesTo treesOn those all scoreOf treesOver leastTrees best allowedIn bestFor answerTo leafAt closing readTreeTo readTree readNode nextIs nextName blanks skip number numberBehind numbers name innerName run word padded same position begins beginnings nameAt names strayAt longAt manyAt againAt openAt faultAt firstFault faulty cluster clusters placed byLowest children drawnTo drawn treeText written nodeText
+unfolding a-input lineLength firstLine behindLine endsInFeed modePlace treesPlace gatherTo gather searched program digitsTo decimal output ones onesIn trailingZeros whole single union has within apart size lowest keep some insert sorted recordOf properly maximal every among rising singlesFrom nested valid binary verdict lengthTest kOf extra total weight score pieces speciesTest countTest firstBad recordsTest shown marks upTo least clustersIn isLow lows each forks treesTo treesOn those all scoreOf treesOver leastTrees best allowedIn bestFor answerTo leafAt closing readTreeTo readTree readNode nextIs nextName blanks skip number numberBehind numbers name innerName run word padded same position begins beginnings nameAt names strayAt longAt manyAt againAt openAt faultAt firstFault faulty cluster clusters placed byLowest children drawnTo drawn treeText written nodeText
 a-output = refl
 
 no-output : output [] ≡ refusedText ++ 49 ∷ atText ++ 48 ∷ 10 ∷ []

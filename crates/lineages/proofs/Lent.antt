@@ -1,24 +1,24 @@
 -- The gene records as they are lent, one after the other: one more of them, and that nothing behind the last is read.
 use Prim.Native.Nat.{ℕ, zero, suc, _+_, _-_, _*_, _≤_, _<_}
 use mathlib.Core.Path.{_≡_, refl, sym, ap, ap₂, _∙_}
-use mathlib.Core.List.{List, [], _∷_, List·Memᴰ, List·Memᴰ·head as here, List·Memᴰ·tail as there, Memᴰ·cast}
+use mathlib.Core.List.{List, [], _∷_, List·Memᴰ}
 use native.Mathlib.Nat.{zero-add, suc-add}
 use native.Mathlib.Decide.{decLe}
 use native.Mathlib.Omega.{arith}
 use lib.ListN.{length, take, drop, length-take, length-drop}
-use lib.Seq.{take-take, take-nil, drop-drop}
+use lib.Seq.{take-take, take-nil}
 use lib.Dec.{ltb}
 use borrow.Author.Tests.{lt-ltb, le-ltb}
+use Rattle.trees.specs.Lists.{pieces}
+use Rattle.trees.proofs.EqualPieces.{pieces-length, pieces-next, piece-among}
 use Rattle.lineages.specs.Count.{recordsIn}
 
 pub length-recordsIn : (count : ℕ) (genes : List ℕ) → length (recordsIn count genes) ≡ count
-unfolding recordsIn
-length-recordsIn zero genes = refl
-length-recordsIn (suc n) genes = ap suc (length-recordsIn n (drop 32 genes))
+length-recordsIn count genes = pieces-length 32 count genes
 
-records-one : (n : ℕ) (l : List ℕ) → recordsIn (suc n) l ≡ take 32 l ∷ recordsIn n (drop 32 l)
-unfolding recordsIn
-records-one n l = refl
+-- the i-th of them is one of them
+pub record-among : (i count : ℕ) (genes : List ℕ) → i < count → List·Memᴰ (take 32 (drop (32 * i) genes)) (recordsIn count genes)
+record-among i count genes l = piece-among 32 i count genes l
 
 -- ---- the records from the i-th on
 
@@ -32,32 +32,11 @@ records-from-first count genes = ap (λ (n : ℕ). recordsIn n genes) (omega ari
 -- the i-th record, and those behind it
 pub records-next : (i count : ℕ) (genes : List ℕ) → i < count → recordsFrom i count genes ≡ take 32 (drop (32 * i) genes) ∷ recordsFrom (i + 1) count genes
 unfolding recordsFrom
-records-next i count genes l =
-    ap (λ (n : ℕ). recordsIn n (drop (32 * i) genes)) more ∙ records-one (count - (i + 1)) (drop (32 * i) genes)
-    ∙ ap (λ (l : List ℕ). take 32 (drop (32 * i) genes) ∷ recordsIn (count - (i + 1)) l) behind
-  where
-    more : count - i ≡ suc (count - (i + 1))
-    more = omega arith
-
-    behind : drop 32 (drop (32 * i) genes) ≡ drop (32 * (i + 1)) genes
-    behind =
-        let sum : 32 * i + 32 ≡ 32 * (i + 1) = omega arith in
-        drop-drop 32 (32 * i) genes ∙ ap (λ (n : ℕ). drop n genes) sum
+records-next i count genes l = pieces-next 32 i count genes l
 
 pub records-from-last : (count : ℕ) (genes : List ℕ) → recordsFrom count count genes ≡ []
-unfolding recordsFrom recordsIn
+unfolding recordsFrom pieces
 records-from-last count genes = let none : count - count ≡ 0 = omega arith in ap (λ (n : ℕ). recordsIn n (drop (32 * count) genes)) none
-
--- the i-th of them is one of them
-pub record-among : (i count : ℕ) (genes : List ℕ) → i < count → List·Memᴰ (take 32 (drop (32 * i) genes)) (recordsIn count genes)
-unfolding recordsIn
-record-among i zero genes l = absurd (omega arith)
-record-among zero (suc n) genes l = here refl
-record-among (suc i) (suc n) genes l =
-    let more : 32 + 32 * i ≡ 32 * suc i = omega arith in
-    there
-    (Memᴰ·cast (ap (λ (j : ℕ). take 32 (drop j genes)) (sym more) ∙ ap (λ (k : List ℕ). take 32 k) (sym (drop-drop (32 * i) 32 genes)))
-    (record-among i n (drop 32 genes) (omega arith)))
 
 -- the part of the entries that a call is lent
 pub part-record : (i : ℕ) (genes : List ℕ) → take (32 * i + 32 - 32 * i) (drop (32 * i) genes) ≡ take 32 (drop (32 * i) genes)
@@ -85,7 +64,7 @@ drop-take (suc n) m (x ∷ l) = ap (λ (k : ℕ). drop (suc n) (take k (x ∷ l)
 
 -- the records are those of the entries that are needed
 pub records-needed : (count : ℕ) (genes : List ℕ) → recordsIn count (take (32 * count) genes) ≡ recordsIn count genes
-unfolding recordsIn
+unfolding pieces
 records-needed zero genes = refl
 records-needed (suc n) genes =
     let more : 32 * suc n ≡ 32 + 32 * n = omega arith in

@@ -1,10 +1,10 @@
 -- The count (01, "The count"): extra lineages of a cluster, its weight, and the score of a species tree.
-use Prim.Native.Nat.{ℕ, zero, suc, _+_, _-_}
+use Prim.Native.Nat.{ℕ, _+_, _-_}
 use mathlib.Core.Bool.{Bool}
 use mathlib.Core.List.{List, [], _∷_, map}
-use lib.ListN.{length, take, drop}
+use lib.ListN.{length}
 use Rattle.clusters.specs.Sets.{within}
-use Rattle.trees.specs.Lists.{keep}
+use Rattle.trees.specs.Lists.{keep, pieces}
 use Rattle.trees.specs.Records.{listed}
 use Rattle.trees.specs.Drawn.{maximal}
 
@@ -36,6 +36,5 @@ unfolding total
 score genes species = total (map (λ a. weight genes a) (listed species))
 
 -- the gene records that are handed over, one after the other: the first n of 32 numbers each
-unfoldable pub recordsIn : ℕ → List ℕ → List (List ℕ)
-recordsIn zero numbers = []
-recordsIn (suc n) numbers = take 32 numbers ∷ recordsIn n (drop 32 numbers)
+abbrev pub recordsIn : ℕ → List ℕ → List (List ℕ)
+recordsIn n numbers = pieces 32 n numbers

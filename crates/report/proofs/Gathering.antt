@@ -8,6 +8,7 @@ use lib.ListN.{length, drop, length-append}
 use lib.Seq.{sets, length-sets}
 use lib.Dec.{leb}
 use borrow.Author.Tests.{le-leb, lt-leb, leb-false}
+use Rattle.trees.specs.Lists.{pieces}
 use Rattle.tokens.specs.Tokens.{blanks}
 use Rattle.reader.specs.Promise.{answerTo, readingOf, Reads}
 use Rattle.reader.specs.declared.Reading.{Reading}
@@ -64,7 +65,7 @@ pub record Left (line trees : List ℕ) (count : ℕ) (genes : List ℕ) (at : �
   pub same : leftFrom line trees (513 - count) (recordsIn count genes) at ≡ gather line trees
 
 pub left-begins : {line trees genes : List ℕ} {at : ℕ} → length genes ≡ 16384 → at ≡ 0 + blanks (drop 0 trees) → Left line trees 0 genes at
-unfolding recordsIn
+unfolding pieces
 left-begins {line} {trees} e place = record { few = omega arith; lent = e; same = rw place (left-first line trees) }
 
 module _ {line trees : List ℕ} {count : ℕ} {genes : List ℕ} {at : ℕ} (now : Left line trees count genes at) where

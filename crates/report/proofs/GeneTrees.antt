@@ -11,6 +11,7 @@ use lib.ListN.{length, drop, length-append, length-drop}
 use lib.Dec.{leb}
 use borrow.Author.Tests.{leb-false, le-leb}
 use Rattle.clusters.specs.Sets.{whole}
+use Rattle.trees.specs.Lists.{pieces}
 use Rattle.trees.specs.Tree.{Tree, clusters}
 use Rattle.trees.specs.Records.{GeneValid, recordOf}
 use Rattle.trees.proofs.Bounds.{whole-below-sixteen}
@@ -161,10 +162,10 @@ gathered-genes trees {line} {genes} {n} {count} roster short e is number =
 
 module _ (genes : List ℕ) (all : Bool) (n : ℕ) where
   pub without-genes : {count : ℕ} → count ≡ 0 → refused 11 0 ≡ withGenes (recordsIn count genes) all n
-  unfolding recordsIn
+  unfolding pieces
   without-genes e = rw e
 
   pub with-some-genes : (count : ℕ) → (count ≡ 0 → ⊥) → searched n (recordsIn count genes) (allowedBy all n (recordsIn count genes)) ≡ withGenes (recordsIn count genes) all n
-  unfolding recordsIn
+  unfolding pieces
   with-some-genes zero f = absurd (f refl)
   with-some-genes (suc count) f = refl

@@ -7,6 +7,7 @@ use native.Mathlib.Numerals.{add-one}
 use native.Mathlib.Omega.{arith}
 use lib.ListN.{length, take, drop, set, length-drop}
 use lib.Seq.{sets, take-set-le, drop-set-add, take-at}
+use Rattle.trees.specs.Lists.{pieces}
 use Rattle.lineages.specs.Count.{recordsIn}
 use Rattle.trees.proofs.Stores.{sets-front}
 
@@ -25,7 +26,7 @@ drop-sets n l i (v ∷ vs) =
 records-snoc :
     (n : ℕ) (numbers r : List ℕ) → length r ≡ 32 → 32 * n + 32 ≤ length numbers
     → recordsIn (suc n) (sets numbers (32 * n) r) ≡ recordsIn n numbers ++ (r ∷ [])
-unfolding recordsIn
+unfolding pieces
 records-snoc zero numbers r e h =
     ap (λ (k : List ℕ). k ∷ [])
     (ap (take 32) (sets-front numbers r (omega arith)) ∙ take-at r (drop (length r) numbers) 32 e)

@@ -1,30 +1,16 @@
 // The gene trees, read one after the other.
 ghost use mathlib.Core.Path.{_≡_};
 ghost use Prim.Native.Nat.{_+_, _*_, _≤_};
-ghost use lib.ListN.{length, drop};
+ghost use lib.ListN.{length};
 ghost use lib.Seq.{sets};
-ghost use Rattle.tokens.specs.Tokens.{blanks};
 ghost use Rattle.report.specs.Input.{gather as Input·gather};
 ghost use Rattle.report.specs.Work.{gatheredIn};
+use tokens::blanks;
 
 // The gene trees were read, or one was refused.
 pub enum Trees {
     Gathered { count: usize },
     Stopped { number: u32, place: usize },
-}
-
-// The place behind the blanks that begin at `at`.
-fn behind_blanks(text: &[u8], at: usize) -> usize
-    ensures { λ r. ⌜ r ≡ at + blanks (drop at (now (text .entry))) ⌝ }
-{
-    let mut i = at;
-    while i < text.len() {
-        if !roster::is_blank(text[i]) {
-            return i;
-        }
-        i += 1;
-    }
-    i
 }
 
 // Puts a record behind the first `count`.
@@ -46,7 +32,7 @@ pub fn gather(line: &[u8], trees: &[u8], genes: &mut [u16]) -> Trees
     ensures { λ r. ⌜ gatheredIn (now (genes .exit)) r ≡ Input·gather (now (line .entry)) (now (trees .entry)) ⌝ }
 {
     let mut count: usize = 0;
-    let mut at = behind_blanks(trees, 0);
+    let mut at = blanks(trees, 0);
     while at < trees.len() {
         if count == 512 {
             return Trees::Stopped {
@@ -64,7 +50,7 @@ pub fn gather(line: &[u8], trees: &[u8], genes: &mut [u16]) -> Trees
         let numbers = reading.numbers;
         put(genes, count, numbers);
         count += 1;
-        at = behind_blanks(trees, reading.next);
+        at = blanks(trees, reading.next);
     }
     Trees::Gathered { count }
 }

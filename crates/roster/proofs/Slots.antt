@@ -6,8 +6,10 @@ use mathlib.Core.Path.{_≡_, sym, _∙_}
 use mathlib.Core.Bool.{true, false}
 use mathlib.Core.List.{List, _∷_}
 use lib.ListN.{length, getD, take, drop, length-drop, drop-of-length-le}
-use lib.Seq.{drop-cons, drop-drop, getD-drop, getD-take, length-take-le}
+use lib.Seq.{drop-cons, getD-drop, getD-take, length-take-le}
 use borrow.Author.Tests.{eq-eqb, ne-eqb}
+use Rattle.trees.specs.Lists.{pieces}
+use Rattle.trees.proofs.EqualPieces.{pieces-next}
 use Rattle.roster.specs.Roster.{same, position}
 use Rattle.roster.specs.Bytes.{run}
 use Rattle.roster.specs.Table.{slots, nonZero}
@@ -61,26 +63,18 @@ module _ (table : List ℕ) (i k : ℕ) (fits : 16 * i + 16 ≤ length table) (a
   unfolding same
   same-end name sixteen = let l : length name ≤ k = omega arith in rw (drop-of-length-le name l, drop-of-length-le (slot table i) beyond-slot)
 
--- the sixteens from the i-th on begin with the i-th
-pub slots-on : (table : List ℕ) (count i : ℕ) → i < count → slots (count - i) (drop (16 * i) table) ≡ slot table i ∷ slots (count - (i + 1)) (drop (16 * (i + 1)) table)
-unfolding slots
-slots-on table count i h =
-    let n : count - i ≡ suc (count - (i + 1)) = omega arith in
-    let next : 16 * i + 16 ≡ 16 * (i + 1) = omega arith in
-    rw (n, drop-drop 16 (16 * i) table, next)
-
 module _ (w table : List ℕ) (count i : ℕ) (h : i < count) where
   -- the i-th sixteen is the word
   pub position-here : same w (slot table i) ≡ true → position w (slots (count - i) (drop (16 * i) table)) ≡ 0
   unfolding position
-  position-here e = rw (slots-on table count i h, e)
+  position-here e = rw (pieces-next 16 i count table h, e)
 
   -- it is not: the word stands one further from there
   pub position-on : same w (slot table i) ≡ false → position w (slots (count - i) (drop (16 * i) table)) ≡ suc (position w (slots (count - (i + 1)) (drop (16 * (i + 1)) table)))
   unfolding position
-  position-on e = rw (slots-on table count i h, e)
+  position-on e = rw (pieces-next 16 i count table h, e)
 
 -- none is left
 pub position-end : (w table : List ℕ) (count i : ℕ) → count ≤ i → position w (slots (count - i) table) ≡ 0
-unfolding position slots
+unfolding position pieces
 position-end w table count i h = let n : count - i ≡ 0 = omega arith in rw n

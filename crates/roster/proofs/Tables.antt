@@ -7,6 +7,8 @@ use mathlib.Core.List.{List, [], _∷_, _++_, map, append-nil, append-assoc}
 use lib.ListN.{length, getD, take, drop, replicate, length-append, length-replicate}
 use lib.Seq.{take-at, drop-at, take-append-seam, take-all, take-take, drop-drop, paste}
 use borrow.Author.Tests.{ne-eqb}
+use Rattle.trees.specs.Lists.{pieces}
+use Rattle.trees.proofs.EqualPieces.{piece-at}
 use Rattle.roster.specs.Bytes.{run}
 use Rattle.roster.specs.Labels.{padded}
 use Rattle.roster.specs.Table.{packed, table, slots, nonZero}
@@ -32,7 +34,7 @@ packed-append [] ms = refl
 packed-append (w ∷ ns) ms = rw (packed-append ns ms) (sym (append-assoc (padded w) (packed ns) (packed ms)))
 
 slots-packed : (ns : List (List ℕ)) (rest : List ℕ) → Each Short ns → slots (length ns) (packed ns ++ rest) ≡ map padded ns
-unfolding slots packed Each
+unfolding pieces packed Each
 slots-packed [] rest all = refl
 slots-packed (w ∷ ns) rest all =
     let front = padded-length w (all .0) in
@@ -76,15 +78,6 @@ table-more ns w few all short =
     ∙ ap₂ (λ (l k : List ℕ). packed ns ++ l ++ k) middle back
     ∙ sym (ap (λ (l : List ℕ). l ++ replicate (512 - length l) 0) whole ∙ ap (λ (k : ℕ). packed ns ++ padded w ++ replicate (512 - k) 0) long)
 
--- the sixteens one by one
-slots-at : (n i : ℕ) (bytes : List ℕ) → i < n → getD (slots n bytes) i [] ≡ slot bytes i
-unfolding slots
-slots-at zero i bytes h = absurd (not-suc-le-zero h)
-slots-at (suc n) zero bytes h = refl
-slots-at (suc n) (suc i) bytes h =
-    let next : 16 + 16 * i ≡ 16 * suc i = omega arith in
-    slots-at n i (drop 16 bytes) (le-of-suc-le-suc h) ∙ rw (drop-drop (16 * i) 16 bytes, next)
-
 map-at : (ns : List (List ℕ)) (i : ℕ) → i < length ns → getD (map padded ns) i [] ≡ padded (getD ns i [])
 map-at [] i h = absurd (not-suc-le-zero h)
 map-at (w ∷ ns) zero h = refl
@@ -92,7 +85,7 @@ map-at (w ∷ ns) (suc i) h = map-at ns i (le-of-suc-le-suc h)
 
 -- the i-th sixteen of a table is its i-th name, padded
 pub table-slot : (ns : List (List ℕ)) (i : ℕ) → i < length ns → Each Short ns → slot (table ns) i ≡ padded (getD ns i [])
-table-slot ns i h all = sym (slots-at (length ns) i (table ns) h) ∙ ap (λ (l : List (List ℕ)). getD l i []) (slots-table ns all) ∙ map-at ns i h
+table-slot ns i h all = sym (piece-at 16 (length ns) i (table ns) h) ∙ ap (λ (l : List (List ℕ)). getD l i []) (slots-table ns all) ∙ map-at ns i h
 
 -- how long a padded name is, up to its first 0
 letters : (w : List ℕ) (n : ℕ) → Bare w → run nonZero (w ++ replicate n 0) ≡ length w

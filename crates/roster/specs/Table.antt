@@ -1,9 +1,10 @@
 -- Names in a table of sixteen bytes each, for at most 32 names.
-use Prim.Native.Nat.{ℕ, zero, suc, _-_}
+use Prim.Native.Nat.{ℕ, _-_}
 use mathlib.Core.Bool.{Bool, not}
 use mathlib.Core.List.{List, [], _∷_, _++_}
-use lib.ListN.{length, take, drop, replicate}
+use lib.ListN.{length, replicate}
 use lib.Dec.{eqb}
+use Rattle.trees.specs.Lists.{pieces}
 use Rattle.roster.specs.Labels.{padded}
 
 -- the names one after the other, each in sixteen bytes
@@ -17,9 +18,8 @@ unfolding packed
 table ns = packed ns ++ replicate (512 - length (packed ns)) 0
 
 -- the first n sixteens of a table
-unfoldable pub slots : ℕ → List ℕ → List (List ℕ)
-slots zero bytes = []
-slots (suc n) bytes = take 16 bytes ∷ slots n (drop 16 bytes)
+abbrev pub slots : ℕ → List ℕ → List (List ℕ)
+slots n bytes = pieces 16 n bytes
 
 -- a byte of a name in the table, and not one of the zeros behind it
 abbrev pub nonZero : ℕ → Bool

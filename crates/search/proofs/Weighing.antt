@@ -6,6 +6,7 @@ use native.Mathlib.Numerals.{add-one}
 use native.Mathlib.Omega.{arith}
 use lib.ListN.{length, getD, set, take, drop, replicate, replicate-append-replicate}
 use lib.Seq.{drop-drop}
+use Rattle.trees.specs.Lists.{pieces}
 use Rattle.roster.specs.Roster.{upTo}
 use Rattle.lineages.specs.Count.{extra, weight, recordsIn}
 use Rattle.lineages.specs.Work.{Countable, AllCountable}
@@ -49,7 +50,7 @@ module _ {g : List ℕ} {entries : ℕ} {lent weights : List ℕ} {a : ℕ} (h :
 -- ---- one gene tree more
 
 weight-more : (i : ℕ) (genes : List ℕ) (a : ℕ) → weight (recordsIn (suc i) genes) a ≡ weight (recordsIn i genes) a + extra (take 32 (drop (32 * i) genes)) a
-unfolding recordsIn
+unfolding pieces
 weight-more zero genes a = omega (arith, weight-cons (take 32 genes) [] a, weight-none a)
 weight-more (suc i) genes a =
     let places : 32 + 32 * i ≡ 32 * suc i = omega arith in
@@ -70,7 +71,7 @@ pub record WeighedBy (genes : List ℕ) (count entries : ℕ) (cleared weights :
   pub small : (b : ℕ) → weight (recordsIn i genes) b ≤ 31 * i
 
 pub weighed-start : (genes : List ℕ) (count entries : ℕ) (lent : List ℕ) {cleared : List ℕ} → cleared ≡ replicate entries 0 ++ drop entries lent → WeighedBy genes count entries cleared cleared 0
-unfolding recordsIn
+unfolding pieces
 weighed-start genes count entries lent {cleared} e =
     record {
       place = omega arith;

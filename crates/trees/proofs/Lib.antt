@@ -3,6 +3,7 @@ pub mod Children
 pub mod Counts
 pub mod Deciding
 pub mod Drawing
+pub mod EqualPieces
 pub mod Form
 pub mod Likeness
 pub mod Listing

@@ -1,7 +1,8 @@
 -- Words about lists of numbers that the other definitions use.
-use Prim.Native.Nat.{ℕ, _<_, min, max}
+use Prim.Native.Nat.{ℕ, zero, suc, _<_, min, max}
 use mathlib.Core.Bool.{Bool, true, false, _||_}
 use mathlib.Core.List.{List, [], _∷_, List·Memᴰ}
+use lib.ListN.{take, drop}
 
 -- x stands in the list
 abbrev pub Among : ℕ → List ℕ → Type 0
@@ -48,3 +49,8 @@ unfoldable pub sorted : List ℕ → List ℕ
 unfolding insert
 sorted [] = []
 sorted (x ∷ l) = insert x (sorted l)
+
+-- the first n pieces of a list, all of the same size
+unfoldable pub pieces : ℕ → ℕ → List ℕ → List (List ℕ)
+pieces size zero l = []
+pieces size (suc n) l = take size l ∷ pieces size n (drop size l)

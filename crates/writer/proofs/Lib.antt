@@ -2,7 +2,6 @@ pub mod Lengths
 pub mod TableNames
 pub mod RosterNames
 pub mod Derives
-pub mod Stores
 pub mod Largest
 pub mod Childwise
 pub mod NodeText

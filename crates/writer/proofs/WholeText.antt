@@ -34,7 +34,7 @@ use Rattle.writer.proofs.Lengths.{text-length}
 use Rattle.writer.proofs.TableNames.{names-at}
 use Rattle.writer.proofs.RosterNames.{GoodNames, good-names, table-name, table-names}
 use Rattle.trees.proofs.Stores.{sets-front}
-use Rattle.writer.proofs.Stores.{set-behind}
+use Rattle.trees.proofs.Stores.{set-behind}
 
 -- two lists of names that agree on a tree's leaves give it one text
 mutual

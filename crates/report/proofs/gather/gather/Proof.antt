@@ -11,11 +11,11 @@ Inv-loop line trees genes₀ count₀ at₀ genes count at = Left line trees cou
 abbrev μ-loop : tie.MeasureT-loop
 μ-loop line trees genes₀ count₀ at₀ genes count at = 513 - count
 
-behind-blanks-requires : tie.Need-behind-blanks-requires Inv-loop μ-loop
-behind-blanks-requires c κs = search needs
+blanks-requires : tie.Need-blanks-requires Inv-loop μ-loop
+blanks-requires c κs = search needs
 
 loop-holds : tie.Need-loop-holds Inv-loop μ-loop
-loop-holds c = left-begins (c .before .before .before .before .pre) (c .behind-blanks .ensures)
+loop-holds c = left-begins (c .before .before .before .before .pre) (c .blanks .ensures)
 
 same-length : tie.Need-same-length Inv-loop μ-loop
 same-length c = search needs
@@ -42,8 +42,8 @@ put-requires c κs = search needs
 add-count : tie.Need-add-count Inv-loop μ-loop
 add-count c = search needs
 
-behind-blanks-requires-2 : tie.Need-behind-blanks-requires-2 Inv-loop μ-loop
-behind-blanks-requires-2 c κs = search needs
+blanks-requires-2 : tie.Need-blanks-requires-2 Inv-loop μ-loop
+blanks-requires-2 c κs = search needs
 
 loop-less : tie.Need-loop-less Inv-loop μ-loop
 loop-less c = search needs
@@ -58,7 +58,7 @@ loop-again c =
     (told .if2 .left)
     (put .put .ensures .0)
     (put .put .ensures .1)
-    (c .behind-blanks2 .ensures)
+    (c .blanks2 .ensures)
 
 same-length-3 : tie.Need-same-length-3 Inv-loop μ-loop
 same-length-3 c = search needs
@@ -72,7 +72,7 @@ gather-spec =
     (tie.spec
     Inv-loop
     μ-loop
-    behind-blanks-requires
+    blanks-requires
     loop-holds
     same-length
     returns
@@ -81,7 +81,7 @@ gather-spec =
     returns-2
     put-requires
     add-count
-    behind-blanks-requires-2
+    blanks-requires-2
     loop-less
     loop-again
     same-length-3

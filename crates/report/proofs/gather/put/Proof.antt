@@ -5,7 +5,7 @@ use native.Mathlib.Omega.{arith}
 use lib.ListN.{length, take, length-set}
 use lib.Seq.{sets, take-length}
 use borrow.Author.Needs.{needs}
-use Rattle.writer.proofs.Stores.{copy-more}
+use Rattle.trees.proofs.Stores.{copy-more}
 use Rattle.report.proofs.gather.put.Statement.{statement}
 use Rattle.report.proofs.gather.put.Tie as tie
 

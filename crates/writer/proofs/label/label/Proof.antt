@@ -6,7 +6,7 @@ use borrow.Author.Needs.{needs}
 use lib.ListN.{length, take, length-set}
 use lib.Seq.{sets, take-length}
 use Rattle.writer.specs.Work.{nameIn}
-use Rattle.writer.proofs.Stores.{copy-more}
+use Rattle.trees.proofs.Stores.{copy-more}
 use Rattle.writer.proofs.TableNames.{name-length, name-short, name-byte}
 use Rattle.writer.proofs.label.label.Statement.{statement}
 use Rattle.writer.proofs.label.label.Tie as tie
