@@ -1,5 +1,5 @@
 -- Words about lists of numbers that the other definitions use.
-use Prim.Native.Nat.{ℕ, _<_, min, max}
+use Prim.Native.Nat.{ℕ, _+_, _<_, min, max}
 use mathlib.Core.Bool.{Bool, true, false, _||_}
 use mathlib.Core.List.{List, [], _∷_, List·Memᴰ}
 
@@ -48,3 +48,8 @@ unfoldable pub sorted : List ℕ → List ℕ
 unfolding insert
 sorted [] = []
 sorted (x ∷ l) = insert x (sorted l)
+
+-- the sum of a list of numbers
+unfoldable pub total : List ℕ → ℕ
+total [] = 0
+total (x ∷ l) = x + total l
