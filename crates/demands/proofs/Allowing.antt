@@ -17,7 +17,7 @@ use Rattle.trees.proofs.Recorded.{among-record, record-among}
 use Rattle.trees.proofs.ValidTest.{tells-among}
 use Rattle.lineages.specs.Promise.{shown as shownIn, flag, marks}
 use Rattle.lineages.proofs.Shown.{map-upTo}
-use Rattle.search.specs.Promise.{allowedIn}
+use Rattle.tables.specs.Allowed.{allowedIn}
 use Rattle.report.specs.Words.{allWord, genesWord}
 use Rattle.report.specs.Program.{allowedBy}
 use Rattle.demands.specs.GeneTrees.{RecordsOf}

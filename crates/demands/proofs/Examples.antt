@@ -8,7 +8,7 @@ use Rattle.demands.specs.Examples.Row.{recorded, counted, scored, search
 use Rattle.demands.specs.Examples.Allowed.{every, own, only}
 use Rattle.clusters.specs.Sets.{whole, single, union, has, within, apart, size, lowest}
 use Rattle.demands.specs.Examples.{recordIn, foundIn, holds, allHold}
-use Rattle.lineages.specs.Count.{kOf, extra, total, weight, score}
+use Rattle.lineages.specs.Count.{kOf, extra, weight, score}
 use Rattle.lineages.specs.Promise.{shown, marks}
 use Rattle.tokens.specs.Tokens.{nextIs, nextName, blanks, skip, number, numberBehind, numbers, name, innerName}
 use Rattle.reader.specs.Promise.{answerTo}
@@ -16,11 +16,12 @@ use Rattle.reader.specs.Reading.{leafAt, closing, readTreeTo, readTree, readNod
 use Rattle.roster.specs.Bytes.{run}
 use Rattle.roster.specs.Labels.{word, padded}
 use Rattle.roster.specs.Roster.{upTo, same, position, begins, beginnings, nameAt, names, strayAt, longAt, manyAt, againAt, openAt, faultAt, least, firstFault, faulty}
-use Rattle.search.specs.BinaryTrees.{clustersIn, isLow, lows, each, forks, treesTo, treesOn}
-use Rattle.search.specs.Least.{those, all, scoreOf, treesOver, leastTrees, best}
-use Rattle.search.specs.Promise.{allowedIn, bestFor}
+use Rattle.tables.specs.BinaryTrees.{clustersIn, isLow, lows, each, forks, treesTo, treesOn}
+use Rattle.tables.specs.Least.{those, all, scoreOf, treesOver, leastTrees, best}
+use Rattle.tables.specs.Allowed.{allowedIn}
+use Rattle.search.specs.Promise.{bestFor}
 use Rattle.trees.specs.Drawn.{properly, maximal, placed, byLowest, children, drawnTo, drawn}
-use Rattle.trees.specs.Lists.{keep, some, insert, sorted, pieces}
+use Rattle.trees.specs.Lists.{keep, some, insert, sorted, pieces, total}
 use Rattle.trees.specs.Records.{recordOf}
 use Rattle.trees.specs.Tree.{cluster, clusters}
 use Rattle.trees.specs.Valid.{every as every-trees, among, rising, singlesFrom}

@@ -23,8 +23,8 @@ use Rattle.writer.specs.Promise.{rosterTest, recordTest, writeTests, outBy, Wri
 use Rattle.lineages.specs.Count.{weight, score, recordsIn}
 use Rattle.lineages.specs.Checks.{speciesTest, countTest, speciesRecordTest, recordsTest, clusterTest, weightTests, scoreTests, markTests}
 use Rattle.lineages.specs.Promise.{Weighs, Scores, Marks, markedBy}
-use Rattle.search.specs.BinaryTrees.{Binary}
-use Rattle.search.specs.Least.{scoreEntry, splitEntry}
+use Rattle.tables.specs.BinaryTrees.{Binary}
+use Rattle.tables.specs.Least.{scoreEntry, splitEntry}
 use Rattle.search.specs.Promise.{allowedTest, searchTests, bestFor, foundBy, foundOr, filledBy, Finds}
 use Rattle.search.specs.declared.Found.{Found}
 use Rattle.search.proofs.Accepted.{NoneGives, no-fourteen}

@@ -9,7 +9,8 @@ use Rattle.trees.specs.Drawn.{drawn}
 use Rattle.trees.specs.Records.{listed, recordOf, GeneValid}
 use Rattle.trees.proofs.Bounds.{whole-below-sixteen}
 use Rattle.trees.proofs.Drawing.{drawn-on, drawn-record}
-use Rattle.lineages.specs.Count.{kOf, extra, total, weight, score}
+use Rattle.trees.specs.Lists.{total}
+use Rattle.lineages.specs.Count.{kOf, extra, weight, score}
 use Rattle.lineages.specs.Lineages.{lineages}
 use Rattle.lineages.proofs.CountedDown.{k-counted-down, k-of-record}
 use Rattle.demands.specs.GeneTrees.{RecordsOf, scoreOver}

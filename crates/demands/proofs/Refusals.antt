@@ -15,7 +15,7 @@ use Rattle.roster.specs.declared.Reply.{Reply}
 use Rattle.writer.specs.Promise.{outBy}
 use Rattle.lineages.specs.Count.{recordsIn}
 use Rattle.lineages.specs.Promise.{markedBy}
-use Rattle.search.specs.BinaryTrees.{Binary}
+use Rattle.tables.specs.BinaryTrees.{Binary}
 use Rattle.search.specs.Promise.{searchTests, bestFor, foundBy, foundOr, filledBy, Finds}
 use Rattle.search.specs.declared.Found.{Found}
 use Rattle.search.proofs.Accepted.{NoneGives}

@@ -7,7 +7,7 @@ use mathlib.Core.List.{List, map}
 use native.Mathlib.Omega.{arith}
 use lib.ListN.{length, take}
 use Rattle.clusters.specs.Sets.{whole, within}
-use Rattle.trees.specs.Lists.{Among, keep}
+use Rattle.trees.specs.Lists.{Among, keep, total}
 use Rattle.trees.specs.Tree.{Tree, On, clusters}
 use Rattle.trees.specs.Drawn.{maximal}
 use Rattle.trees.specs.Records.{listed, recordOf, ValidOn}
@@ -30,7 +30,7 @@ use Rattle.writer.proofs.RosterNames.{good-names}
 use Rattle.writer.proofs.Lengths.{text-most}
 use Rattle.writer.proofs.Outcomes.{writes-once, writes-done}
 use Rattle.writer.proofs.RoundTrip.{write-read, reads-zero}
-use Rattle.lineages.specs.Count.{kOf, extra, total, weight, score, recordsIn}
+use Rattle.lineages.specs.Count.{kOf, extra, weight, score, recordsIn}
 use Rattle.lineages.specs.Lineages.{lineages}
 use Rattle.lineages.specs.Checks.{weightTests}
 use Rattle.lineages.specs.Promise.{Weighs, Scores}

@@ -7,7 +7,7 @@ use lib.Count.{ones, onesIn, trailingZeros}
 use lib.ListN.{length, take, getD, replicate}
 use Rattle.clusters.specs.Sets.{whole, single, union, has, within, apart, size, lowest}
 use Rattle.trees.specs.Drawn.{properly, maximal, placed, byLowest, children, drawnTo, drawn}
-use Rattle.trees.specs.Lists.{keep, some, insert, sorted, pieces}
+use Rattle.trees.specs.Lists.{keep, some, insert, sorted, pieces, total}
 use Rattle.trees.specs.Records.{recordOf}
 use Rattle.trees.specs.Tree.{cluster, clusters}
 use Rattle.trees.specs.Valid.{every, among, rising, singlesFrom, nested, valid, binary}
@@ -23,12 +23,13 @@ use Rattle.reader.specs.Reading.{leafAt, closing, readTreeTo, readTree, readNod
 use Rattle.reader.specs.declared.Reading.{Reading}
 use Rattle.writer.specs.Writing.{treeText, written, nodeText}
 use Rattle.writer.specs.Promise.{rosterTest, recordTest, writeTests, Writes}
-use Rattle.lineages.specs.Count.{kOf, extra, total, weight, score}
+use Rattle.lineages.specs.Count.{kOf, extra, weight, score}
 use Rattle.lineages.specs.Checks.{speciesTest, countTest, speciesRecordTest, firstBad, recordsTest, clusterTest, weightTests, scoreTests, markTests}
 use Rattle.lineages.specs.Promise.{shown, marks, Weighs, Scores, Marks}
-use Rattle.search.specs.BinaryTrees.{clustersIn, isLow, lows, each, forks, treesTo, treesOn}
-use Rattle.search.specs.Least.{those, all, scoreOf, treesOver, leastTrees, best, noTree}
-use Rattle.search.specs.Promise.{allowedIn, firstStrange, allowedTest, searchTests, bestFor, Finds}
+use Rattle.tables.specs.BinaryTrees.{clustersIn, isLow, lows, each, forks, treesTo, treesOn}
+use Rattle.tables.specs.Least.{those, all, scoreOf, treesOver, leastTrees, best, noTree}
+use Rattle.tables.specs.Allowed.{allowedIn}
+use Rattle.search.specs.Promise.{firstStrange, allowedTest, searchTests, bestFor, Finds}
 use Rattle.search.specs.declared.Found.{Found}
 use Rattle.report.specs.Words.{taxaText, genesText, scoreText, refusedText, atText, digitsTo, decimal}
 use Rattle.report.specs.Input.{lineLength, firstLine, behindLine, endsInFeed, modePlace, treesPlace, gatherTo, gather}

@@ -14,8 +14,8 @@ use Rattle.roster.specs.Roster.{names}
 use Rattle.writer.specs.Writing.{written}
 use Rattle.writer.proofs.RoundTrip.{reads-back}
 use Rattle.lineages.specs.Count.{weight}
-use Rattle.search.specs.BinaryTrees.{clustersIn}
-use Rattle.search.specs.Least.{scoreOf}
+use Rattle.tables.specs.BinaryTrees.{clustersIn}
+use Rattle.tables.specs.Least.{scoreOf}
 use Rattle.search.specs.Candidates.{Candidate}
 use Rattle.search.proofs.Demand.{found-answers}
 use Rattle.report.specs.Words.{allWord, genesWord, taxaText, genesText, scoreText, newline, decimal}

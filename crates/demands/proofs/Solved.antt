@@ -14,8 +14,8 @@ use Rattle.roster.specs.Roster.{names, faulty, same}
 use Rattle.roster.specs.Judged.{speciesMost}
 use Rattle.roster.proofs.Positions.{same-is}
 use Rattle.lineages.specs.Count.{weight}
-use Rattle.search.specs.BinaryTrees.{Binary, clustersIn}
-use Rattle.search.specs.Least.{scoreOf}
+use Rattle.tables.specs.BinaryTrees.{Binary, clustersIn}
+use Rattle.tables.specs.Least.{scoreOf}
 use Rattle.search.specs.Promise.{bestFor, foundBy}
 use Rattle.reader.specs.Promise.{textMost}
 use Rattle.report.specs.Words.{allWord, genesWord}

@@ -14,8 +14,8 @@ use Rattle.trees.specs.Records.{recordOf}
 use Rattle.roster.specs.Roster.{names, faulty, same}
 use Rattle.roster.specs.Judged.{speciesMost}
 use Rattle.lineages.specs.Count.{weight}
-use Rattle.search.specs.BinaryTrees.{Binary, clustersIn}
-use Rattle.search.specs.Least.{scoreOf}
+use Rattle.tables.specs.BinaryTrees.{Binary, clustersIn}
+use Rattle.tables.specs.Least.{scoreOf}
 use Rattle.search.specs.Promise.{bestFor}
 use Rattle.search.proofs.Demand.{found-answers, none-competes}
 use Rattle.reader.specs.Promise.{textMost}

@@ -12,7 +12,8 @@ use Rattle.trees.proofs.ValidTest.{valid-decides}
 use Rattle.roster.specs.declared.Reply.{Reply}
 use Rattle.lineages.specs.Count.{score, recordsIn}
 use Rattle.lineages.specs.Promise.{Scores}
-use Rattle.search.specs.Promise.{allowedIn, Finds}
+use Rattle.tables.specs.Allowed.{allowedIn}
+use Rattle.search.specs.Promise.{Finds}
 use Rattle.search.specs.declared.Found.{Found}
 use Rattle.search.specs.Candidates.{Accepted, Candidate, EarlierRecord}
 use Rattle.search.proofs.Demand.{answer, zero-exactly, fourteen-exactly, more-allowed-clusters, more-gene-trees}

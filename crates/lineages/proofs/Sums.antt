@@ -9,7 +9,8 @@ use Rattle.clusters.specs.Sets.{whole, single}
 use Rattle.clusters.proofs.Members.{whole-has}
 use Rattle.clusters.proofs.Sizes.{size-whole}
 use Rattle.trees.specs.Records.{count, listed, SpeciesValid}
-use Rattle.lineages.specs.Count.{extra, total, weight, score}
+use Rattle.trees.specs.Lists.{total}
+use Rattle.lineages.specs.Count.{extra, weight, score}
 use Rattle.lineages.specs.Work.{AllValid}
 use Rattle.lineages.proofs.Bounds.{extra-of-single, extra-of-whole, extra-lt-all}
 

@@ -4,7 +4,7 @@ use mathlib.Core.Bool.{Bool}
 use mathlib.Core.List.{List, [], _∷_, map}
 use lib.ListN.{length}
 use Rattle.clusters.specs.Sets.{within}
-use Rattle.trees.specs.Lists.{keep, pieces}
+use Rattle.trees.specs.Lists.{keep, pieces, total}
 use Rattle.trees.specs.Records.{listed}
 use Rattle.trees.specs.Drawn.{maximal}
 
@@ -19,11 +19,6 @@ kOf cs a = length (maximal (keep (λ x. within x a) cs))
 -- the extra lineages of A in one gene tree: "k - 1"
 unfoldable pub extra : List ℕ → ℕ → ℕ
 extra g a = kOf (shownBy g) a - 1
-
--- the sum of a list of numbers
-unfoldable pub total : List ℕ → ℕ
-total [] = 0
-total (x ∷ l) = x + total l
 
 -- "The weight of A is the sum over all gene trees of k - 1"
 unfoldable pub weight : List (List ℕ) → ℕ → ℕ

@@ -9,12 +9,13 @@ use lib.Pow.{pow-mono}
 use Rattle.clusters.specs.Sets.{whole}
 use Rattle.trees.specs.Records.{ValidOn}
 use Rattle.lineages.specs.Count.{recordsIn, weight}
-use Rattle.search.specs.BinaryTrees.{Binary}
-use Rattle.search.specs.Promise.{allowedIn, bestFor, foundBy, Finds}
+use Rattle.tables.specs.BinaryTrees.{Binary}
+use Rattle.tables.specs.Allowed.{allowedIn}
+use Rattle.tables.proofs.Recurrence.{best-on}
+use Rattle.search.specs.Promise.{bestFor, foundBy, Finds}
 use Rattle.search.specs.declared.Found.{Found}
 use Rattle.search.specs.Candidates.{Accepted}
 use Rattle.search.proofs.Accepted.{accepts}
-use Rattle.search.proofs.Recurrence.{best-on}
 use Rattle.search.proofs.RecordsOfTrees.{tree-valid, whole-narrow}
 use Rattle.report.specs.Program.{outcomeOf, searched}
 use Rattle.report.specs.Program.Outcome.{refused, solved}

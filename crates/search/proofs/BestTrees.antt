@@ -13,20 +13,19 @@ use Rattle.clusters.specs.Sets.{Has, Within, size, lowest}
 use Rattle.clusters.proofs.Members.{has-dec}
 use Rattle.clusters.proofs.Sets.{minus-within, minus-has}
 use Rattle.clusters.proofs.LowestSpecies.{lowest-has}
-use Rattle.trees.specs.Lists.{Among}
+use Rattle.trees.specs.Lists.{Among, total}
 use Rattle.trees.specs.Valid.{every}
-use Rattle.lineages.specs.Count.{total}
-use Rattle.search.specs.BinaryTrees.{Binary, clustersIn, treesOn}
-use Rattle.search.specs.BinaryTrees.Binary.{fork}
-use Rattle.search.specs.WellFormed.{LowPart, TreeOn}
-use Rattle.search.specs.WellFormed.TreeOn.{one, two}
-use Rattle.search.specs.Order.{Earlier, Ordered}
-use Rattle.search.specs.Least.{scoreOf, best, scoreEntry, splitEntry}
-use Rattle.search.proofs.FirstLeast.{chosen, pick, pickAll, pickAll-same, gateBy, pickAll-least, pickAll-missed, pickAll-scores}
-use Rattle.search.proofs.LowParts.{low-some}
-use Rattle.search.proofs.Membership.{listed-well-formed, well-formed-listed, tree-root}
-use Rattle.search.proofs.Enumeration.{treesOn-ordered}
-use Rattle.search.proofs.Recurrence.{total-same, gated, gated-same, best-choice, best-listed, best-on, best-fork, allowed-of-best, score-fork}
+use Rattle.tables.specs.BinaryTrees.{Binary, clustersIn, treesOn}
+use Rattle.tables.specs.BinaryTrees.Binary.{fork}
+use Rattle.tables.specs.WellFormed.{LowPart, TreeOn}
+use Rattle.tables.specs.WellFormed.TreeOn.{one, two}
+use Rattle.tables.specs.Order.{Earlier, Ordered}
+use Rattle.tables.specs.Least.{scoreOf, best, scoreEntry, splitEntry}
+use Rattle.tables.proofs.FirstLeast.{chosen, pick, pickAll, pickAll-same, gateBy, pickAll-least, pickAll-missed, pickAll-scores}
+use Rattle.tables.proofs.LowParts.{low-some}
+use Rattle.tables.proofs.Membership.{listed-well-formed, well-formed-listed, tree-root}
+use Rattle.tables.proofs.Enumeration.{treesOn-ordered}
+use Rattle.tables.proofs.Recurrence.{total-same, gated, gated-same, best-choice, best-listed, best-on, best-fork, allowed-of-best, score-fork}
 use Rattle.search.proofs.DrawnBinary.{InFork, among-fork, tree-inside}
 use Rattle.search.proofs.DrawnBinary.InFork.{at-root, in-low, in-other}
 

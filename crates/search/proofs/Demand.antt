@@ -22,14 +22,15 @@ use Rattle.lineages.specs.Count.{weight, score, recordsIn}
 use Rattle.roster.specs.Verdict.{verdict, lengthTest}
 use Rattle.lineages.proofs.Sums.{score-append}
 use Rattle.lineages.proofs.Lent.{records-needed, short-needed}
-use Rattle.search.specs.BinaryTrees.{Binary, clustersIn}
-use Rattle.search.specs.WellFormed.{TreeOn}
-use Rattle.search.specs.Order.{Earlier}
-use Rattle.search.specs.Least.{scoreOf, scoreEntry, splitEntry, best}
-use Rattle.search.specs.Promise.{allowedIn, firstStrange, allowedTest, searchTests, bestFor, foundBy, foundOr, filledBy, Finds}
+use Rattle.tables.specs.BinaryTrees.{Binary, clustersIn}
+use Rattle.tables.specs.WellFormed.{TreeOn}
+use Rattle.tables.specs.Order.{Earlier}
+use Rattle.tables.specs.Least.{scoreOf, scoreEntry, splitEntry, best}
+use Rattle.tables.specs.Allowed.{allowedIn}
+use Rattle.tables.proofs.LowParts.{among-upTo}
+use Rattle.tables.proofs.Recurrence.{best-on}
+use Rattle.search.specs.Promise.{firstStrange, allowedTest, searchTests, bestFor, foundBy, foundOr, filledBy, Finds}
 use Rattle.search.specs.declared.Found.{Found}
-use Rattle.search.proofs.LowParts.{among-upTo}
-use Rattle.search.proofs.Recurrence.{best-on}
 use Rattle.search.proofs.RecordsOfTrees.{tree-valid, tree-binary, tree-of-record, TreeOfRecord, score-of-record, whole-narrow}
 use Rattle.search.proofs.BestTrees.{Over, best-over, best-least, best-first, best-missed, best-local, LeastSplit, lemma-two}
 use Rattle.search.specs.Candidates.{Accepted, Candidate, EarlierRecord, Answer}

@@ -17,8 +17,9 @@ use Rattle.lineages.specs.Work.{shapeTests, said}
 use Rattle.lineages.proofs.Lent.{length-recordsIn}
 use Rattle.lineages.proofs.Verdicts.{verdict-first, Shaped, shape-passed}
 use Rattle.lineages.proofs.FirstBad.{checked-countable}
-use Rattle.search.specs.Least.{scoreEntry, splitEntry}
-use Rattle.search.specs.Promise.{allowedIn, firstStrange, allowedTest, searchTests, bestFor, foundBy, foundOr, filledBy, Finds}
+use Rattle.tables.specs.Least.{scoreEntry, splitEntry}
+use Rattle.tables.specs.Allowed.{allowedIn}
+use Rattle.search.specs.Promise.{firstStrange, allowedTest, searchTests, bestFor, foundBy, foundOr, filledBy, Finds}
 use Rattle.search.specs.Work.{without, LongEnough, Checked, Solves}
 use Rattle.search.specs.declared.Found.{Found}
 use Rattle.lineages.proofs.Calls.{record-refused, records-passed}

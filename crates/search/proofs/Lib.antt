@@ -1,21 +1,9 @@
--- The mathematics of the search: trees, their order and number, the first least, and what the promise gives; then what the code keeps while it runs.
-pub mod LowParts
-pub mod FirstLeast
-pub mod Membership
-pub mod Recurrence
-pub mod FallingParts
-pub mod Enumeration
-pub mod TreeCounts
+-- The mathematics of the search: its trees and their records, and what the promise gives; then what the code keeps while it runs.
 pub mod DrawnBinary
 pub mod RecordsOfTrees
 pub mod BestTrees
 pub mod Accepted
 pub mod Demand
-pub mod SplitChoice
-pub mod Written
-pub mod Settling
-pub mod Reached
-pub mod Descent
 pub mod Weighing
 pub mod Solving
 pub mod Finding

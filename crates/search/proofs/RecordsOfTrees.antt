@@ -9,21 +9,21 @@ use lib.Pow.{pow-mono}
 use Rattle.clusters.specs.Sets.{Within, whole, size, lowest}
 use Rattle.clusters.proofs.Members.{has-of-within, has-of-apart}
 use Rattle.clusters.proofs.Sets.{within-antisym, within-le, within-apart, apart-within, minus-apart, whole-below}
-use Rattle.trees.specs.Lists.{Among, sorted, insert}
+use Rattle.trees.specs.Lists.{Among, sorted, insert, total}
 use Rattle.trees.specs.Records.{count, listed, recordOf, ValidOn, BinaryOn}
 use Rattle.trees.specs.Tree.{Tree, cluster, clusters}
 use Rattle.trees.specs.Drawn.{drawn}
 use Rattle.trees.proofs.Counts.{binary-of-clusters}
 use Rattle.trees.proofs.Recorded.{count-record, listed-record, record-same, among-record, record-among, valid-of-drawn}
 use Rattle.trees.proofs.Drawing.{drawn-on, drawn-record}
-use Rattle.lineages.specs.Count.{total, weight, score}
-use Rattle.search.specs.BinaryTrees.{Binary, root, clustersIn, treesOn}
-use Rattle.search.specs.BinaryTrees.Binary.{fork}
-use Rattle.search.specs.WellFormed.{LowPart, TreeOn}
-use Rattle.search.specs.WellFormed.TreeOn.{one, two}
-use Rattle.search.specs.Least.{scoreOf}
-use Rattle.search.proofs.LowParts.{low-some, low-part-two}
-use Rattle.search.proofs.Membership.{tree-clusters, listed-well-formed, well-formed-listed}
+use Rattle.lineages.specs.Count.{weight, score}
+use Rattle.tables.specs.BinaryTrees.{Binary, root, clustersIn, treesOn}
+use Rattle.tables.specs.BinaryTrees.Binary.{fork}
+use Rattle.tables.specs.WellFormed.{LowPart, TreeOn}
+use Rattle.tables.specs.WellFormed.TreeOn.{one, two}
+use Rattle.tables.specs.Least.{scoreOf}
+use Rattle.tables.proofs.LowParts.{low-some, low-part-two}
+use Rattle.tables.proofs.Membership.{tree-clusters, listed-well-formed, well-formed-listed}
 use Rattle.search.proofs.DrawnBinary.{InFork, among-fork, fork-among, tree-inside, tree-once, drawing, drawing-on, drawing-among, among-drawing, lowTree, lowTree-on, lowTree-among, among-lowTree}
 use Rattle.search.proofs.DrawnBinary.InFork.{at-root, in-low, in-other}
 

@@ -14,19 +14,21 @@ use Rattle.trees.specs.Records.{recordOf}
 use Rattle.roster.specs.Roster.{upTo}
 use Rattle.lineages.specs.Count.{weight, recordsIn}
 use Rattle.lineages.proofs.RunningSums.{weight-small}
-use Rattle.search.specs.BinaryTrees.{Binary, root, clustersIn}
-use Rattle.search.specs.BinaryTrees.Binary.{tip, fork}
-use Rattle.search.specs.WellFormed.{TreeOn}
-use Rattle.search.specs.WellFormed.TreeOn.{two}
-use Rattle.search.specs.Least.{best, noTree, scoreOf, scoreEntry, splitEntry}
-use Rattle.search.specs.Promise.{allowedIn, bestFor, foundBy, filledBy}
-use Rattle.search.specs.Work.{Light, Weights, Fillable, Fills, Chosen, Chooses, without, LongEnough, Checked, Solves}
+use Rattle.tables.specs.BinaryTrees.{Binary, root, clustersIn}
+use Rattle.tables.specs.BinaryTrees.Binary.{tip, fork}
+use Rattle.tables.specs.WellFormed.{TreeOn}
+use Rattle.tables.specs.WellFormed.TreeOn.{two}
+use Rattle.tables.specs.Least.{best, noTree, scoreOf, scoreEntry, splitEntry}
+use Rattle.tables.specs.Allowed.{allowedIn}
+use Rattle.tables.specs.Work.{Light, Weights, Fillable, Fills, Chosen, Chooses}
+use Rattle.tables.proofs.LowParts.{low-part-two, low-some}
+use Rattle.tables.proofs.Membership.{tree-root, tree-clusters}
+use Rattle.tables.proofs.Recurrence.{best-on, score-bound, BestFork, best-fork}
+use Rattle.tables.proofs.Reached.{entries-few, below-of-whole}
+use Rattle.tables.proofs.Written.{written, written-length, written-at, written-behind, written-again, written-entries}
+use Rattle.search.specs.Promise.{bestFor, foundBy, filledBy}
+use Rattle.search.specs.Work.{without, LongEnough, Checked, Solves}
 use Rattle.search.specs.declared.Found.{Found}
-use Rattle.search.proofs.LowParts.{low-part-two, low-some}
-use Rattle.search.proofs.Membership.{tree-root, tree-clusters}
-use Rattle.search.proofs.Recurrence.{best-on, score-bound, BestFork, best-fork}
-use Rattle.search.proofs.Reached.{entries-few, below-of-whole}
-use Rattle.search.proofs.Written.{written, written-length, written-at, written-behind, written-again, written-entries}
 
 -- ---- the split table leads down the best tree
 

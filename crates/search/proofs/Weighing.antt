@@ -13,7 +13,7 @@ use Rattle.lineages.specs.Work.{Countable, AllCountable}
 use Rattle.lineages.proofs.Sums.{weight-none, weight-cons}
 use Rattle.lineages.proofs.Checked.{extra-le}
 use Rattle.lineages.proofs.Lent.{record-among}
-use Rattle.search.proofs.Written.{written, written-none, written-next, written-length, written-at, written-behind, written-same, written-again, written-entries}
+use Rattle.tables.proofs.Written.{written, written-none, written-next, written-length, written-at, written-behind, written-same, written-again, written-entries}
 
 -- ---- one gene tree is added
 

@@ -10,10 +10,10 @@ use Rattle.trees.specs.Lists.{Among}
 use Rattle.trees.specs.Records.{listed, recordOf, ValidOn, BinaryOn}
 use Rattle.trees.specs.Valid.{valid}
 use Rattle.lineages.specs.Count.{recordsIn, score}
-use Rattle.search.specs.BinaryTrees.{Binary, clustersIn}
-use Rattle.search.specs.Order.{Earlier}
-use Rattle.search.specs.WellFormed.{TreeOn}
-use Rattle.search.specs.Promise.{allowedIn}
+use Rattle.tables.specs.BinaryTrees.{Binary, clustersIn}
+use Rattle.tables.specs.Order.{Earlier}
+use Rattle.tables.specs.WellFormed.{TreeOn}
+use Rattle.tables.specs.Allowed.{allowedIn}
 use Rattle.search.specs.declared.Found.{Found}
 
 -- no test finds a fault

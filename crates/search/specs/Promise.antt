@@ -1,24 +1,21 @@
 -- What `search` promises (01, "The count" and "Numbers returned").
-use Prim.Native.Nat.{ℕ, zero, suc, _+_, _*_, _^_}
+use Prim.Native.Nat.{ℕ, zero, suc, _*_, _^_}
 use mathlib.Core.Path.{_≡_}
-use mathlib.Core.Bool.{Bool, true, false, not, _||_}
+use mathlib.Core.Bool.{not}
 use mathlib.Core.Option.{Option, some, none}
-use mathlib.Core.List.{List, [], _∷_, _++_, map}
-use lib.ListN.{length, getD, take, drop, replicate}
-use lib.Dec.{eqb, leb, ltb}
-use Rattle.clusters.specs.Sets.{whole, size}
+use mathlib.Core.List.{List, [], _∷_}
+use lib.ListN.{length, getD, replicate}
+use lib.Dec.{leb, ltb}
+use Rattle.clusters.specs.Sets.{whole}
 use Rattle.trees.specs.Records.{recordOf}
-use Rattle.roster.specs.Roster.{upTo, least}
+use Rattle.roster.specs.Roster.{least}
 use Rattle.lineages.specs.Count.{weight, recordsIn}
 use Rattle.roster.specs.Verdict.{Test, verdict, lengthTest}
 use Rattle.lineages.specs.Checks.{speciesTest, countTest, recordsTest}
-use Rattle.search.specs.BinaryTrees.{Binary, clustersIn}
-use Rattle.search.specs.Least.{best, scoreOf, scoreEntry, splitEntry}
+use Rattle.tables.specs.BinaryTrees.{Binary, clustersIn}
+use Rattle.tables.specs.Least.{best, scoreOf, scoreEntry, splitEntry, filled}
+use Rattle.tables.specs.Allowed.{allowedIn}
 use Rattle.search.specs.declared.Found.{Found}
-
--- "Single species and the whole are allowed whether marked or not"
-unfoldable pub allowedIn : ℕ → List ℕ → ℕ → Bool
-allowedIn n bytes a = eqb (size a) 1 || eqb a (whole n) || eqb (getD bytes a 0) 1
 
 -- the first of the 2^n bytes that is not 0 or 1; 2^n where there is none
 unfoldable pub firstStrange : ℕ → List ℕ → ℕ
@@ -52,9 +49,9 @@ abbrev pub foundOr : ℕ → ℕ → Found → Found
 foundOr zero place found = found
 foundOr (suc number) place found = record { number = suc number; place = place; score = 0; numbers = replicate 32 0 }
 
--- "Lent slices keep every byte, with one exception: on 14 both tables are filled"; "Entries from 2^n on stay"
+-- "Lent slices keep every byte, with one exception: on 14 both tables are filled"
 abbrev pub filledBy : ℕ → ℕ → (ℕ → ℕ) → List ℕ → List ℕ
-filledBy zero n entry lent = map entry (upTo (2 ^ n)) ++ drop (2 ^ n) lent
+filledBy zero n entry lent = filled n entry lent
 filledBy (suc number) n entry lent = lent
 
 -- the promise of `search`: its reply, and what stands in both tables then

@@ -1,11 +1,10 @@
-// The allowed clusters: a byte for each cluster number.
+// The bytes of the allowed clusters, judged.
 ghost use mathlib.Core.Path.{_≡_};
 ghost use mathlib.Core.Bool.{not};
-ghost use Prim.Native.Nat.{_<_, _≤_};
+ghost use Prim.Native.Nat.{_≤_};
 ghost use lib.ListN.{length, getD};
 ghost use lib.Dec.{leb};
 ghost use Rattle.roster.specs.Roster.{least};
-ghost use Rattle.search.specs.Promise.{allowedIn};
 
 // The first of the entries that is not 0 or 1, and how many there are where all are.
 pub fn first_strange(allowed: &[u8], entries: usize) -> usize
@@ -20,20 +19,4 @@ pub fn first_strange(allowed: &[u8], entries: usize) -> usize
         a += 1;
     }
     a
-}
-
-// Whether a is allowed: marked, a single species, or the whole.
-pub fn is_allowed(n: usize, allowed: &[u8], a: usize) -> bool
-    requires { ⌜ n ≤ 16 ⌝ }
-    requires { ⌜ a < 65536 ⌝ }
-    requires { ⌜ a < length (now allowed) ⌝ }
-    ensures { λ r. ⌜ r ≡ allowedIn n (now (allowed .entry)) a ⌝ }
-{
-    if clusters::size(a as u32) == 1 {
-        return true;
-    }
-    if a as u32 == clusters::whole(n) {
-        return true;
-    }
-    allowed[a] == 1
 }

@@ -1,6 +1,5 @@
 // The least species tree: all weights, the two tables, and the record of the tree that they choose.
 mod allowing;
-mod tables;
 mod tree;
 mod weights;
 

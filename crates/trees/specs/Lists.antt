@@ -1,5 +1,5 @@
 -- Words about lists of numbers that the other definitions use.
-use Prim.Native.Nat.{ℕ, zero, suc, _<_, min, max}
+use Prim.Native.Nat.{ℕ, zero, suc, _+_, _<_, min, max}
 use mathlib.Core.Bool.{Bool, true, false, _||_}
 use mathlib.Core.List.{List, [], _∷_, List·Memᴰ}
 use lib.ListN.{take, drop}
@@ -54,3 +54,8 @@ sorted (x ∷ l) = insert x (sorted l)
 unfoldable pub pieces : ℕ → ℕ → List ℕ → List (List ℕ)
 pieces size zero l = []
 pieces size (suc n) l = take size l ∷ pieces size n (drop size l)
+
+-- the sum of a list of numbers
+unfoldable pub total : List ℕ → ℕ
+total [] = 0
+total (x ∷ l) = x + total l

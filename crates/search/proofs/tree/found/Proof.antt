@@ -4,7 +4,7 @@ use borrow.Author.Needs.{needs}
 use native.Mathlib.Omega.{arith}
 use lib.ListN.{replicate}
 use Rattle.trees.specs.Records.{recordOf}
-use Rattle.search.proofs.Descent.{chooses-more, front-fits, front-few, front-below, front-clusters}
+use Rattle.tables.proofs.Descent.{chooses-more, front-fits, front-few, front-below, front-clusters}
 use Rattle.search.proofs.tree.found.Statement.{statement}
 use Rattle.search.proofs.tree.found.Tie as tie
 
