@@ -1,5 +1,5 @@
 -- The count over gene records is the count over the gene trees as drawn.
-use Prim.Native.Nat.{ℕ, _+_, _-_, _≤_}
+use Prim.Native.Nat.{ℕ, _-_, _≤_}
 use mathlib.Core.Path.{_≡_, refl, sym, ap, ap₂, _∙_}
 use mathlib.Core.Logic.{_⊎_, inl, inr}
 use mathlib.Core.List.{List, [], _∷_, map, map-map, List·Memᴰ, List·Memᴰ·head as here, List·Memᴰ·tail as there, List·Memᴰ·not-nil, List·Memᴰ·cases-cons}
@@ -9,17 +9,12 @@ use Rattle.trees.specs.Drawn.{drawn}
 use Rattle.trees.specs.Records.{listed, recordOf, GeneValid}
 use Rattle.trees.proofs.Bounds.{whole-below-sixteen}
 use Rattle.trees.proofs.Drawing.{drawn-on, drawn-record}
+use Rattle.trees.proofs.Totals.{total-same}
 use Rattle.trees.specs.Lists.{total}
 use Rattle.lineages.specs.Count.{kOf, extra, weight, score}
 use Rattle.lineages.specs.Lineages.{lineages}
 use Rattle.lineages.proofs.CountedDown.{k-counted-down, k-of-record}
 use Rattle.demands.specs.GeneTrees.{RecordsOf, scoreOver}
-
--- sums of the same numbers
-total-alike : {A : Type 0} (f g : A → ℕ) (l : List A) → ((x : A) → List·Memᴰ x l → f x ≡ g x) → total (map f l) ≡ total (map g l)
-unfolding total
-total-alike f g [] h = refl
-total-alike f g (x ∷ l) h = ap₂ _+_ (h x (here refl)) (total-alike f g l (λ y m. h y (there m)))
 
 -- ---- valid gene records have drawn trees
 
@@ -51,19 +46,19 @@ module _ {n : ℕ} {genes : List (List ℕ)} {trees : List Tree} (r : RecordsOf 
   weight-drawn a =
       ap (λ (l : List (List ℕ)). total (map (λ (g : List ℕ). extra g a) l)) (r .records)
       ∙ ap total (map-map (λ (g : List ℕ). extra g a) (λ (t : Tree). recordOf (clusters t)) trees)
-      ∙ total-alike (λ (t : Tree). extra (recordOf (clusters t)) a) (λ (t : Tree). kOf (clusters t) a - 1) trees
+      ∙ total-same (λ (t : Tree). extra (recordOf (clusters t)) a) (λ (t : Tree). kOf (clusters t) a - 1) trees
       (λ t m. ap (λ (k : ℕ). k - 1) (k-of-record a (r .on t m) ∙ sym (k-counted-down a (r .on t m))))
 
   -- the score over the records is the score over the trees
   pub score-drawn : (species : List ℕ) → score genes species ≡ scoreOver trees species
   unfolding score scoreOver
-  score-drawn species = total-alike (weight genes) (λ (a : ℕ). total (map (λ (t : Tree). kOf (clusters t) a - 1) trees)) (listed species) (λ a m. weight-drawn a)
+  score-drawn species = total-same (weight genes) (λ (a : ℕ). total (map (λ (t : Tree). kOf (clusters t) a - 1) trees)) (listed species) (λ a m. weight-drawn a)
 
   -- "as in the paper of Yu, Warnow and Nakhleh": k is the number of lineages counted down the tree
   pub score-down : (species : List ℕ) → scoreOver trees species ≡ total (map (λ (a : ℕ). total (map (λ (t : Tree). lineages a t - 1) trees)) (listed species))
   unfolding scoreOver
   score-down species =
-      total-alike (λ (a : ℕ). total (map (λ (t : Tree). kOf (clusters t) a - 1) trees)) (λ (a : ℕ). total (map (λ (t : Tree). lineages a t - 1) trees)) (listed species)
+      total-same (λ (a : ℕ). total (map (λ (t : Tree). kOf (clusters t) a - 1) trees)) (λ (a : ℕ). total (map (λ (t : Tree). lineages a t - 1) trees)) (listed species)
       (λ a m.
-      total-alike (λ (t : Tree). kOf (clusters t) a - 1) (λ (t : Tree). lineages a t - 1) trees
+      total-same (λ (t : Tree). kOf (clusters t) a - 1) (λ (t : Tree). lineages a t - 1) trees
       (λ t k. ap (λ (x : ℕ). x - 1) (k-counted-down a (r .on t k))))

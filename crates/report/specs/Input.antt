@@ -5,7 +5,6 @@ use mathlib.Core.List.{List, [], _∷_, _++_}
 use lib.ListN.{length, take, drop}
 use lib.Dec.{eqb, leb}
 use Rattle.roster.specs.Bytes.{run}
-use Rattle.tokens.specs.Answers.{Answer}
 use Rattle.tokens.specs.Tokens.{blanks}
 use Rattle.reader.specs.Promise.{answerTo, readingOf}
 use Rattle.reader.specs.declared.Reading.{Reading}

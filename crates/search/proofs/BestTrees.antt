@@ -25,7 +25,8 @@ use Rattle.tables.proofs.FirstLeast.{chosen, pick, pickAll, pickAll-same, gateB
 use Rattle.tables.proofs.LowParts.{low-some}
 use Rattle.tables.proofs.Membership.{listed-well-formed, well-formed-listed, tree-root}
 use Rattle.tables.proofs.Enumeration.{treesOn-ordered}
-use Rattle.tables.proofs.Recurrence.{total-same, gated, gated-same, best-choice, best-listed, best-on, best-fork, allowed-of-best, score-fork}
+use Rattle.trees.proofs.Totals.{total-same}
+use Rattle.tables.proofs.Recurrence.{gated, gated-same, best-choice, best-listed, best-on, best-fork, allowed-of-best, score-fork}
 use Rattle.search.proofs.DrawnBinary.{InFork, among-fork, tree-inside}
 use Rattle.search.proofs.DrawnBinary.InFork.{at-root, in-low, in-other}
 

@@ -8,14 +8,14 @@ use mathlib.Core.Option.{Option, some, none}
 use mathlib.Core.List.{List, [], _∷_, _++_, map, List·Memᴰ·head as here, List·Memᴰ·tail as there}
 use native.Mathlib.Omega.{arith}
 use lib.Dec.{leb, ltb}
-use lib.ListN.{length, getD, take, drop, replicate, length-append, length-map}
+use lib.ListN.{length, getD, take, drop, replicate, length-map}
 use lib.Pow.{pow-mono}
 use lib.Seq.{getD-take, take-at}
 use borrow.Author.Tests.{le-ltb}
 use Rattle.clusters.specs.Sets.{whole, size}
 use Rattle.clusters.proofs.Sets.{within-le, whole-below}
 use Rattle.trees.specs.Lists.{Among}
-use Rattle.trees.specs.Records.{listed, recordOf, ValidOn, BinaryOn}
+use Rattle.trees.specs.Records.{listed, recordOf}
 use Rattle.trees.proofs.Recorded.{record-among, among-record}
 use Rattle.roster.specs.Roster.{upTo, least, firstOr}
 use Rattle.lineages.specs.Count.{weight, score, recordsIn}

@@ -7,11 +7,11 @@ use mathlib.Core.List.{List, [], _∷_, _++_, List·Memᴰ·head as here, List·
 use native.Mathlib.Omega.{arith}
 use lib.Dec.{leb}
 use borrow.Author.Tests.{leb-true, leb-false}
-use Rattle.clusters.specs.Sets.{Has, Within, Apart, size, single, union, lowest}
-use Rattle.clusters.proofs.Members.{has-of-apart, has-union, single-has, has-below}
+use Rattle.clusters.specs.Sets.{Has, Within, Apart, single, union, lowest}
+use Rattle.clusters.proofs.Members.{has-of-apart, has-union}
 use Rattle.clusters.proofs.Sets.{within-refl, within-trans, within-le, within-apart, within-union-left, within-union-right, union-comm, union-some-left, apart-sym, apart-within, apart-union-sum, minus-apart, minus-union, minus-within, union-minus-left, within-below}
-use Rattle.clusters.proofs.Sizes.{size-one, size-single, some-of-size}
-use Rattle.clusters.proofs.LowestSpecies.{lowest-has, lowest-least, lowest-single, lowest-apart, lowest-within, single-lowest}
+use Rattle.clusters.proofs.Sizes.{size-single, some-of-size}
+use Rattle.clusters.proofs.LowestSpecies.{lowest-has, lowest-least, lowest-apart, lowest-within, single-lowest}
 use Rattle.trees.specs.Lists.{Among, NoneTwice}
 use Rattle.trees.specs.Tree.{Tree, Forest, leaves, leavesOf, cluster, clusterOf, clusters, clustersOf, On, Binary as BinaryDrawn, OneBinary}
 use Rattle.trees.specs.Tree.Tree.{leaf, node}

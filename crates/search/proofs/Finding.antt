@@ -1,12 +1,12 @@
 -- The promise of the search, one law for each way through its checks.
-use Prim.Native.Nat.{ℕ, zero, suc, _*_, _^_, _≤_, _<_}
-use mathlib.Core.Path.{_≡_, refl, sym, ap, _∙_}
-use mathlib.Core.Bool.{Bool, true, false, not}
-use mathlib.Core.List.{List, [], _∷_, _++_}
+use Prim.Native.Nat.{ℕ, zero, suc, _^_, _≤_, _<_}
+use mathlib.Core.Path.{_≡_, refl, ap, _∙_}
+use mathlib.Core.Bool.{not}
+use mathlib.Core.List.{List, [], _∷_}
 use native.Mathlib.Decide.{decLe}
 use native.Mathlib.Omega.{arith}
 use lib.ListN.{length, getD}
-use lib.Dec.{leb, ltb}
+use lib.Dec.{leb}
 use borrow.Author.Tests.{lt-ltb, le-ltb}
 use Rattle.clusters.specs.Sets.{whole}
 use Rattle.roster.specs.Roster.{least}
@@ -14,11 +14,9 @@ use Rattle.roster.specs.Verdict.{Test, verdict, lengthTest}
 use Rattle.lineages.specs.Count.{weight, recordsIn}
 use Rattle.lineages.specs.Checks.{firstBad, recordsTest}
 use Rattle.lineages.specs.Work.{shapeTests, said}
-use Rattle.lineages.proofs.Lent.{length-recordsIn}
 use Rattle.lineages.proofs.Verdicts.{verdict-first, Shaped, shape-passed}
 use Rattle.lineages.proofs.FirstBad.{checked-countable}
 use Rattle.tables.specs.Least.{scoreEntry, splitEntry}
-use Rattle.tables.specs.Allowed.{allowedIn}
 use Rattle.search.specs.Promise.{firstStrange, allowedTest, searchTests, bestFor, foundBy, foundOr, filledBy, Finds}
 use Rattle.search.specs.Work.{without, LongEnough, Checked, Solves}
 use Rattle.search.specs.declared.Found.{Found}

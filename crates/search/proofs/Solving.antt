@@ -1,14 +1,14 @@
 -- Both tables filled for gene trees that were checked, and the answer that they give.
-use Prim.Native.Nat.{ℕ, _+_, _-_, _*_, _^_, _≤_, _<_}
-use mathlib.Core.Path.{_≡_, refl, sym, ap, ap₂, _∙_, subst}
+use Prim.Native.Nat.{ℕ, _+_, _-_, _^_, _≤_, _<_}
+use mathlib.Core.Path.{_≡_, refl, sym, ap, _∙_}
 use mathlib.Core.Bool.{Bool}
 use mathlib.Core.Option.{Option, some, none}
 use mathlib.Core.List.{List, _++_, map}
 use native.Mathlib.Omega.{arith}
-use lib.ListN.{length, getD, drop, replicate}
-use lib.Pow.{suc-ones, pow-pos}
+use lib.ListN.{length, getD, drop}
+use lib.Pow.{pow-pos}
 use Rattle.clusters.specs.Sets.{whole, size}
-use Rattle.clusters.proofs.Sets.{whole-below, whole-some}
+use Rattle.clusters.proofs.Sets.{whole-below}
 use Rattle.clusters.proofs.Sizes.{size-whole}
 use Rattle.trees.specs.Records.{recordOf}
 use Rattle.roster.specs.Roster.{upTo}
@@ -23,11 +23,11 @@ use Rattle.tables.specs.Allowed.{allowedIn}
 use Rattle.tables.specs.Work.{Light, Weights, Fillable, Fills, Chosen, Chooses}
 use Rattle.tables.proofs.LowParts.{low-part-two, low-some}
 use Rattle.tables.proofs.Membership.{tree-root, tree-clusters}
-use Rattle.tables.proofs.Recurrence.{best-on, score-bound, BestFork, best-fork}
-use Rattle.tables.proofs.Reached.{entries-few, below-of-whole}
-use Rattle.tables.proofs.Written.{written, written-length, written-at, written-behind, written-again, written-entries}
+use Rattle.tables.proofs.Recurrence.{best-on, score-bound, best-fork}
+use Rattle.tables.proofs.Reached.{entries-few}
+use Rattle.tables.proofs.Written.{written, written-length, written-at, written-again, written-entries}
 use Rattle.search.specs.Promise.{bestFor, foundBy, filledBy}
-use Rattle.search.specs.Work.{without, LongEnough, Checked, Solves}
+use Rattle.search.specs.Work.{without, Checked, Solves}
 use Rattle.search.specs.declared.Found.{Found}
 
 -- ---- the split table leads down the best tree

@@ -1,6 +1,6 @@
 -- The table of the weights, gene tree by gene tree.
-use Prim.Native.Nat.{ℕ, zero, suc, _+_, _-_, _*_, _≤_, _<_}
-use mathlib.Core.Path.{_≡_, refl, sym, ap, ap₂, _∙_, subst}
+use Prim.Native.Nat.{ℕ, zero, suc, _+_, _*_, _≤_, _<_}
+use mathlib.Core.Path.{_≡_, refl, sym, ap, ap₂, _∙_}
 use mathlib.Core.List.{List, [], _∷_, _++_, map, map-append}
 use native.Mathlib.Numerals.{add-one}
 use native.Mathlib.Omega.{arith}
@@ -9,10 +9,9 @@ use lib.Seq.{drop-drop}
 use Rattle.trees.specs.Lists.{pieces}
 use Rattle.roster.specs.Roster.{upTo}
 use Rattle.lineages.specs.Count.{extra, weight, recordsIn}
-use Rattle.lineages.specs.Work.{Countable, AllCountable}
+use Rattle.lineages.specs.Work.{Countable}
 use Rattle.lineages.proofs.Sums.{weight-none, weight-cons}
 use Rattle.lineages.proofs.Checked.{extra-le}
-use Rattle.lineages.proofs.Lent.{record-among}
 use Rattle.tables.proofs.Written.{written, written-none, written-next, written-length, written-at, written-behind, written-same, written-again, written-entries}
 
 -- ---- one gene tree is added

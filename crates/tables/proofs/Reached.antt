@@ -1,22 +1,22 @@
 -- The tables while the clusters rise: the entries below a are those of the best trees, and from a on the score table still holds the weights.
-use Prim.Native.Nat.{ℕ, _+_, _-_, _*_, _^_, _≤_, _<_, min}
-use mathlib.Core.Path.{_≡_, refl, sym, ap, _∙_, subst}
+use Prim.Native.Nat.{ℕ, _+_, _^_, _≤_, _<_, min}
+use mathlib.Core.Path.{_≡_, refl, sym, ap, _∙_}
 use mathlib.Core.Logic.{_⊎_, inl, inr}
 use mathlib.Core.Bool.{Bool}
 use mathlib.Core.Option.{Option, some, none}
 use mathlib.Core.List.{List, _++_, map}
 use native.Mathlib.Omega.{arith}
-use lib.ListN.{length, getD, set, drop, length-set}
+use lib.ListN.{length, getD, set, length-set}
 use lib.Seq.{getD-set-other, set-set, drop-set-lt}
 use lib.Pow.{pow-mono, pow-pos}
-use Rattle.clusters.specs.Sets.{whole, size}
+use Rattle.clusters.specs.Sets.{whole}
 use Rattle.clusters.proofs.Sets.{whole-below}
 use Rattle.clusters.proofs.Sizes.{size-le}
 use Rattle.roster.specs.Roster.{upTo}
 use Rattle.tables.specs.BinaryTrees.{Binary}
-use Rattle.tables.specs.Least.{best, noTree, scoreOf, scoreEntry, splitEntry, filled}
+use Rattle.tables.specs.Least.{best, noTree, scoreEntry, splitEntry, filled}
 use Rattle.tables.specs.Allowed.{allowedIn}
-use Rattle.tables.specs.Work.{Light, Scored, ScoresBelow, Next, Settles, Weights, Fillable, Fills}
+use Rattle.tables.specs.Work.{Light, Scored, ScoresBelow, Next, Settles, Fillable, Fills}
 use Rattle.tables.proofs.Recurrence.{best-on, score-bound, entry-zero, split-zero}
 use Rattle.tables.proofs.Written.{written, written-none, written-next, written-length, written-at, written-behind, written-entries}
 

@@ -13,25 +13,17 @@ use borrow.Author.Tests.{eq-eqb, ne-eqb, leb-true, leb-false, le-leb, lt-leb}
 use Rattle.clusters.specs.Sets.{size}
 use Rattle.trees.specs.Lists.{Among, total}
 use Rattle.trees.specs.Valid.{every}
+use Rattle.trees.proofs.Totals.{total-append}
 use Rattle.tables.specs.BinaryTrees.{Binary, root, clustersIn, lows, each, forks, treesOn}
 use Rattle.tables.specs.BinaryTrees.Binary.{tip, fork}
 use Rattle.tables.specs.WellFormed.{LowPart, TreeOn}
 use Rattle.tables.specs.Least.{those, scoreOf, treesOver, best, noTree, scoreEntry, splitEntry}
+use Rattle.tables.specs.Work.{Light}
 use Rattle.tables.proofs.LowParts.{among-lows, low-some, low-and-rest}
 use Rattle.tables.proofs.FirstLeast.{chosen, pick, pick-none, pick-first, pick-second, pickAll, pickAll-same, pickAll-none, pickAll-each, pickAll-map, pickAll-through, pickAll-from, gateBy, pickAll-those, first-least}
 use Rattle.tables.proofs.Membership.{treesOn-single, treesOn-splits, treesOn-zero, listed-well-formed, tree-root, tree-clusters}
 
 -- ---- the score of a fork
-
-pub total-append : (w : ℕ → ℕ) (l k : List ℕ) → total (map w (l ++ k)) ≡ total (map w l) + total (map w k)
-unfolding total
-total-append w [] k = omega arith
-total-append w (x ∷ l) k = omega (arith, total-append w l k)
-
-pub total-same : (f g : ℕ → ℕ) (l : List ℕ) → ((x : ℕ) → Among x l → f x ≡ g x) → total (map f l) ≡ total (map g l)
-unfolding total
-total-same f g [] h = refl
-total-same f g (x ∷ l) h = ap₂ _+_ (h x (here refl)) (total-same f g l (λ y m. h y (there m)))
 
 pub score-tip : (w : ℕ → ℕ) (a : ℕ) → scoreOf w (tip a) ≡ w a
 unfolding scoreOf clustersIn total
@@ -42,9 +34,6 @@ unfolding scoreOf clustersIn total
 score-fork w a t u = ap (λ n. w a + n) (total-append w (clustersIn t) (clustersIn u))
 
 -- no weight passes 131,072 = 4,096 gene trees * 32
-abbrev pub Light : (ℕ → ℕ) → Type 0
-Light w = (b : ℕ) → w b ≤ 131072
-
 total-bound : (w : ℕ → ℕ) → Light w → (l : List ℕ) → total (map w l) ≤ 131072 * length l
 unfolding total
 total-bound w h [] = omega arith

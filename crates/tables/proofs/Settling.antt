@@ -1,6 +1,6 @@
 -- The two entries of one cluster, for each way that the code takes.
 use Prim.Native.Nat.{ℕ, _+_, _≤_, _<_}
-use mathlib.Core.Path.{_≡_, refl, sym, ap, _∙_}
+use mathlib.Core.Path.{_≡_, sym, ap, _∙_}
 use mathlib.Core.Logic.{_⊎_, inl, inr}
 use mathlib.Core.Bool.{Bool, true, false}
 use mathlib.Core.List.{List}
@@ -9,8 +9,8 @@ use lib.ListN.{getD, set}
 use lib.Seq.{set-getD}
 use Rattle.clusters.specs.Sets.{size}
 use Rattle.clusters.proofs.Sizes.{size-some}
-use Rattle.tables.specs.Least.{best, noTree, scoreEntry, splitEntry}
-use Rattle.tables.specs.Work.{Light, BestSplit, Settles}
+use Rattle.tables.specs.Least.{noTree, scoreEntry}
+use Rattle.tables.specs.Work.{BestSplit, Settles}
 use Rattle.tables.specs.declared.Split.{Split}
 use Rattle.tables.proofs.Recurrence.{entry-refused, split-refused, entry-single, split-single}
 

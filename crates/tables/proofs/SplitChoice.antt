@@ -9,18 +9,18 @@ use lib.Bits.{bitAnd}
 use lib.Dec.{eqb, leb}
 use lib.ListN.{getD}
 use mathlib.Core.List.{List}
-use borrow.Author.Tests.{eq-eqb, ne-eqb, le-leb, lt-leb, eqb-false}
+use borrow.Author.Tests.{eq-eqb, ne-eqb, le-leb, lt-leb}
 use Rattle.clusters.specs.Sets.{Within, single, size, lowest}
 use Rattle.clusters.proofs.Sets.{within-refl, within-le, single-within}
 use Rattle.clusters.proofs.LowestSpecies.{lowest-has, lowest-below}
 use Rattle.clusters.proofs.Sizes.{some-of-size, size-le}
 use Rattle.clusters.proofs.Parts.{part-and, part-falls}
 use Rattle.tables.specs.WellFormed.{LowPart}
-use Rattle.tables.specs.Least.{best, noTree, scoreEntry, splitEntry}
-use Rattle.tables.specs.Work.{Light, Scored, Small, splitUnless, lesserSplit, betterSplit, ScoresBelow, SplitOfBest, BestSplit}
+use Rattle.tables.specs.Least.{noTree}
+use Rattle.tables.specs.Work.{Scored, Small, splitUnless, lesserSplit, betterSplit, ScoresBelow, BestSplit}
 use Rattle.tables.specs.declared.Split.{Split}
 use Rattle.tables.proofs.LowParts.{low-some}
-use Rattle.tables.proofs.Recurrence.{Choice, noChoice, unless, lesser, consider, choice, choice-same, entry, best-none, entry-split, split-chosen}
+use Rattle.tables.proofs.Recurrence.{Choice, unless, lesser, consider, choice, choice-same, entry, best-none, entry-split, split-chosen}
 use Rattle.tables.proofs.FallingParts.{choiceFrom, choiceFrom-all, choiceFrom-lowest, choiceFrom-step, part-is-low}
 
 -- an entry that is not the mark can be added to

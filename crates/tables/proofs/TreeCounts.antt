@@ -24,7 +24,7 @@ use Rattle.tables.specs.BinaryTrees.Binary.{fork}
 use Rattle.tables.specs.WellFormed.{LowPart}
 use Rattle.tables.proofs.LowParts.{among-lows, isLow-true, true-isLow, low-and-rest}
 use Rattle.tables.proofs.Membership.{treesTo-zero, treesTo-single, treesTo-splits}
-use Rattle.tables.proofs.Recurrence.{total-append, total-same}
+use Rattle.trees.proofs.Totals.{total-append, total-same}
 
 -- ---- sums over the numbers below a bound
 

@@ -1,12 +1,11 @@
 -- A table whose first entries are written, one after the other, and whose other entries stay.
 use Prim.Native.Nat.{ℕ, zero, suc, _+_, _-_, _≤_, _<_}
 use mathlib.Core.Path.{_≡_, refl, sym, ap, ap₂, _∙_, subst}
-use mathlib.Core.Logic.{_⊎_, inl, inr}
-use mathlib.Core.List.{List, [], _∷_, _++_, map, append-assoc, map-append}
+use mathlib.Core.List.{List, [], _∷_, _++_, map, map-append}
 use native.Mathlib.Decide.{decLt}
 use native.Mathlib.Numerals.{add-one}
 use native.Mathlib.Omega.{arith}
-use lib.ListN.{length, getD, set, take, drop, length-append, length-drop, length-map, List·getD-append}
+use lib.ListN.{length, getD, set, drop, length-append, length-drop, length-map, List·getD-append}
 use lib.Seq.{drop-cons, append-snoc, set-at, getD-at, getD-append-add, getD-drop, drop-at}
 use Rattle.roster.specs.Roster.{upTo}
 use Rattle.roster.proofs.UpTo.{length-upTo}

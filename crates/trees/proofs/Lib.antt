@@ -17,3 +17,4 @@ pub mod Recorded
 pub mod Sorting
 pub mod ValidTest
 pub mod Stores
+pub mod Totals

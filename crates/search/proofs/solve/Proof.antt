@@ -4,7 +4,6 @@ use borrow.Author.Needs.{needs}
 use native.Mathlib.Omega.{arith}
 use lib.ListN.{length}
 use Rattle.lineages.specs.Count.{recordsIn}
-use Rattle.tables.specs.Work.{Fillable}
 use Rattle.search.proofs.Solving.{Tabled, all-few, all-fits, all-splits, weights-fillable, tabled, solves-none, solves-chooses, solves-found}
 use Rattle.search.proofs.solve.Statement.{statement}
 use Rattle.search.proofs.solve.Tie as tie

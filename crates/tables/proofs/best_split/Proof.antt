@@ -1,5 +1,4 @@
 -- `tables::best_split` meets its contract. The invariant: what is held is the choice among the low parts that were visited.
-use Prim.Native.Nat.{_^_, _<_}
 use borrow.Author.Needs.{needs}
 use native.Mathlib.Omega.{arith}
 use Rattle.tables.proofs.SplitChoice.{lowest-lt, lowest-le, Visited, visited-start, visited-low, visited-next, visited-end}

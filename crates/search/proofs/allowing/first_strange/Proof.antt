@@ -1,6 +1,6 @@
 -- `search::allowing::first_strange` meets its contract. The invariant: no entry that was passed is strange.
 use Prim.Native.Nat.{_-_, _≤_}
-use mathlib.Core.Path.{_∙_, ap, sym}
+use mathlib.Core.Path.{ap, sym}
 use mathlib.Core.Bool.{not}
 use borrow.Author.Count.{below-more}
 use borrow.Author.Needs.{needs}

@@ -1,9 +1,7 @@
 -- `search::tree::found` meets its contract: the clusters of the chosen tree are stored, and make its record.
-use mathlib.Core.Path.{ap, _∙_}
 use borrow.Author.Needs.{needs}
 use native.Mathlib.Omega.{arith}
 use lib.ListN.{replicate}
-use Rattle.trees.specs.Records.{recordOf}
 use Rattle.tables.proofs.Descent.{chooses-more, front-fits, front-few, front-below, front-clusters}
 use Rattle.search.proofs.tree.found.Statement.{statement}
 use Rattle.search.proofs.tree.found.Tie as tie
