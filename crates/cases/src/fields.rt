@@ -1,6 +1,6 @@
 // A case taken apart: the fields behind its letter, parted by `|`, and the decimal numbers in them.
 ghost use mathlib.Core.Path.{_≡_};
-ghost use Prim.Native.Nat.{_+_, _≤_, _<_, min, max};
+ghost use Prim.Native.Nat.{_+_, _≤_, _<_, min};
 ghost use lib.ListN.{length};
 
 // The byte at i, and 0 behind the end.

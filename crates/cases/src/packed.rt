@@ -33,7 +33,7 @@ fn put(out: &mut [u16], count: usize, token: Token) -> usize
     ensures { λ r. ⌜ (r ≤ length (now (out .entry))) × (length (now (out .exit)) ≡ length (now (out .entry))) ⌝ }
 {
     if token.back != 0 {
-        return again(out, count, token.back, token.times);
+        return again(out, count, token.back, token.value);
     }
     if count < out.len() {
         out[count] = (token.value % 65536) as u16;

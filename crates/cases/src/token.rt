@@ -10,11 +10,10 @@ use crate::fields::decimal;
 use crate::fields::digit;
 use crate::fields::least;
 
-// Where back is 0 the one number `value`, and else so many numbers, each the one that stands `back` places before it; and the place behind.
+// Where back is 0 the number `value`, and else so many numbers, each the one that stands `back` places before it; and the place behind.
 pub struct Token {
-    pub value: usize,
     pub back: usize,
-    pub times: usize,
+    pub value: usize,
     pub next: usize,
 }
 
@@ -34,45 +33,41 @@ fn escaped(field: &[u8], at: usize) -> Token
         let times = decimal(field, second);
         let end = times.next;
         return Token {
-            value: 0,
             back: 1,
-            times: times.value,
+            value: times.value,
             next: behind(field, end),
         };
     }
     Token {
-        value: paired(high, byte(field, second)),
         back: 0,
-        times: 0,
+        value: paired(high, byte(field, second)),
         next: behind(field, second),
     }
 }
 
-// The repeat whose mark is b, with the number behind the mark, which is held to more records than a buffer holds; at any other byte a repeat of nothing, which ends at `at`.
+// The repeat whose mark is b, by the number behind the mark; no buffer holds more records than the bound. At any other byte a repeat of
+// nothing, which ends at `at`.
 fn repeat(b: u8, at: usize, times: Numeral) -> Token
     requires { ⌜ at ≤ times .next ⌝ }
     ensures { λ r. ⌜ (at ≤ r .next) × (r .next ≤ times .next) ⌝ }
 {
     if b == b'*' {
         return Token {
-            value: 0,
             back: 1,
-            times: times.value,
+            value: times.value,
             next: times.next,
         };
     }
     if b == b'#' {
         return Token {
-            value: 0,
             back: 32,
-            times: 32 * least(times.value, 65536),
+            value: 32 * least(times.value, 65536),
             next: times.next,
         };
     }
     Token {
-        value: 0,
         back: 1,
-        times: 0,
+        value: 0,
         next: at,
     }
 }
@@ -85,9 +80,8 @@ fn of_numbers(field: &[u8], at: usize) -> Token
     let number = decimal(field, at);
     if at < number.next {
         return Token {
-            value: number.value,
             back: 0,
-            times: 0,
+            value: number.value,
             next: number.next,
         };
     }
@@ -107,9 +101,8 @@ pub fn token_at(field: &[u8], at: usize, text: bool) -> Token
         return escaped(field, at + 1);
     }
     Token {
-        value: b as usize,
         back: 0,
-        times: 0,
+        value: b as usize,
         next: at + 1,
     }
 }
