@@ -1,26 +1,50 @@
 // The call of a case, by its letter.
-use crate::fields::byte;
 use crate::judging;
 use crate::marking;
 use crate::reading;
 use crate::reporting;
 use crate::scoring;
 use crate::searching;
-use crate::show;
 use crate::weighing;
 use crate::writing;
+use cases::fields::byte;
+use cases::packed::bytes;
+use cases::packed::numbers;
+use cases::room;
+use cases::show;
+
+// Runs a case whose first field is a text.
+fn run_with_text(case: &[u8], letter: u8) {
+    let mut space = room::bytes();
+    let n = bytes(case, 0, true, &mut space);
+    let text = &space[..n];
+    match letter {
+        b'J' => judging::run(text),
+        b'R' => reading::run(case, text),
+        b'W' => writing::run(case, text),
+        _ => reporting::run(text),
+    }
+}
+
+// Runs a case whose second field is gene trees.
+fn run_with_genes(case: &[u8], letter: u8) {
+    let mut space = room::numbers();
+    let n = numbers(case, 1, false, &mut space);
+    let records = &space[..n];
+    match letter {
+        b'K' => weighing::run(case, records),
+        b'S' => scoring::run(case, records),
+        b'M' => marking::run(case, records),
+        _ => searching::run(case, records),
+    }
+}
 
 // Runs a case, and prints its answer.
 pub fn run(case: &[u8]) {
-    match byte(case, 0) {
-        b'J' => judging::run(case),
-        b'R' => reading::run(case),
-        b'W' => writing::run(case),
-        b'K' => weighing::run(case),
-        b'S' => scoring::run(case),
-        b'M' => marking::run(case),
-        b'F' => searching::run(case),
-        b'P' => reporting::run(case),
+    let letter = byte(case, 0);
+    match letter {
+        b'J' | b'R' | b'W' | b'P' => run_with_text(case, letter),
+        b'K' | b'S' | b'M' | b'F' => run_with_genes(case, letter),
         _ => show::text(b"no such call\n"),
     }
 }

@@ -1,18 +1,15 @@
 // `R` roster line | text | start: reads a tree, and prints number, place and next place, and the record.
-use crate::bytes::bytes;
-use crate::fields::field;
-use crate::fields::number;
-use crate::room;
-use crate::show;
+use cases::fields::number;
+use cases::packed::bytes;
+use cases::room;
+use cases::show;
 
-pub fn run(case: &[u8]) {
-    let mut line = room::text();
-    let n = bytes(field(case, 0), &mut line);
-    let mut text = room::text();
-    let m = bytes(field(case, 1), &mut text);
-    let reading = reader::read(&line[..n], &text[..m], number(case, 2));
+pub fn run(case: &[u8], line: &[u8]) {
+    let mut text = room::bytes();
+    let n = bytes(case, 1, true, &mut text);
+    let reading = reader::read(line, &text[..n], number(case, 2));
     let entries = reading.numbers;
     show::answer(reading.number, reading.place, reading.next);
     show::record_start(&entries);
-    show::text(b"\n");
+    show::byte(b'\n');
 }

@@ -1,13 +1,8 @@
 // `P` input: prints what the program prints for it.
-use crate::bytes::bytes;
-use crate::fields::field;
-use crate::room;
-use crate::show;
+use cases::show;
 
-pub fn run(case: &[u8]) {
-    let mut input = room::text();
-    let n = bytes(field(case, 0), &mut input);
-    let report = report::report(&input[..n]);
+pub fn run(input: &[u8]) {
+    let report = report::report(input);
     let text = report.text;
     show::start_of(&text, report.len);
 }

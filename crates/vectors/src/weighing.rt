@@ -1,18 +1,7 @@
 // `K` species | genes | count | cluster: prints the weight of the cluster.
-use crate::fields::field;
-use crate::fields::number;
-use crate::genes;
-use crate::numbers::numbers;
-use crate::show;
+use crate::replies;
+use cases::fields::number;
 
-pub fn run(case: &[u8]) {
-    let mut records = genes::room();
-    let n = numbers(field(case, 1), &mut records);
-    show::reply(lineages::weight(
-        number(case, 0),
-        &records[..n],
-        number(case, 2),
-        number(case, 3),
-    ));
-    show::text(b"\n");
+pub fn run(case: &[u8], records: &[u16]) {
+    replies::line(lineages::weight(number(case, 0), records, number(case, 2), number(case, 3)));
 }

@@ -1,27 +1,26 @@
 // `W` roster line | record | room: writes a tree into so many bytes, and prints the reply, the bytes' fingerprint and the text.
-use crate::bytes::bytes;
-use crate::fields::field;
-use crate::fields::least;
-use crate::fields::number;
-use crate::lent;
-use crate::numbers::tree;
-use crate::room;
-use crate::show;
+use crate::replies;
+use cases::lent;
+use cases::packed::entries;
+use cases::room;
+use cases::show;
 
-fn write(line: &[u8], written: trees::Record, out: &mut [u8]) {
-    let reply = writer::write(line, written, out);
-    show::reply(reply);
-    show::text(b" ");
-    show::number(lent::fingerprint(out));
-    show::text(b" ");
+fn write(case: &[u8], line: &[u8], out: &mut [u8]) {
+    let reply = writer::write(
+        line,
+        trees::Record {
+            numbers: entries(case, 1),
+        },
+        out,
+    );
+    replies::with_lent(reply, out);
+    show::byte(b' ');
     show::start_of(out, reply.value);
-    show::text(b"\n");
+    show::byte(b'\n');
 }
 
-pub fn run(case: &[u8]) {
-    let mut line = room::text();
-    let n = bytes(field(case, 0), &mut line);
-    let mut out = lent::room();
-    let size = least(number(case, 2), 65600);
-    write(&line[..n], tree(field(case, 1)), &mut out[0..size]);
+pub fn run(case: &[u8], line: &[u8]) {
+    let mut out = room::bytes();
+    let size = lent::size(case, 2);
+    write(case, line, &mut out[0..size]);
 }

@@ -1,0 +1,38 @@
+// Bytes that a call is lent: how many, and their fingerprint after it, by which they are compared whole.
+ghost use Prim.Native.Nat.{_≤_, _<_};
+ghost use lib.ListN.{length};
+use crate::fields::byte;
+use crate::fields::least;
+use crate::fields::number;
+use crate::show;
+
+// How many bytes, or entries of a table, the k-th field of a case says that the call is lent.
+pub fn size(case: &[u8], k: usize) -> usize
+    ensures { λ r. ⌜ r ≤ 65600 ⌝ }
+{
+    least(number(case, k), 65600)
+}
+
+// The fingerprint h with one more number.
+pub fn mixed(h: u64, x: u32) -> u64
+    requires { ⌜ h < 1000003 ⌝ }
+    ensures { λ r. ⌜ r < 1000003 ⌝ }
+{
+    (h * 31 + (x as u64) + 1) % 1000003
+}
+
+fn fingerprint(s: &[u8]) -> usize {
+    let mut h: u64 = 7;
+    let mut i = 0;
+    while i < s.len() {
+        h = mixed(h, byte(s, i) as u32);
+        i += 1;
+    }
+    h as usize
+}
+
+// The fingerprint, with a space before it.
+pub fn show(s: &[u8]) {
+    show::byte(b' ');
+    show::number(fingerprint(s));
+}

@@ -1,9 +1,0 @@
--- The length of a repeat, by the law and not by counting.
-use Prim.Native.Nat.{ℕ}
-use mathlib.Core.Path.{sym}
-use lib.ListN.{length-replicate}
-use Rattle.vectors.proofs.genes.room.Statement.{statement}
-use Rattle.vectors.proofs.genes.room.Tie as tie
-
-pub room-spec : {M : Type 1} → statement M
-room-spec = tie.close (tie.spec (λ c. sym (length-replicate {0} {A = ℕ} 131168 0)))

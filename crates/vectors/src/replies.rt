@@ -1,0 +1,16 @@
+// Replies of calls on standard output.
+use cases::lent;
+use cases::show;
+use roster::Reply;
+
+// A reply that is the whole answer.
+pub fn line(r: Reply) {
+    show::answer(r.number, r.place, r.value);
+    show::byte(b'\n');
+}
+
+// A reply, and the fingerprint of the bytes that were lent.
+pub fn with_lent(r: Reply, out: &[u8]) {
+    show::answer(r.number, r.place, r.value);
+    lent::show(out);
+}
