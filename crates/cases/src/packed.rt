@@ -9,6 +9,7 @@ use crate::room;
 use crate::tables::narrow;
 use crate::token::Token;
 use crate::token::token_at;
+use trees::Record;
 
 // Puts so many numbers more, each the one that stands `back` places before it, as far as there is room, and answers how many there are then.
 fn again(out: &mut [u16], count: usize, back: usize, times: usize) -> usize
@@ -58,10 +59,10 @@ pub fn numbers(case: &[u8], k: usize, text: bool, out: &mut [u16]) -> usize
 }
 
 // The k-th field of a case, which is a tree's record.
-pub fn entries(case: &[u8], k: usize) -> [u16; 32] {
+pub fn tree(case: &[u8], k: usize) -> Record {
     let mut entries = [0u16; 32];
     numbers(case, k, false, &mut entries);
-    entries
+    Record { numbers: entries }
 }
 
 // The same as bytes.

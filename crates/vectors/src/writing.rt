@@ -1,18 +1,12 @@
 // `W` roster line | record | room: writes a tree into so many bytes, and prints the reply, the bytes' fingerprint and the text.
 use crate::replies;
 use cases::lent;
-use cases::packed::entries;
+use cases::packed::tree;
 use cases::room;
 use cases::show;
 
 fn write(case: &[u8], line: &[u8], out: &mut [u8]) {
-    let reply = writer::write(
-        line,
-        trees::Record {
-            numbers: entries(case, 1),
-        },
-        out,
-    );
+    let reply = writer::write(line, tree(case, 1), out);
     replies::with_lent(reply, out);
     show::byte(b' ');
     show::start_of(out, reply.value);
