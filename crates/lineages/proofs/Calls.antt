@@ -86,12 +86,16 @@ module _ (n : ℕ) (genes : List ℕ) (count a : ℕ) (r : Reply) where
 scoreRest : ℕ → List ℕ → ℕ → List ℕ → List Test
 scoreRest n genes count species = speciesRecordTest n species ∷ recordsTest n (recordsIn count genes) ∷ []
 
-tree-passed : (n : ℕ) (genes : List ℕ) (count : ℕ) (species : List ℕ) → (valid (whole n) species && binary (whole n) species) ≡ true → verdict (scoreRest n genes count species) ≡ verdict (recordsTest n (recordsIn count genes) ∷ [])
+tree-passed :
+    (n : ℕ) (genes : List ℕ) (count : ℕ) (species : List ℕ) → (valid (whole n) species && binary (whole n) species) ≡ true
+    → verdict (scoreRest n genes count species) ≡ verdict (recordsTest n (recordsIn count genes) ∷ [])
 unfolding scoreRest verdict speciesRecordTest
 tree-passed n genes count species tree = rw tree
 
 module _ (n : ℕ) (genes : List ℕ) (count : ℕ) (species : List ℕ) (r : Reply) where
-  scores-refused : {number place : ℕ} → verdict (scoreTests n genes count species) ≡ said number place → (number ≡ 0 → ⊥) → r ≡ replied number place 0 → Scores n genes count species r
+  scores-refused :
+      {number place : ℕ} → verdict (scoreTests n genes count species) ≡ said number place → (number ≡ 0 → ⊥) → r ≡ replied number place 0
+      → Scores n genes count species r
   unfolding Scores
   scores-refused {number} {place} e f p = p ∙ refused-reply (score (recordsIn count genes) species) number e f
 
@@ -125,12 +129,16 @@ module _ (n : ℕ) (genes : List ℕ) (count : ℕ) (species : List ℕ) (r : Re
 markRest : ℕ → List ℕ → ℕ → List ℕ → List Test
 markRest n genes count out = lengthTest (length out) (2 ^ n) ∷ recordsTest n (recordsIn count genes) ∷ []
 
-long-passed : (n : ℕ) (genes : List ℕ) (count : ℕ) (out : List ℕ) → 2 ^ n ≤ length out → verdict (markRest n genes count out) ≡ verdict (recordsTest n (recordsIn count genes) ∷ [])
+long-passed :
+    (n : ℕ) (genes : List ℕ) (count : ℕ) (out : List ℕ) → 2 ^ n ≤ length out
+    → verdict (markRest n genes count out) ≡ verdict (recordsTest n (recordsIn count genes) ∷ [])
 unfolding markRest verdict lengthTest
 long-passed n genes count out long = rw (le-ltb (length out) (2 ^ n) long)
 
 module _ (n : ℕ) (genes : List ℕ) (count : ℕ) (out : List ℕ) {r : Reply} {after : List ℕ} where
-  marks-refused : {number place : ℕ} → verdict (markTests n genes count out) ≡ said number place → (number ≡ 0 → ⊥) → r ≡ replied number place 0 → after ≡ out → Marks n genes count out r after
+  marks-refused :
+      {number place : ℕ} → verdict (markTests n genes count out) ≡ said number place → (number ≡ 0 → ⊥) → r ≡ replied number place 0 → after ≡ out
+      → Marks n genes count out r after
   marks-refused {number} {place} e f p same = record {
     reply = p ∙ refused-reply 0 number e f;
     bytes = same ∙ rw e (kept number f);
@@ -140,7 +148,9 @@ module _ (n : ℕ) (genes : List ℕ) (count : ℕ) (out : List ℕ) {r : Reply}
       kept zero f = absurd (f refl)
       kept (suc k) f = refl
 
-  pub marks-shape : {number : ℕ} → verdict (shapeTests n genes count) ≡ said number 0 → (number ≡ 0 → ⊥) → r ≡ replied number 0 0 → after ≡ out → Marks n genes count out r after
+  pub marks-shape :
+      {number : ℕ} → verdict (shapeTests n genes count) ≡ said number 0 → (number ≡ 0 → ⊥) → r ≡ replied number 0 0 → after ≡ out
+      → Marks n genes count out r after
   unfolding markTests shapeTests markRest
   marks-shape e f p same = marks-refused (verdict-first (shapeTests n genes count) (markRest n genes count out) e f) f p same
 

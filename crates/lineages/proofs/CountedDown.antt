@@ -106,7 +106,9 @@ k-top a c below l i n e = go (within c a) refl
     go false h = k-outside a c l (within-false c a h) n ∙ e
 
 -- the clusters of the first child and those of the others are counted apart
-k-children : (a : ℕ) (t : Tree) (f : Forest) → NoneTwice (leaves t ++ leavesOf f) → NoneTwice (clusters t ++ clustersOf f) → kOf (clusters t ++ clustersOf f) a ≡ kOf (clusters t) a + kOf (clustersOf f) a
+k-children :
+    (a : ℕ) (t : Tree) (f : Forest) → NoneTwice (leaves t ++ leavesOf f) → NoneTwice (clusters t ++ clustersOf f)
+    → kOf (clusters t ++ clustersOf f) a ≡ kOf (clusters t) a + kOf (clustersOf f) a
 k-children a t f p n =
     k-apart a (cluster t) (clusterOf f) (clusters t) (clustersOf f) (children-apart t f p) (clusters-inside t) (clustersOf-inside f) n
 

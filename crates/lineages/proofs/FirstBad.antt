@@ -78,7 +78,9 @@ unfolding firstBad
 none-bad n [] small h g m = absurd (List·Memᴰ·not-nil m)
 none-bad n (x ∷ l) small h g m = go (valid (whole n) x) refl h (List·Memᴰ·cases-cons m) (λ k p. none-bad n l small k g p)
   where
-    go : (b : Bool) → valid (whole n) x ≡ b → suc (length l) ≤ countOn b (firstBad n l) → (g ≡ x) ⊎ List·Memᴰ g l → (length l ≤ firstBad n l → List·Memᴰ g l → GeneValid n g) → GeneValid n g
+    go :
+        (b : Bool) → valid (whole n) x ≡ b → suc (length l) ≤ countOn b (firstBad n l) → (g ≡ x) ⊎ List·Memᴰ g l
+        → (length l ≤ firstBad n l → List·Memᴰ g l → GeneValid n g) → GeneValid n g
     go true e k (inl p) ih = subst (λ (y : List ℕ). GeneValid n y) (sym p) (valid-decides x (whole-small n small) .holds e)
     go true e k (inr p) ih = ih (omega arith) p
     go false e k p ih = absurd (omega arith)

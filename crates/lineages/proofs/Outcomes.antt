@@ -22,7 +22,9 @@ pub scores-once : (n : ℕ) (genes : List ℕ) (count : ℕ) (species : List ℕ
 unfolding Scores
 scores-once n genes count species p q = p ∙ sym q
 
-pub marks-once : {n : ℕ} {genes : List ℕ} {count : ℕ} {out : List ℕ} {r q : Reply} {after behind : List ℕ} → Marks n genes count out r after → Marks n genes count out q behind → (r ≡ q) × (after ≡ behind)
+pub marks-once :
+    {n : ℕ} {genes : List ℕ} {count : ℕ} {out : List ℕ} {r q : Reply} {after behind : List ℕ} → Marks n genes count out r after
+    → Marks n genes count out q behind → (r ≡ q) × (after ≡ behind)
 marks-once p q = (p .reply ∙ sym (q .reply), p .bytes ∙ sym (q .bytes))
 
 -- ---- entries beyond the need

@@ -195,7 +195,8 @@ module _ (listed : List ℕ) (count : ℕ) (fits : count ≤ length listed) wher
 
   pub clusters-at : (j : ℕ) → j < count → drop j (take count listed) ≡ getD listed j 0 ∷ drop (j + 1) (take count listed)
   clusters-at j l =
-      rw add-one (drop-cons (take count listed) j 0 (omega (arith, length-take count listed)) ∙ ap (λ (y : ℕ). y ∷ drop (suc j) (take count listed)) (getD-take count listed j 0 l))
+      rw add-one (drop-cons (take count listed) j 0 (omega (arith, length-take count listed)) ∙ ap (λ (y : ℕ). y ∷ drop (suc j) (take count listed))
+      (getD-take count listed j 0 l))
 
   pub countable-at : {a : ℕ} (j : ℕ) → j < count → CountableIn a (take count listed) → CountableIn a (getD listed j 0 ∷ drop (j + 1) (take count listed))
   countable-at {a} j l can = subst (λ (cs : List ℕ). CountableIn a cs) (clusters-at j l) (countable-from j (take count listed) can)
@@ -204,35 +205,38 @@ module _ (listed : List ℕ) (count : ℕ) (fits : count ≤ length listed) wher
   scanning-start a = record { place = omega arith; few = omega arith; scan = scan-start a }
 
   -- one place on: the cluster x there is passed over, covered, or counted
-  module _ {a k covered left x : ℕ} (can : CountableIn a (take count listed)) (now : Scanning listed count a k covered left) (more : 0 < left) (read : x ≡ getD listed (left - 1) 0) where
-    back-one : left - 1 + 1 ≡ left
-    back-one = omega arith
+  module _
+      {a k covered left x : ℕ} (can : CountableIn a (take count listed)) (now : Scanning listed count a k covered left) (more : 0 < left)
+      (read : x ≡ getD listed (left - 1) 0)
+    where
+      back-one : left - 1 + 1 ≡ left
+      back-one = omega arith
 
-    ahead : drop (left - 1) (take count listed) ≡ x ∷ drop left (take count listed)
-    ahead =
-        clusters-at (left - 1) (omega (arith, now .place))
-        ∙ ap₂ (λ (y j : ℕ). y ∷ drop j (take count listed)) (sym read) back-one
+      ahead : drop (left - 1) (take count listed) ≡ x ∷ drop left (take count listed)
+      ahead =
+          clusters-at (left - 1) (omega (arith, now .place))
+          ∙ ap₂ (λ (y j : ℕ). y ∷ drop j (take count listed)) (sym read) back-one
 
-    able : CountableIn a (x ∷ drop left (take count listed))
-    able = subst (λ (cs : List ℕ). CountableIn a cs) ahead (countable-from (left - 1) (take count listed) can)
+      able : CountableIn a (x ∷ drop left (take count listed))
+      able = subst (λ (cs : List ℕ). CountableIn a cs) ahead (countable-from (left - 1) (take count listed) can)
 
-    pub scanning-outside : within x a ≡ false → Scanning listed count a k covered (left - 1)
-    scanning-outside e = record {
-      place = omega (arith, now .place);
-      few = omega (arith, now .few);
-      scan = rw ahead (scan-outside able (now .scan) (within-false x a e));
-    }
+      pub scanning-outside : within x a ≡ false → Scanning listed count a k covered (left - 1)
+      scanning-outside e = record {
+        place = omega (arith, now .place);
+        few = omega (arith, now .few);
+        scan = rw ahead (scan-outside able (now .scan) (within-false x a e));
+      }
 
-    pub scanning-covered : within x a ≡ true → apart x covered ≡ false → Scanning listed count a k covered (left - 1)
-    scanning-covered e d = record {
-      place = omega (arith, now .place);
-      few = omega (arith, now .few);
-      scan = rw ahead (scan-covered able (now .scan) (within-true x a e) (apart-false x covered d));
-    }
+      pub scanning-covered : within x a ≡ true → apart x covered ≡ false → Scanning listed count a k covered (left - 1)
+      scanning-covered e d = record {
+        place = omega (arith, now .place);
+        few = omega (arith, now .few);
+        scan = rw ahead (scan-covered able (now .scan) (within-true x a e) (apart-false x covered d));
+      }
 
-    pub scanning-counted : within x a ≡ true → apart x covered ≡ true → Scanning listed count a (k + 1) (union covered x) (left - 1)
-    scanning-counted e d = record {
-      place = omega (arith, now .place);
-      few = omega (arith, now .few);
-      scan = rw ahead (scan-counted able (now .scan) (within-true x a e) (apart-true x covered d));
-    }
+      pub scanning-counted : within x a ≡ true → apart x covered ≡ true → Scanning listed count a (k + 1) (union covered x) (left - 1)
+      scanning-counted e d = record {
+        place = omega (arith, now .place);
+        few = omega (arith, now .few);
+        scan = rw ahead (scan-counted able (now .scan) (within-true x a e) (apart-true x covered d));
+      }

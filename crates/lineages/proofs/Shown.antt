@@ -141,7 +141,9 @@ all-marks entries genes = ext-getD 0 (markedAll genes (replicate entries 0)) (ma
         ∙ sym (map-upTo (λ a. flag (shown genes a)) entries a k)
 
 -- cleared bytes that are marked are the marks, and behind them what was there
-pub cleared-marked : (entries : ℕ) (genes : List (List ℕ)) (out : List ℕ) {clear after : List ℕ} → AllMarkable entries genes → clear ≡ replicate entries 0 ++ drop entries out → after ≡ markedAll genes clear → after ≡ marksBelow entries genes ++ drop entries out
+pub cleared-marked :
+    (entries : ℕ) (genes : List (List ℕ)) (out : List ℕ) {clear after : List ℕ} → AllMarkable entries genes
+    → clear ≡ replicate entries 0 ++ drop entries out → after ≡ markedAll genes clear → after ≡ marksBelow entries genes ++ drop entries out
 cleared-marked entries genes out f zeros marked =
     marked
     ∙ ap (λ (k : List ℕ). markedAll genes k) zeros

@@ -132,12 +132,16 @@ pub weight-bound : {n : ℕ} (genes : List (List ℕ)) (a : ℕ) → n ≤ 16 �
 weight-bound {n} genes a l v = weight-le 15 genes a (λ g m. omega (arith, extra-lt-all (v g m) a, size-whole n))
 
 -- inside the limits a score is at most 31 times 61,440
-pub score-bound : {n : ℕ} (genes : List (List ℕ)) (species : List ℕ) → n ≤ 16 → length genes ≤ 4096 → AllValid n genes → SpeciesValid n species → score genes species ≤ 31 * 61440
+pub score-bound :
+    {n : ℕ} (genes : List (List ℕ)) (species : List ℕ) → n ≤ 16 → length genes ≤ 4096 → AllValid n genes → SpeciesValid n species
+    → score genes species ≤ 31 * 61440
 score-bound {n} genes species l few v s =
     let b = weights-le 61440 genes (listed species) (λ a. omega (arith, weight-bound genes a l v)) in
     let c = s .form .counted in
     omega (arith, score-weights genes species, length-take (count species) (drop 1 species))
 
 -- so no score is the mark of a cluster without a tree
-pub no-score-reaches-the-mark : {n : ℕ} (genes : List (List ℕ)) (species : List ℕ) → n ≤ 16 → length genes ≤ 4096 → AllValid n genes → SpeciesValid n species → score genes species < 4294967295
+pub no-score-reaches-the-mark :
+    {n : ℕ} (genes : List (List ℕ)) (species : List ℕ) → n ≤ 16 → length genes ≤ 4096 → AllValid n genes → SpeciesValid n species
+    → score genes species < 4294967295
 no-score-reaches-the-mark genes species l few v s = omega (arith, score-bound genes species l few v s)

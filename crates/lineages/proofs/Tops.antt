@@ -99,7 +99,9 @@ tops-once cs a p =
 -- ---- k is the number of them
 
 -- k is the length of any list that holds exactly the maximal clusters within A, each once
-pub k-counts : (cs : List ℕ) (a : ℕ) (l : List ℕ) → NoneTwice cs → NoneTwice l → ((x : ℕ) → Top cs a x → Among x l) → ((x : ℕ) → Among x l → Top cs a x) → kOf cs a ≡ length l
+pub k-counts :
+    (cs : List ℕ) (a : ℕ) (l : List ℕ) → NoneTwice cs → NoneTwice l → ((x : ℕ) → Top cs a x → Among x l) → ((x : ℕ) → Among x l → Top cs a x)
+    → kOf cs a ≡ length l
 k-counts cs a l p q f g =
     k-tops cs a ∙ same-length (tops cs a) l (tops-once cs a p) q (λ x h. f x (among-tops cs a h)) (λ x h. tops-among cs a (g x h))
 

@@ -19,7 +19,9 @@ unfolding verdict
 verdict-first [] k e f = absurd (f (sym (ap (λ (v : Verdict). v .number) e)))
 verdict-first (t ∷ l) k {number} {place} e f = go (t .fault) e (λ h. verdict-first l k h f)
   where
-    go : (b : Bool) → verdictBy b t (verdict l) ≡ said number place → (verdict l ≡ said number place → verdict (l ++ k) ≡ said number place) → verdictBy b t (verdict (l ++ k)) ≡ said number place
+    go :
+        (b : Bool) → verdictBy b t (verdict l) ≡ said number place → (verdict l ≡ said number place → verdict (l ++ k) ≡ said number place)
+        → verdictBy b t (verdict (l ++ k)) ≡ said number place
     go true h ih = h
     go false h ih = ih h
 

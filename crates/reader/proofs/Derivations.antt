@@ -33,7 +33,8 @@ module _ (R : Rules) (P : ℕ → List ℕ → Tree → List ℕ → Type 0) (Q 
       elim d as (λ k s t rest d. P k s t rest) (λ k s f rest d. Q k s f rest) [
         | a-leaf {k = k} {i = i} {w = w} {d = d} {b = b} {s = s} {s₁ = s₁} {s₂ = s₂} {rest = rest} bl r known behind ↦
             steps .at-leaf k i w d b s s₁ s₂ rest bl r known behind
-        | an-inner {k = k} {t = t} {f = f} {w = w} {d = d} {b = b} {s = s} {s₁ = s₁} {s₂ = s₂} {s₃ = s₃} {s₄ = s₄} {s₅ = s₅} {rest = rest} bl (first → p) comma (others → q) inner behind ↦
+        | an-inner {k = k} {t = t} {f = f} {w = w} {d = d} {b = b} {s = s} {s₁ = s₁} {s₂ = s₂} {s₃ = s₃} {s₄ = s₄} {s₅ = s₅} {rest = rest} bl (first → p)
+            comma (others → q) inner behind ↦
             steps .at-inner k t f w d b s s₁ s₂ s₃ s₄ s₅ rest bl first p comma others q inner behind
         | the-last {k = k} {t = t} {s = s} {s₁ = s₁} {rest = rest} (only → p) closes ↦ steps .at-last k t s s₁ rest only p closes
         | one-more {k = k} {t = t} {f = f} {s = s} {s₁ = s₁} {s₂ = s₂} {rest = rest} (first → p) comma (others → q) ↦
@@ -45,7 +46,8 @@ module _ (R : Rules) (P : ℕ → List ℕ → Tree → List ℕ → Type 0) (Q 
       elim d as (λ k s t rest d. P k s t rest) (λ k s f rest d. Q k s f rest) [
         | a-leaf {k = k} {i = i} {w = w} {d = d} {b = b} {s = s} {s₁ = s₁} {s₂ = s₂} {rest = rest} bl r known behind ↦
             steps .at-leaf k i w d b s s₁ s₂ rest bl r known behind
-        | an-inner {k = k} {t = t} {f = f} {w = w} {d = d} {b = b} {s = s} {s₁ = s₁} {s₂ = s₂} {s₃ = s₃} {s₄ = s₄} {s₅ = s₅} {rest = rest} bl (first → p) comma (others → q) inner behind ↦
+        | an-inner {k = k} {t = t} {f = f} {w = w} {d = d} {b = b} {s = s} {s₁ = s₁} {s₂ = s₂} {s₃ = s₃} {s₄ = s₄} {s₅ = s₅} {rest = rest} bl (first → p)
+            comma (others → q) inner behind ↦
             steps .at-inner k t f w d b s s₁ s₂ s₃ s₄ s₅ rest bl first p comma others q inner behind
         | the-last {k = k} {t = t} {s = s} {s₁ = s₁} {rest = rest} (only → p) closes ↦ steps .at-last k t s s₁ rest only p closes
         | one-more {k = k} {t = t} {f = f} {s = s} {s₁ = s₁} {s₂ = s₂} {rest = rest} (first → p) comma (others → q) ↦

@@ -117,7 +117,8 @@ leafAt-fresh names seen s p e =
 
 closing-node :
     (t : Tree) (f : Forest) (s : List ℕ) (p : ℕ) {x : Tree} {rest : List ℕ} {q : ℕ}
-    → closing t f s p ≡ parsed x rest q → (cluster x ≡ union (cluster t) (clusterOf f)) × (clusters x ≡ clusters t ++ clustersOf f ++ (union (cluster t) (clusterOf f) ∷ []))
+    → closing t f s p ≡ parsed x rest q
+    → (cluster x ≡ union (cluster t) (clusterOf f)) × (clusters x ≡ clusters t ++ clustersOf f ++ (union (cluster t) (clusterOf f) ∷ []))
 unfolding closing cluster clusters
 closing-node t f s p {x} e =
     let r = andThen-parsed (innerName s p) (λ w s p. andThen (numbers w s p) (λ b s p. parsed (node t f b) s p)) e in

@@ -40,7 +40,9 @@ pub scan-ended : (text : List ℕ) (at next : ℕ) → scannedAt text at .label 
 unfolding scannedAt
 scan-ended text at next told = by-length (leb (run isName (drop at text)) labelBytes) refl told
   where
-    by-length : (t : Bool) → leb (run isName (drop at text)) labelBytes ≡ t → scannedBy t (drop at text) at .label ≡ Ended next → Short text at (scannedBy t (drop at text) at .name)
+    by-length :
+        (t : Bool) → leb (run isName (drop at text)) labelBytes ≡ t → scannedBy t (drop at text) at .label ≡ Ended next
+        → Short text at (scannedBy t (drop at text) at .name)
     by-length true l e = record { short = leb-true (run isName (drop at text)) labelBytes l; bytes = refl }
     by-length false l e = absurd (let z : _≡_ {A = ℕ} 0 1 = cc in omega arith)
 
@@ -57,47 +59,50 @@ module _ (text : List ℕ) (at : ℕ) (scanned : Scanned) (is : scanned ≡ scan
   leaf-too-long p e told fault = name-refused text (word (drop at text)) (scanned .label) (name (drop at text) at) says judged p e told fault
 
   -- the name ends at `next`, and is found at i
-  module _ (count : ℕ) (table : List ℕ) (holds : Holds names count table) (next i : ℕ) (ends : scanned .label ≡ Ended next) (found : i ≡ position (scanned .name) (slots count table)) where
-    place-is : position (word (drop at text)) names ≡ i
-    place-is =
-        let told : scannedAt text at .label ≡ Ended next = rw is at ends in
-        let s = scan-ended text at next told in
-        let bytes : scanned .name ≡ padded (word (drop at text)) = rw is (s .bytes) in
-        sym (found ∙ (rw bytes (holds .finds (drop at text) (s .short))))
+  module _
+      (count : ℕ) (table : List ℕ) (holds : Holds names count table) (next i : ℕ) (ends : scanned .label ≡ Ended next)
+      (found : i ≡ position (scanned .name) (slots count table))
+    where
+      place-is : position (word (drop at text)) names ≡ i
+      place-is =
+          let told : scannedAt text at .label ≡ Ended next = rw is at ends in
+          let s = scan-ended text at next told in
+          let bytes : scanned .name ≡ padded (word (drop at text)) = rw is (s .bytes) in
+          sym (found ∙ (rw bytes (holds .finds (drop at text) (s .short))))
 
-    judged-is : leafKnown (ltb i count) i seen at (drop next text) next ≡ leafAt names seen (drop at text) at
-    unfolding leafAt judged
-    judged-is = rw (← place-is, ← holds .counted) (name-read text (word (drop at text)) (scanned .label) (name (drop at text) at) says judged next ends)
+      judged-is : leafKnown (ltb i count) i seen at (drop next text) next ≡ leafAt names seen (drop at text) at
+      unfolding leafAt judged
+      judged-is = rw (← place-is, ← holds .counted) (name-read text (word (drop at text)) (scanned .label) (name (drop at text) at) says judged next ends)
 
-    pub leaf-unknown : count ≤ i → refused 5 at ≡ leafAt names seen (drop at text) at
-    leaf-unknown h = rw (le-ltb i count h) at judged-is
+      pub leaf-unknown : count ≤ i → refused 5 at ≡ leafAt names seen (drop at text) at
+      leaf-unknown h = rw (le-ltb i count h) at judged-is
 
-    pub leaf-again : i < count → apart (single i) seen ≡ false → refused 6 at ≡ leafAt names seen (drop at text) at
-    leaf-again h a = rw (lt-ltb i count h, a) at judged-is
+      pub leaf-again : i < count → apart (single i) seen ≡ false → refused 6 at ≡ leafAt names seen (drop at text) at
+      leaf-again h a = rw (lt-ltb i count h, a) at judged-is
 
-    pub leaf-new :
-        i < count → apart (single i) seen ≡ true
-        → andThen (numbers [] (drop next text) next) (λ b s p. parsed (leaf i b) s p) ≡ leafAt names seen (drop at text) at
-    leaf-new h a = rw (lt-ltb i count h, a) at judged-is
+      pub leaf-new :
+          i < count → apart (single i) seen ≡ true
+          → andThen (numbers [] (drop next text) next) (λ b s p. parsed (leaf i b) s p) ≡ leafAt names seen (drop at text) at
+      leaf-new h a = rw (lt-ltb i count h, a) at judged-is
 
-    -- its cluster is stored where what stands behind it is read
-    pub leaf-read :
-        i < count → (stored : ℕ) (before after : List ℕ) (mask seen′ : ℕ) (read : BehindRead) (r : NodeRead)
-        → mask ≡ single i → apart mask seen ≡ true → seen′ ≡ union seen mask → ((w : List ℕ) → behindSays text w read ≡ numbers w (drop next text) next)
-        → r ≡ endedAs mask seen′ stored read → after ≡ keptAs mask stored before read
-        → NodeReads text seen stored before after (leafAt names seen (drop at text) at) r
-    unfolding cluster clusters
-    leaf-read h stored before after mask seen′ read r mask-is a seen-is behind result kept =
-        rw (result, kept)
-        (node-ended text seen stored before (leafAt names seen (drop at text) at) [] read (numbers [] (drop next text) next) (λ b. leaf i b) mask [] before seen′
-        stored
-        (behind [])
-        (leaf-new h (rw mask-is at a))
-        (λ b. mask-is)
-        (λ b. rw mask-is)
-        refl
-        seen-is
-        (omega arith))
+      -- its cluster is stored where what stands behind it is read
+      pub leaf-read :
+          i < count → (stored : ℕ) (before after : List ℕ) (mask seen′ : ℕ) (read : BehindRead) (r : NodeRead)
+          → mask ≡ single i → apart mask seen ≡ true → seen′ ≡ union seen mask → ((w : List ℕ) → behindSays text w read ≡ numbers w (drop next text) next)
+          → r ≡ endedAs mask seen′ stored read → after ≡ keptAs mask stored before read
+          → NodeReads text seen stored before after (leafAt names seen (drop at text) at) r
+      unfolding cluster clusters
+      leaf-read h stored before after mask seen′ read r mask-is a seen-is behind result kept =
+          rw (result, kept)
+          (node-ended text seen stored before (leafAt names seen (drop at text) at) [] read (numbers [] (drop next text) next) (λ b. leaf i b) mask [] before seen′
+          stored
+          (behind [])
+          (leaf-new h (rw mask-is at a))
+          (λ b. mask-is)
+          (λ b. rw mask-is)
+          refl
+          seen-is
+          (omega arith))
 
 -- there is room for the cluster of a species that was not met before
 pub leaf-room :

@@ -158,8 +158,12 @@ opened-node s v bl n = (suc (n .0), _, an-inner bl (node-on (44 ∷ 97 ∷ 41 �
 pub comma-children :
     (k : ℕ) (t : Tree) (s v : List ℕ) → Then (Then (BlanksAnd 40) (NodeOf k t)) (BlanksAnd 44) s v → IsChildren v → IsNode s
 comma-children k t s v h c =
-    let m = k + c .0 in
-    (suc m, _, an-inner (h .first .first) (node-deeper lifted m (omega arith) (h .first .second)) (h .second) (children-deeper lifted m (omega arith) (c .2)) nameless nothing)
+    let m = k + c .0 in (
+      suc m,
+      _,
+      an-inner (h .first .first) (node-deeper lifted m (omega arith) (h .first .second)) (h .second)
+          (children-deeper lifted m (omega arith) (c .2)) nameless nothing,
+    )
 
 -- `(` and all the children; then what closes it
 pub children-closing :
@@ -167,8 +171,12 @@ pub children-closing :
     → Then (Then (Then (BlanksAnd 40) (NodeOf k t)) (BlanksAnd 44)) (ChildrenOf l f) s v → IsClosing v → IsNode s
 children-closing k l t f s v h c =
     let m = k + l in
-    let opening = h .first in
-    (suc m, _, an-inner (opening .first .first) (node-deeper lifted m (omega arith) (opening .first .second)) (opening .second) (children-deeper lifted m (omega arith) (h .second)) (c .2) (c .3 .2))
+    let opening = h .first in (
+      suc m,
+      _,
+      an-inner (opening .first .first) (node-deeper lifted m (omega arith) (opening .first .second)) (opening .second)
+          (children-deeper lifted m (omega arith) (h .second)) (c .2) (c .3 .2),
+    )
 
 -- `(`, a child and blanks, with `,a)` behind
 pub first-child : (k : ℕ) (t : Tree) (s : List ℕ) → Then (Then (BlanksAnd 40) (NodeOf k t)) Blanks s (44 ∷ 97 ∷ 41 ∷ []) → IsNode s

@@ -81,7 +81,9 @@ module _ (text : List ℕ) (seen stored : ℕ) (before after : List ℕ) where
       → TreeRead answer mask next
   read-node answer r mask next reads told =
       let says = rw told at reads .says in
-      let h : Reached answer (λ t rest q. parsed (treeMet seen stored t) rest q) (nodeSays text (Node mask next)) = andThen-parsed answer (λ t rest q. parsed (treeMet seen stored t) rest q) (sym says) in
+      let h : Reached answer (λ t rest q. parsed (treeMet seen stored t) rest q) (nodeSays text (Node mask next)) =
+      andThen-parsed answer (λ t rest q. parsed (treeMet seen stored t) rest q) (sym says)
+      in
       let met : treeMet seen stored (h .value) ≡ record { mask = mask; seen = next .seen; stored = next .stored } = cc (h .after) in
       let is : answer ≡ parsed (h .value) (drop (next .at) text) (next .at) = cc (h .first, h .after) in
       record {
@@ -98,7 +100,9 @@ module _ (text : List ℕ) (seen stored : ℕ) (before after : List ℕ) where
       → ForestRead answer mask next
   read-list answer r mask next reads told =
       let says = rw told at reads .says in
-      let h : Reached answer (λ f rest q. parsed (forestMet seen stored f) rest q) (nodeSays text (Node mask next)) = andThen-parsed answer (λ f rest q. parsed (forestMet seen stored f) rest q) (sym says) in
+      let h : Reached answer (λ f rest q. parsed (forestMet seen stored f) rest q) (nodeSays text (Node mask next)) =
+      andThen-parsed answer (λ f rest q. parsed (forestMet seen stored f) rest q) (sym says)
+      in
       let met : forestMet seen stored (h .value) ≡ record { mask = mask; seen = next .seen; stored = next .stored } = cc (h .after) in
       let is : answer ≡ parsed (h .value) (drop (next .at) text) (next .at) = cc (h .first, h .after) in
       record {

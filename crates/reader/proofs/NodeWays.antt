@@ -492,7 +492,8 @@ module _ (a : Asked) (names : List (List ℕ)) (holds : Holds names (a .count) (
 
             rest-told : ListReads text (next .seen) (next .stored) mid mid₂ (readForest (k - 1) names room (next .seen) (drop (here + 1) text) (here + 1)) result₂
             rest-told =
-                list-told text table count names holds cursor₂ (here + 1) (next .seen) (next .stored) cursor₂-is mid mid₂ result₂ room (k - 1) reads₂ (let f = rest-falls in omega arith)
+                list-told text table count names holds cursor₂ (here + 1) (next .seen) (next .stored) cursor₂-is mid mid₂ result₂ room (k - 1) reads₂
+                (let f = rest-falls in omega arith)
 
             pub rest-refused-way :
                 (e : Refusal) → result₂ ≡ NoNode e → ListReads text seen stored before mid₂ (readForest k names room seen (drop at text) at) result₂

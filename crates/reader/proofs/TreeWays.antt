@@ -164,7 +164,7 @@ module _
           rw (holds .counted) at
           (tree-fresh k names room needed (drop start text) start (read-tree .tree) (drop (next .at) text) (next .at) (read-tree .answered))
 
-      pub stored-few : next .stored ≤ 31
+      stored-few : next .stored ≤ 31
       stored-few =
           let f = fresh in
           let l = size-le count (f .below) in
@@ -173,7 +173,7 @@ module _
       long : length found ≡ 64
       long = rw (read-tree .table-is) (length-sets (replicate 64 0) 0 (clusters (read-tree .tree)) ∙ length-replicate {A = ℕ} 64 0)
 
-      pub stored-within : next .stored ≤ length found
+      stored-within : next .stored ≤ length found
       stored-within = let f = stored-few in let l = long in omega arith
 
       stored-is : next .stored ≡ length (clusters (read-tree .tree))
@@ -182,12 +182,16 @@ module _
       fits : length (clusters (read-tree .tree)) ≤ length (replicate {A = ℕ} 64 0)
       fits = let f = stored-few in let s = stored-is in omega (arith, length-replicate {A = ℕ} 64 0)
 
-      pub stored-narrow : (i : ℕ) → i < next .stored → getD found i 0 < 65536
+      stored-narrow : (i : ℕ) → i < next .stored → getD found i 0 < 65536
       stored-narrow i h =
           let l : i < length (clusters (read-tree .tree)) = let s = stored-is in omega arith in
           let top : 2 ^ count ≤ 2 ^ 16 = pow-mono few in
           let b = fresh .each i l in
           rw (read-tree .table-is, getD-sets (replicate 64 0) (clusters (read-tree .tree)) i fits l) (omega arith)
+
+      -- few enough, all in the table, and each of them narrow
+      pub stored-fit : (next .stored ≤ 31) × (next .stored ≤ length found × ((i : ℕ) → i < next .stored → getD found i 0 < 65536))
+      stored-fit = (stored-few, (stored-within, stored-narrow))
 
       pub reading-recorded :
           (numbers : List ℕ) → numbers ≡ recordOf (take (next .stored) found)

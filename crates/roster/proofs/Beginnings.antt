@@ -82,5 +82,6 @@ module _ (line : List ℕ) where
   -- short names fit the table
   pub short-fit : (m : ℕ) → Each (λ w. length w ≤ 15) (namesTo line m) → Each Fitting (namesTo line m)
   short-fit m short =
-      each-still (λ w. (length w ≤ 15) × Lettered w) Fitting (λ w both. record { short = let l = both .0 in omega arith; bare = lettered-bare w (both .1) }) (namesTo line m)
+      each-still (λ w. (length w ≤ 15) × Lettered w) Fitting
+      (λ w both. record { short = let l = both .0 in omega arith; bare = lettered-bare w (both .1) }) (namesTo line m)
       (each-both (λ w. length w ≤ 15) Lettered (namesTo line m) short (names-lettered m))

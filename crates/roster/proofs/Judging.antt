@@ -57,5 +57,8 @@ module _ (most : ℕ) (line : List ℕ) (r : Roster) (read : r ≡ rosterOf most
       by true e is = (ap (λ (s : Roster). length (s .table)) is ∙ length-replicate {A = ℕ} 512 0, let c = ap (λ (s : Roster). s .count) is in omega arith)
       by false e is =
           let few = names-count most line e .1 in
-          let c = ap (λ (s : Roster). s .count) is in
-          (ap (λ (s : Roster). length (s .table)) is ∙ table-length (names line) (omega arith) (each-still Fitting Short (λ w f. f .short) (names line) (names-fit most line e)), omega arith)
+          let c = ap (λ (s : Roster). s .count) is in (
+            ap (λ (s : Roster). length (s .table)) is ∙ table-length (names line) (omega arith)
+                (each-still Fitting Short (λ w f. f .short) (names line) (names-fit most line e)),
+            omega arith,
+          )

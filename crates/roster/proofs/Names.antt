@@ -47,7 +47,8 @@ module _ (line : List ℕ) where
   pub names-some : (i : ℕ) → i < length (names line) → 0 < length (getD (names line) i [])
   names-some i =
       each-at (λ w. 0 < length w) (names line) i
-      (rw (names-to-end line) (each-begun line (λ w. 0 < length w) (λ p e. let s = begins-starts p e in let l = name-length line p s in let z = size-some line p s in omega arith) (length line)))
+      (rw (names-to-end line) (each-begun line (λ w. 0 < length w)
+      (λ p e. let s = begins-starts p e in let l = name-length line p s in let z = size-some line p s in omega arith) (length line)))
 
 -- a good roster
 module _ (most : ℕ) (line : List ℕ) (good : faulty most line ≡ false) where
@@ -62,7 +63,8 @@ module _ (most : ℕ) (line : List ℕ) (good : faulty most line ≡ false) wher
           decide (no n) =
               let l = name-length line p s in
               let w = size-within line p s in
-              absurd (never-both (faultAt most line (p + 15)) (fault-long line (p + 15) most (long-here line p e (omega arith))) (no-fault most line good (p + 15) (omega arith)))
+              absurd (never-both (faultAt most line (p + 15)) (fault-long line (p + 15) most (long-here line p e (omega arith)))
+              (no-fault most line good (p + 15) (omega arith)))
 
   pub names-short : (i : ℕ) → i < length (names line) → length (getD (names line) i []) ≤ 15
   names-short i = each-at (λ w. length w ≤ 15) (names line) i each-short
@@ -80,7 +82,8 @@ module _ (most : ℕ) (line : List ℕ) (good : faulty most line ≡ false) wher
       by false e before = rw (no-more line m e) before
       by true e before =
           let n : length (namesTo line m) ≡ most → ⊥ =
-          λ full. never-both (faultAt most line m) (fault-many line m most (many-here line m most e (sym (as-many line m) ∙ full))) (no-fault most line good m (omega arith)) in
+          λ full. never-both (faultAt most line m) (fault-many line m most (many-here line m most e (sym (as-many line m) ∙ full)))
+          (no-fault most line good m (omega arith)) in
           rw (one-more line m e, length-append) (omega arith)
 
   -- a good line begins with a name
@@ -125,11 +128,14 @@ module _ (most : ℕ) (line : List ℕ) (good : faulty most line ≡ false) wher
     where
       by : (t : Bool) → begins line m ≡ t → Distinct (namesTo line m) → Distinct (namesTo line (suc m))
       by false e before = rw (no-more line m e) before
-      by true e before = rw (one-more line m e) (distinct-more (namesTo line m) (nameAt line m) before (new (decLt (position (nameAt line m) (namesTo line m)) (length (namesTo line m)))))
+      by true e before =
+          rw (one-more line m e) (distinct-more (namesTo line m) (nameAt line m) before
+          (new (decLt (position (nameAt line m) (namesTo line m)) (length (namesTo line m)))))
         where
           new : Dec (position (nameAt line m) (namesTo line m) < length (namesTo line m)) → position (nameAt line m) (namesTo line m) ≡ length (namesTo line m)
           new (yes known) =
-              absurd (never-both (faultAt most line m) (fault-again line m most (again-here line m e (rw (← as-many line m) known))) (no-fault most line good m (omega arith)))
+              absurd (never-both (faultAt most line m) (fault-again line m most (again-here line m e (rw (← as-many line m) known)))
+              (no-fault most line good m (omega arith)))
           new (no n) = let w = position-within (nameAt line m) (namesTo line m) in omega arith
 
   -- no two are equal: each stands where it is in the list, so the i-th is species i

@@ -108,7 +108,9 @@ module _ (line : List ℕ) (p : ℕ) where
     unfolding faultAt
     fault-open e = rw (e, or-true)
 
-    pub fault-none : strayAt line p ≡ false → longAt line p ≡ false → manyAt most line p ≡ false → againAt line p ≡ false → openAt line p ≡ false → faultAt most line p ≡ false
+    pub fault-none :
+        strayAt line p ≡ false → longAt line p ≡ false → manyAt most line p ≡ false → againAt line p ≡ false → openAt line p ≡ false
+        → faultAt most line p ≡ false
     unfolding faultAt
     fault-none s l m a o = rw (s, l, m, a, o)
 

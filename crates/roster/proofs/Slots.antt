@@ -70,7 +70,9 @@ module _ (w table : List ℕ) (count i : ℕ) (h : i < count) where
   position-here e = rw (pieces-next 16 i count table h, e)
 
   -- it is not: the word stands one further from there
-  pub position-on : same w (slot table i) ≡ false → position w (slots (count - i) (drop (16 * i) table)) ≡ suc (position w (slots (count - (i + 1)) (drop (16 * (i + 1)) table)))
+  pub position-on :
+      same w (slot table i) ≡ false → position w (slots (count - i) (drop (16 * i) table))
+      ≡ suc (position w (slots (count - (i + 1)) (drop (16 * (i + 1)) table)))
   unfolding position
   position-on e = rw (pieces-next 16 i count table h, e)
 

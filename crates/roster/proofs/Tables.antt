@@ -38,7 +38,12 @@ unfolding pieces packed Each
 slots-packed [] rest all = refl
 slots-packed (w ∷ ns) rest all =
     let front = padded-length w (all .0) in
-    rw (append-assoc (padded w) (packed ns) rest, take-at (padded w) (packed ns ++ rest) 16 front, drop-at (padded w) (packed ns ++ rest) 16 front, slots-packed ns rest (all .1))
+    rw (
+      append-assoc (padded w) (packed ns) rest,
+      take-at (padded w) (packed ns ++ rest) 16 front,
+      drop-at (padded w) (packed ns ++ rest) 16 front,
+      slots-packed ns rest (all .1),
+    )
 
 -- the first sixteens of a table are its names, padded
 pub slots-table : (ns : List (List ℕ)) → Each Short ns → slots (length ns) (table ns) ≡ map padded ns

@@ -249,7 +249,8 @@ module _ (most : ℕ) (line held : List ℕ) (count at next : ℕ) (name : List 
         let w = next-within in
         let e = m .ended .1 in
         let last =
-        fault-none line next most (no-stray-end line next (omega arith)) (no-long line next other-behind) (no-many line next most none-begins) (no-again line next none-begins)
+        fault-none line next most (no-stray-end line next (omega arith)) (no-long line next other-behind) (no-many line next most none-begins)
+        (no-again line next none-begins)
         (no-open-after line next (omega arith) name-before) in
         let all : namesTo line at ++ (nameAt line at ∷ []) ≡ names line =
         sym (names-with line at (m .starts) next (omega arith) (omega arith)) ∙ ap (namesTo line) end ∙ sym (names-to-end line) in

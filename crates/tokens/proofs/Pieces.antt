@@ -20,7 +20,8 @@ module _ (text : List ℕ) (r : NumberRead) (answer : Answer (List ℕ)) (says :
       let g : e ≡ f = rw told at fault in
       rw (g, ← s)
 
-  pub number-read : {B : Type 0} (next : List ℕ → List ℕ → ℕ → Answer B) (x : Extent) → r ≡ Number x → next (between text x) (drop (x .to) text) (x .to) ≡ andThen answer next
+  pub number-read :
+      {B : Type 0} (next : List ℕ → List ℕ → ℕ → Answer B) (x : Extent) → r ≡ Number x → next (between text x) (drop (x .to) text) (x .to) ≡ andThen answer next
   number-read next x told =
       let s : parsed (between text x) (drop (x .to) text) (x .to) ≡ answer = rw told at says in
       rw (← s)

@@ -179,7 +179,9 @@ module _ {s : ℕ} {cs : List ℕ} (h : Hierarchy s cs) where
   child-above a zero x m w d l = let k = size-within-lt x a w d in absurd (omega arith)
   child-above a (suc n) x m w d l = go (some (λ y. properly x y) (inner cs a)) refl (λ y m w d l. child-above a n y m w d l)
     where
-      go : (t : Bool) → some (λ y. properly x y) (inner cs a) ≡ t → ((y : ℕ) → Among y cs → Within y a → (y ≡ a → ⊥) → size a ≤ size y + n → (c : ℕ) × Child cs a c × Within y c) → (c : ℕ) × Child cs a c × Within x c
+      go :
+          (t : Bool) → some (λ y. properly x y) (inner cs a) ≡ t
+          → ((y : ℕ) → Among y cs → Within y a → (y ≡ a → ⊥) → size a ≤ size y + n → (c : ℕ) × Child cs a c × Within y c) → (c : ℕ) × Child cs a c × Within x c
       go true e ih =
           let y = of-some (λ y. properly x y) (inner cs a) e in
           let k = among-inner cs a (y .1) in
@@ -200,7 +202,8 @@ module _ {s : ℕ} {cs : List ℕ} (h : Hierarchy s cs) where
   children-rising a =
       rising-byLowest (maximal (keep (λ x. properly x a) cs))
       (none-twice-keep (λ x. not (some (λ y. properly x y) (keep (λ x. properly x a) cs))) (keep (λ x. properly x a) cs) (none-twice-keep (λ x. properly x a) cs (h .once)))
-      (λ x y m k e. same (among-children cs a (byLowest-among (maximal (keep (λ x. properly x a) cs)) m)) (among-children cs a (byLowest-among (maximal (keep (λ x. properly x a) cs)) k)) e (ℕ-discrete x y))
+      (λ x y m k e. same (among-children cs a (byLowest-among (maximal (keep (λ x. properly x a) cs)) m))
+      (among-children cs a (byLowest-among (maximal (keep (λ x. properly x a) cs)) k)) e (ℕ-discrete x y))
     where
       same : {x y : ℕ} → Child cs a x → Child cs a y → lowest x ≡ lowest y → Dec (x ≡ y) → x ≡ y
       same c d e (yes p) = p

@@ -64,11 +64,15 @@ module _ (cs : List ℕ) (draw : ℕ → Tree) where
         every = λ x e h m k. either-every x e t f h k (List·Memᴰ·cases-cons m);
       }
     where
-      either-fewer : (x : ℕ) → Draws cs b (draw b) → DrawsAll cs (c ∷ l) (forestOver draw c l) → Among x (clusters (draw b)) ⊎ Among x (clustersOf (forestOver draw c l)) → Among x cs
+      either-fewer :
+          (x : ℕ) → Draws cs b (draw b) → DrawsAll cs (c ∷ l) (forestOver draw c l)
+          → Among x (clusters (draw b)) ⊎ Among x (clustersOf (forestOver draw c l)) → Among x cs
       either-fewer x t f (inl h) = t .fewer x h
       either-fewer x t f (inr h) = f .fewer x h
 
-      either-every : (x e : ℕ) → Draws cs b (draw b) → DrawsAll cs (c ∷ l) (forestOver draw c l) → Among x cs → Within x e → (e ≡ b) ⊎ Among e (c ∷ l) → Among x (clusters (draw b) ++ clustersOf (forestOver draw c l))
+      either-every :
+          (x e : ℕ) → Draws cs b (draw b) → DrawsAll cs (c ∷ l) (forestOver draw c l) → Among x cs → Within x e → (e ≡ b) ⊎ Among e (c ∷ l)
+          → Among x (clusters (draw b) ++ clustersOf (forestOver draw c l))
       either-every x e t f h k (inl p) = Memᴰ·append-left (clustersOf (forestOver draw c l)) (t .every x h (subst (λ (z : ℕ). Within x z) p k))
       either-every x e t f h k (inr m) = Memᴰ·append-right (clusters (draw b)) (f .every x e h m k)
 
@@ -89,11 +93,15 @@ module _ (cs : List ℕ) (draw : ℕ → Tree) where
       top : ℕ
       top = union (cluster (draw b)) (clusterOf (forestOver draw c l))
 
-      among : (x : ℕ) → DrawsAll cs (b ∷ c ∷ l) (forestOver draw b (c ∷ l)) → Among x (clusters (draw b) ++ clustersOf (forestOver draw c l)) ⊎ Among x (top ∷ []) → Among x cs
+      among :
+          (x : ℕ) → DrawsAll cs (b ∷ c ∷ l) (forestOver draw b (c ∷ l))
+          → Among x (clusters (draw b) ++ clustersOf (forestOver draw c l)) ⊎ Among x (top ∷ []) → Among x cs
       among x f (inl h) = f .fewer x h
       among x f (inr h) = Memᴰ·cast (List·Memᴰ·eq-of-singleton h ∙ f .all ∙ e) m
 
-      reached : (x : ℕ) → DrawsAll cs (b ∷ c ∷ l) (forestOver draw b (c ∷ l)) → Among x cs → Within x a → Dec (x ≡ a) → Among x (clusters (draw b) ++ clustersOf (forestOver draw c l) ++ (top ∷ []))
+      reached :
+          (x : ℕ) → DrawsAll cs (b ∷ c ∷ l) (forestOver draw b (c ∷ l)) → Among x cs → Within x a → Dec (x ≡ a)
+          → Among x (clusters (draw b) ++ clustersOf (forestOver draw c l) ++ (top ∷ []))
       reached x f h k (yes p) = Memᴰ·append-right (clusters (draw b) ++ clustersOf (forestOver draw c l)) (here (p ∙ sym e ∙ sym (f .all)))
       reached x f h k (no p) = let y = v x h k p in Memᴰ·append-left (top ∷ []) (f .every x (y .0) h (y .1) (y .2))
 
@@ -146,7 +154,9 @@ module _ {s : ℕ} {cs : List ℕ} (h : Hierarchy s cs) where
   depth-enough (suc k) zero a m p q = let n = size-some (h .inside a m .0) in absurd (omega arith)
   depth-enough (suc k) (suc j) a m p q = go (eqb (size a) 1) (λ x. depth-enough k j x)
     where
-      go : (t : Bool) → ((x : ℕ) → Among x cs → size x ≤ k → size x ≤ j → drawnTo k cs x ≡ drawnTo j cs x) → drawnBy t (λ b. drawnTo k cs b) cs a ≡ drawnBy t (λ b. drawnTo j cs b) cs a
+      go :
+          (t : Bool) → ((x : ℕ) → Among x cs → size x ≤ k → size x ≤ j → drawnTo k cs x ≡ drawnTo j cs x)
+          → drawnBy t (λ b. drawnTo k cs b) cs a ≡ drawnBy t (λ b. drawnTo j cs b) cs a
       go true ih = refl
       go false ih =
           nodeOver-same (λ b. drawnTo k cs b) (λ b. drawnTo j cs b) (children cs a)

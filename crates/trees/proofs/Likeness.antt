@@ -41,7 +41,9 @@ unfolding trees clustersOf
 clusters-tree {x} (last u) h = (u, here refl, h)
 clusters-tree {x} (more u f) h = go (List·Memᴰ·append-cases (clusters u) h) (λ k. clusters-tree f k)
   where
-    go : Among x (clusters u) ⊎ Among x (clustersOf f) → (Among x (clustersOf f) → (t : Tree) × Stands t (trees f) × Among x (clusters t)) → (t : Tree) × Stands t (u ∷ trees f) × Among x (clusters t)
+    go :
+        Among x (clusters u) ⊎ Among x (clustersOf f) → (Among x (clustersOf f) → (t : Tree) × Stands t (trees f) × Among x (clusters t))
+        → (t : Tree) × Stands t (u ∷ trees f) × Among x (clusters t)
     go (inl k) ih = (u, here refl, k)
     go (inr k) ih = let r = ih k in (r .0, there (r .1), r .2)
 
@@ -66,7 +68,8 @@ unfolding trees leavesOf Parted
 forest-parted (last t) p = (p, λ u m. absurd (List·Memᴰ·not-nil m), tt)
 forest-parted (more t f) p = (
   none-twice-left (leaves t) (leavesOf f) p,
-  λ u m. apart-sym (cluster u) (cluster t) (apart-within (cluster u) (clusterOf f) (cluster t) (tree-within f m) (apart-sym (cluster t) (clusterOf f) (children-apart t f p))),
+  λ u m. apart-sym (cluster u) (cluster t) (apart-within (cluster u) (clusterOf f) (cluster t) (tree-within f m)
+      (apart-sym (cluster t) (clusterOf f) (children-apart t f p))),
   forest-parted f (none-twice-right (leaves t) (leavesOf f) p),
 )
 
@@ -133,7 +136,10 @@ partner {t} f g p q a m =
     let v = clusters-tree f (a .1 (cluster (u .0)) (tree-clusters g (u .1) (whole-among (u .0)))) in
     let tu = clusters-inside (u .0) (cluster t) (u .2) .1 in
     let uv = clusters-inside (v .0) (cluster (u .0)) (v .2) .1 in
-    let e = parted-same (trees f) p (v .1) m (not-apart (cluster t) (cluster (v .0)) (cluster t) (cluster-some t) (within-trans (cluster t) (cluster (u .0)) (cluster (v .0)) tu uv) (within-refl (cluster t))) in
+    let e =
+    parted-same (trees f) p (v .1) m (not-apart (cluster t) (cluster (v .0)) (cluster t) (cluster-some t)
+    (within-trans (cluster t) (cluster (u .0)) (cluster (v .0)) tu uv) (within-refl (cluster t)))
+    in
     let ut = subst (λ (w : Tree). Within (cluster (u .0)) (cluster w)) e uv in (
       u .0,
       u .1,
@@ -193,10 +199,14 @@ picked-apart {u} {v} (later {t = t} {l = l} {k = k} p) q m = go (List·Memᴰ·c
 
 -- a set with species is not disjoint from itself
 self-not-apart : (t u : Tree) → cluster t ≡ cluster u → Apart (cluster t) (cluster u) → ⊥
-self-not-apart t u e h = not-apart (cluster t) (cluster t) (cluster u) (cluster-some t) (within-refl (cluster t)) (subst (λ (x : ℕ). Within (cluster t) x) e (within-refl (cluster t))) h
+self-not-apart t u e h =
+    not-apart (cluster t) (cluster t) (cluster u) (cluster-some t) (within-refl (cluster t))
+    (subst (λ (x : ℕ). Within (cluster t) x) e (within-refl (cluster t))) h
 
 -- the like of a later tree is not the one that was picked
-like-left : (t u v : Tree) {k m : List Tree} → Picked u k m → Agree t u → Apart (cluster t) (cluster v) → (w : Tree) × Stands w k × Agree v w → (w : Tree) × Stands w m × Agree v w
+like-left :
+    (t u v : Tree) {k m : List Tree} → Picked u k m → Agree t u → Apart (cluster t) (cluster v) → (w : Tree) × Stands w k × Agree v w
+    → (w : Tree) × Stands w m × Agree v w
 like-left t u v {k} {m} p a h w = go (stands-picked p (w .1))
   where
     go : (w .0 ≡ u) ⊎ Stands (w .0) m → (w : Tree) × Stands w m × Agree v w
@@ -211,7 +221,9 @@ like-tail t u v {l} a h w = go (List·Memᴰ·cases-cons (w .1))
     go (inl e) = absurd (self-not-apart u v (sym (agree-cluster t u a) ∙ sym (ap cluster e) ∙ sym (agree-cluster v (w .0) (w .2))) h)
     go (inr j) = (w .0, j, w .2)
 
-alike-all : (l k : List Tree) → Parted l → Parted k → ((t : Tree) → Stands t l → (u : Tree) × Stands u k × Agree t u) → ((u : Tree) → Stands u k → (t : Tree) × Stands t l × Agree u t)
+alike-all :
+    (l k : List Tree) → Parted l → Parted k → ((t : Tree) → Stands t l → (u : Tree) × Stands u k × Agree t u)
+    → ((u : Tree) → Stands u k → (t : Tree) × Stands t l × Agree u t)
     → ((t u : Tree) → Stands t l → Stands u k → Agree t u → Alike t u) → AlikeAll l k
 unfolding Parted
 alike-all [] [] p q f g a = none
@@ -253,7 +265,9 @@ below-agree t u f g b c p a x h =
     go (inl k) = k
     go (inr k) = absurd (top-not-below t f b p (Memᴰ·cast (agree-cluster (node t f b) (node u g c) a ∙ sym (List·Memᴰ·eq-of-singleton k)) h))
 
-agree-below : (t u : Tree) (f g : Forest) (b c : Behind) → NoneTwice (leaves (node t f b)) → NoneTwice (leaves (node u g c)) → Agree (node t f b) (node u g c) → AgreeAll (more t f) (more u g)
+agree-below :
+    (t u : Tree) (f g : Forest) (b c : Behind) → NoneTwice (leaves (node t f b)) → NoneTwice (leaves (node u g c)) → Agree (node t f b) (node u g c)
+    → AgreeAll (more t f) (more u g)
 unfolding AgreeAll
 agree-below t u f g b c p q a =
     (below-agree t u f g b c p a, below-agree u t g f c b q (agree-sym (node t f b) (node u g c) a))
@@ -299,7 +313,9 @@ mutual
   agree-alikeOf (more t f) v w m = either-alike {t = t} {v = v} {w = w} (λ w p q a. agree-alike t w p q a) (λ k p q a. agree-alikeOf f v w k p q a) (List·Memᴰ·cases-cons m)
 
 -- trees that have the same clusters are alike
-pub alike-of-clusters : {s : ℕ} {t u : Tree} → On s t → On s u → ((x : ℕ) → Among x (clusters t) → Among x (clusters u)) → ((x : ℕ) → Among x (clusters u) → Among x (clusters t)) → Alike t u
+pub alike-of-clusters :
+    {s : ℕ} {t u : Tree} → On s t → On s u → ((x : ℕ) → Among x (clusters t) → Among x (clusters u))
+    → ((x : ℕ) → Among x (clusters u) → Among x (clusters t)) → Alike t u
 unfolding Agree
 alike-of-clusters {s} {t} {u} o q f g = agree-alike t u (o .once) (q .once) (f, g)
 

@@ -16,7 +16,9 @@ use Rattle.trees.proofs.Listing.{none-twice-append, none-twice-left, no
 
 -- ---- the species of a tree's cluster are its leaves
 
-either-leaf : (t : Tree) (f : Forest) {i : ℕ} → (Has (cluster t) i → Among i (leaves t)) → (Has (clusterOf f) i → Among i (leavesOf f)) → Has (cluster t) i ⊎ Has (clusterOf f) i → Among i (leaves t ++ leavesOf f)
+either-leaf :
+    (t : Tree) (f : Forest) {i : ℕ} → (Has (cluster t) i → Among i (leaves t)) → (Has (clusterOf f) i → Among i (leavesOf f))
+    → Has (cluster t) i ⊎ Has (clusterOf f) i → Among i (leaves t ++ leavesOf f)
 either-leaf t f p q (inl h) = Memᴰ·append-left (leavesOf f) (p h)
 either-leaf t f p q (inr h) = Memᴰ·append-right (leaves t) (q h)
 
@@ -31,7 +33,9 @@ mutual
   has-leafOf (last t) i h = has-leaf t i h
   has-leafOf (more t f) i h = either-leaf t f (λ k. has-leaf t i k) (λ k. has-leafOf f i k) (has-union (cluster t) (clusterOf f) i h)
 
-either-has : (t : Tree) (f : Forest) {i : ℕ} → (Among i (leaves t) → Has (cluster t) i) → (Among i (leavesOf f) → Has (clusterOf f) i) → Among i (leaves t) ⊎ Among i (leavesOf f) → Has (union (cluster t) (clusterOf f)) i
+either-has :
+    (t : Tree) (f : Forest) {i : ℕ} → (Among i (leaves t) → Has (cluster t) i) → (Among i (leavesOf f) → Has (clusterOf f) i)
+    → Among i (leaves t) ⊎ Among i (leavesOf f) → Has (union (cluster t) (clusterOf f)) i
 either-has t f {i} p q (inl h) = union-has-left (cluster t) (clusterOf f) i (p h)
 either-has t f {i} p q (inr h) = union-has-right (cluster t) (clusterOf f) i (q h)
 
@@ -120,7 +124,9 @@ mutual
   clusterOf-some (last t) = cluster-some t
   clusterOf-some (more t f) = union-some-left (clusterOf f) (cluster-some t)
 
-inside-both : (t : Tree) (f : Forest) → Inside (clusters t) (cluster t) → Inside (clustersOf f) (clusterOf f) → Inside (clusters t ++ clustersOf f) (union (cluster t) (clusterOf f))
+inside-both :
+    (t : Tree) (f : Forest) → Inside (clusters t) (cluster t) → Inside (clustersOf f) (clusterOf f)
+    → Inside (clusters t ++ clustersOf f) (union (cluster t) (clusterOf f))
 inside-both t f p q =
     inside-append (clusters t) (clustersOf f) _ (inside-wider (clusters t) _ _ (within-union-left (cluster t) (clusterOf f)) p)
     (inside-wider (clustersOf f) _ _ (within-union-right (cluster t) (clusterOf f)) q)
@@ -143,7 +149,9 @@ unfolding cluster clusterOf clusters clustersOf
 whole-among (leaf i b) = here refl
 whole-among (node t f b) = Memᴰ·append-right (clusters t ++ clustersOf f) (here refl)
 
-single-either : (t : Tree) (f : Forest) {i : ℕ} → (Among i (leaves t) → Among (single i) (clusters t)) → (Among i (leavesOf f) → Among (single i) (clustersOf f)) → Among i (leaves t) ⊎ Among i (leavesOf f) → Among (single i) (clusters t ++ clustersOf f)
+single-either :
+    (t : Tree) (f : Forest) {i : ℕ} → (Among i (leaves t) → Among (single i) (clusters t)) → (Among i (leavesOf f) → Among (single i) (clustersOf f))
+    → Among i (leaves t) ⊎ Among i (leavesOf f) → Among (single i) (clusters t ++ clustersOf f)
 single-either t f p q (inl h) = Memᴰ·append-left (clustersOf f) (p h)
 single-either t f p q (inr h) = Memᴰ·append-right (clusters t) (q h)
 
@@ -187,7 +195,9 @@ pub union-not-right : (c d : ℕ) → Apart c d → 1 ≤ c → Within (union c 
 union-not-right c d w s h =
     let e = within-apart d (within-trans c (union c d) d (within-union-left c d) h) w in omega arith
 
-top-once : (t : Tree) (f : Forest) → Apart (cluster t) (clusterOf f) → NoneTwice (clusters t ++ clustersOf f) → NoneTwice (clusters t ++ clustersOf f ++ (union (cluster t) (clusterOf f) ∷ []))
+top-once :
+    (t : Tree) (f : Forest) → Apart (cluster t) (clusterOf f) → NoneTwice (clusters t ++ clustersOf f)
+    → NoneTwice (clusters t ++ clustersOf f ++ (union (cluster t) (clusterOf f) ∷ []))
 top-once t f w n =
     none-twice-append (clusters t ++ clustersOf f) (union (cluster t) (clusterOf f) ∷ []) n (none-twice-one (union (cluster t) (clusterOf f)))
     (λ x h m. off x (Memᴰ·cast (sym (List·Memᴰ·eq-of-singleton m)) h))

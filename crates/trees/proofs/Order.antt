@@ -74,7 +74,9 @@ among-insert {z} x (y ∷ l) h = go (min-max x y) (List·Memᴰ·cases-cons h) (
     last (inr e) (inl p) = inr (here (p ∙ e))
     last s (inr k) = inr (there k)
 
-    go : ((min x y ≡ x) × (max x y ≡ y)) ⊎ ((min x y ≡ y) × (max x y ≡ x)) → (z ≡ min x y) ⊎ Among z (insert (max x y) l) → (Among z (insert (max x y) l) → (z ≡ max x y) ⊎ Among z l) → (z ≡ x) ⊎ Among z (y ∷ l)
+    go :
+        ((min x y ≡ x) × (max x y ≡ y)) ⊎ ((min x y ≡ y) × (max x y ≡ x)) → (z ≡ min x y) ⊎ Among z (insert (max x y) l)
+        → (Among z (insert (max x y) l) → (z ≡ max x y) ⊎ Among z l) → (z ≡ x) ⊎ Among z (y ∷ l)
     go (inl e) (inl p) ih = inl (p ∙ e .0)
     go (inl e) (inr k) ih = last (inr (e .1)) (ih k)
     go (inr e) (inl p) ih = inr (here (p ∙ e .0))
@@ -90,7 +92,9 @@ insert-among {z} x (y ∷ l) h = go (min-max x y) (split h) (λ k. insert-among 
     split (inl e) = inl e
     split (inr k) = inr (List·Memᴰ·cases-cons k)
 
-    go : ((min x y ≡ x) × (max x y ≡ y)) ⊎ ((min x y ≡ y) × (max x y ≡ x)) → (z ≡ x) ⊎ ((z ≡ y) ⊎ Among z l) → ((z ≡ max x y) ⊎ Among z l → Among z (insert (max x y) l)) → Among z (min x y ∷ insert (max x y) l)
+    go :
+        ((min x y ≡ x) × (max x y ≡ y)) ⊎ ((min x y ≡ y) × (max x y ≡ x)) → (z ≡ x) ⊎ ((z ≡ y) ⊎ Among z l)
+        → ((z ≡ max x y) ⊎ Among z l → Among z (insert (max x y) l)) → Among z (min x y ∷ insert (max x y) l)
     go (inl e) (inl p) ih = here (p ∙ sym (e .0))
     go (inl e) (inr (inl p)) ih = there (ih (inl (p ∙ sym (e .1))))
     go (inl e) (inr (inr k)) ih = there (ih (inr k))

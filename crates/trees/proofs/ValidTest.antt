@@ -135,11 +135,15 @@ tells-singles (suc n) i s l =
     tells-also join (λ f. (f i (omega arith) (omega arith), λ j low high. f j (omega arith) (omega arith)))
     (tells-and (tells-if (tells-has s i) (tells-among (single i) l)) (tells-singles n (suc i) s l))
   where
-    at : (Has s i → Among (single i) l) × ((j : ℕ) → suc i ≤ j → j < suc i + n → Has s j → Among (single j) l) → (j : ℕ) → i ≤ j → j < i + suc n → Dec (j ≡ i) → Has s j → Among (single j) l
+    at :
+        (Has s i → Among (single i) l) × ((j : ℕ) → suc i ≤ j → j < suc i + n → Has s j → Among (single j) l) → (j : ℕ) → i ≤ j → j < i + suc n
+        → Dec (j ≡ i) → Has s j → Among (single j) l
     at f j low high (yes e) h = subst (λ (k : ℕ). Among (single k) l) (sym e) (f .0 (subst (λ (k : ℕ). Has s k) e h))
     at f j low high (no d) h = f .1 j (omega (arith, d)) (omega arith) h
 
-    join : (Has s i → Among (single i) l) × ((j : ℕ) → suc i ≤ j → j < suc i + n → Has s j → Among (single j) l) → (j : ℕ) → i ≤ j → j < i + suc n → Has s j → Among (single j) l
+    join :
+        (Has s i → Among (single i) l) × ((j : ℕ) → suc i ≤ j → j < suc i + n → Has s j → Among (single j) l) → (j : ℕ) → i ≤ j → j < i + suc n → Has s j
+        → Among (single j) l
     join f j low high h = at f j low high (ℕ-discrete j i) h
 
 tells-nested : (l : List ℕ) → Tells (nested l) ((a b : ℕ) → Among a l → Among b l → Nested a b)

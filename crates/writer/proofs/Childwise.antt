@@ -151,11 +151,15 @@ module _ {s : ℕ} {cs : List ℕ} (h : Hierarchy s cs) (names : List (List ℕ)
     unfolding listText together AllApart
     rest-next {x} some k o = go (r .ahead) (r .split) (λ y i. ahead-child r i) (r .species) (r .text)
       where
-        go : (l : List ℕ) → children cs a ≡ r .done ++ l → ((y : ℕ) → Among y l → Child cs a y) → left ≡ together l → todo ≡ listText names (λ b. drawn cs b) mark l ++ 41 ∷ [] → Next names cs a left mark todo x
+        go :
+            (l : List ℕ) → children cs a ≡ r .done ++ l → ((y : ℕ) → Among y l → Child cs a y) → left ≡ together l
+            → todo ≡ listText names (λ b. drawn cs b) mark l ++ 41 ∷ [] → Next names cs a left mark todo x
         go [] e c u t = absurd (omega arith)
         go (b ∷ l) e c u t =
             let child = among-children cs a k in
-            let same : x ≡ b = same-child (lowest left) child (c b (here refl)) o (rw u (lowest-first l c (rising-end (r .done) (b ∷ l) (rw e at (children-rising h a))))) in
+            let same : x ≡ b =
+            same-child (lowest left) child (c b (here refl)) o (rw u (lowest-first l c (rising-end (r .done) (b ∷ l) (rw e at (children-rising h a)))))
+            in
             let part = apart-end (r .done) (b ∷ l) (rw e at (children-all-apart h a)) in
             record {
               among = child .among;

@@ -74,7 +74,8 @@ module _ {names : List (List ℕ)} (good : GoodNames names) where
         let e : (nodeText names t ++ othersText names f ++ 41 ∷ []) ++ rest ≡ nodeText names t ++ (othersText names f ++ 41 ∷ rest) = simp append-assoc in
         subst (λ (x : Behind). Node (strict names) (suc k) (nodeText names (node t f x) ++ rest) (node t f x) rest) (sym d)
         (subst (λ (s : List ℕ). Node (strict names) (suc k) (40 ∷ s) (node t f bare) rest) (sym e)
-        (an-inner none (node-derives (othersText names f ++ 41 ∷ rest) p) (subst (λ (s : List ℕ). Blanks s (44 ∷ c .behind)) (sym (c .comma)) none) (c .derived) nameless nothing))
+        (an-inner none (node-derives (othersText names f ++ 41 ∷ rest) p) (subst (λ (s : List ℕ). Blanks s (44 ∷ c .behind)) (sym (c .comma)) none)
+        (c .derived) nameless nothing))
 
     others-derive : {k : ℕ} {f : Forest} (rest : List ℕ) → PlainAll (length names) k f → Commaed names k f rest
     others-derive rest (plain-last {k} {t} p) = record {

@@ -39,11 +39,15 @@ module _ (line r out : List ℕ) where
   unfolding verdict writeTests rosterTest recordTest
   invalid-verdict f v = rw (f, v)
 
-  short-verdict : faulty speciesMost line ≡ false → valid (whole (length (names line))) r ≡ true → length out < size → verdict (writeTests line r out) ≡ record { number = 12; place = 0 }
+  short-verdict :
+      faulty speciesMost line ≡ false → valid (whole (length (names line))) r ≡ true → length out < size
+      → verdict (writeTests line r out) ≡ record { number = 12; place = 0 }
   unfolding verdict writeTests rosterTest recordTest lengthTest
   short-verdict f v s = rw (f, v, lt-ltb (length out) (length (written (names line) r)) s)
 
-  done-verdict : faulty speciesMost line ≡ false → valid (whole (length (names line))) r ≡ true → size ≤ length out → verdict (writeTests line r out) ≡ record { number = 0; place = 0 }
+  done-verdict :
+      faulty speciesMost line ≡ false → valid (whole (length (names line))) r ≡ true → size ≤ length out
+      → verdict (writeTests line r out) ≡ record { number = 0; place = 0 }
   unfolding verdict writeTests rosterTest recordTest lengthTest
   done-verdict f v s = rw (f, v, le-ltb (length out) (length (written (names line) r)) s)
 
@@ -56,10 +60,14 @@ module _ (line r out : List ℕ) where
   pub writes-faulty : {p : Reply} {after : List ℕ} → faulty speciesMost line ≡ true → p ≡ refusal 1 (firstFault speciesMost line) → after ≡ out → Writes line r out p after
   writes-faulty f = refused-by (faulty-verdict f)
 
-  pub writes-invalid : {p : Reply} {after : List ℕ} → faulty speciesMost line ≡ false → valid (whole (length (names line))) r ≡ false → p ≡ refusal 15 0 → after ≡ out → Writes line r out p after
+  pub writes-invalid :
+      {p : Reply} {after : List ℕ} → faulty speciesMost line ≡ false → valid (whole (length (names line))) r ≡ false → p ≡ refusal 15 0 → after ≡ out
+      → Writes line r out p after
   writes-invalid f v = refused-by (invalid-verdict f v)
 
-  pub writes-short : {p : Reply} {after : List ℕ} → faulty speciesMost line ≡ false → valid (whole (length (names line))) r ≡ true → length out < size → p ≡ refusal 12 0 → after ≡ out → Writes line r out p after
+  pub writes-short :
+      {p : Reply} {after : List ℕ} → faulty speciesMost line ≡ false → valid (whole (length (names line))) r ≡ true → length out < size → p ≡ refusal 12 0
+      → after ≡ out → Writes line r out p after
   writes-short f v s = refused-by (short-verdict f v s)
 
   pub writes-done : {p : Reply} {after : List ℕ} → faulty speciesMost line ≡ false → valid (whole (length (names line))) r ≡ true → size ≤ length out
@@ -82,7 +90,9 @@ writes-zero {line} {r} {out} {p} {after} w z = judged (faulty speciesMost line) 
     other : {n q : ℕ} → verdict (writeTests line r out) ≡ record { number = suc n; place = q } → ⊥
     other e = let k = ap (λ (a : Reply). a .number) (w .answer) in let l = ap (λ (a : Verdict). a .number) e in omega arith
 
-    roomy : (t : Bool) → ltb (length out) (length (written (names line) r)) ≡ t → faulty speciesMost line ≡ false → valid (whole (length (names line))) r ≡ true → Wrote line r out p after
+    roomy :
+        (t : Bool) → ltb (length out) (length (written (names line) r)) ≡ t → faulty speciesMost line ≡ false
+        → valid (whole (length (names line))) r ≡ true → Wrote line r out p after
     roomy true e f v = absurd (other (short-verdict line r out f v (ltb-true (length out) (length (written (names line) r)) e)))
     roomy false e f v =
         let l = ltb-false (length out) (length (written (names line) r)) e in

@@ -106,7 +106,8 @@ pub written-alike :
     (line text text′ : List ℕ) (start start′ : ℕ) (q q′ : Reading) (out : List ℕ) {p p′ : Reply} {after after′ : List ℕ}
     → Reads line text start q → Reads line text′ start′ q′ → q .number ≡ 0 → q′ .number ≡ 0 → q .numbers ≡ q′ .numbers
     → Writes line (q .numbers) out p after → Writes line (q′ .numbers) out p′ after′ → (p ≡ p′) × (after ≡ after′)
-written-alike line text text′ start start′ q q′ out {p} {p′} {after} {after′} h h′ z z′ e w w′ = writes-once w (subst (λ (r : List ℕ). Writes line r out p′ after′) (sym e) w′)
+written-alike line text text′ start start′ q q′ out {p} {p′} {after} {after′} h h′ z z′ e w w′ =
+    writes-once w (subst (λ (r : List ℕ). Writes line r out p′ after′) (sym e) w′)
 
 -- what was written is read back: the record, and the length that the writer gave
 pub write-read :
@@ -115,7 +116,9 @@ pub write-read :
     → q ≡ record { number = 0; place = 0; next = p .value; numbers = r }
 write-read {line} {r} {out} {p} {after} {q} w z h =
     let o = writes-zero w z in
-    let t : take (p .value) after ≡ written (names line) r = rw (o .value, o .bytes) (take-append-seam (written (names line) r) (drop (length (written (names line) r)) out)) in
+    let t : take (p .value) after ≡ written (names line) r =
+    rw (o .value, o .bytes) (take-append-seam (written (names line) r) (drop (length (written (names line) r)) out))
+    in
     reads-back line (o .good) (o .valid) (rw t at h) ∙ rw (o .value)
 
 -- a record that was read, written and read again is the same record

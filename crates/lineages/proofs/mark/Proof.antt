@@ -11,7 +11,9 @@ use Rattle.lineages.proofs.mark.Statement.{statement}
 use Rattle.lineages.proofs.mark.Tie as tie
 
 -- behind the first check
-passed : (c : tie.Else1) → Shaped (c .before .before .before .before .args .n) (c .before .before .before .before .args .genes .now) (c .before .before .before .before .args .count)
+passed :
+    (c : tie.Else1)
+    → Shaped (c .before .before .before .before .args .n) (c .before .before .before .before .args .genes .now) (c .before .before .before .before .args .count)
 passed c = shaped-at _ _ _ (c .before .shape .ensures) (omega arith)
 
 -- what is to be cleared: 2^n entries

@@ -27,8 +27,9 @@ is-cluster-requires c κs = passed (c .before .before) .few-species
 
 cast-weigh : tie.Need-cast-weigh
 cast-weigh c =
-    let start = c .before .before .before .before .before .before .before .args in
-    let small = cluster-small (start .n) (start .cluster) (passed (c .before .before .before .before) .few-species) (sym (c .before .is-cluster .ensures) ∙ c .if3 .taken) in
+    let shaped = c .before .before .before .before in
+    let start = shaped .before .before .before .args in
+    let small = cluster-small (start .n) (start .cluster) (passed shaped .few-species) (sym (c .before .is-cluster .ensures) ∙ c .if3 .taken) in
     omega arith
 
 weigh-requires : tie.Need-weigh-requires
@@ -38,7 +39,9 @@ weigh-requires c κs =
 
 returns-3 : tie.Need-returns-3
 returns-3 c =
-    weighs-done _ _ _ _ _ (passed (c .before .before .before .before .before .before)) (c .before .before .before .before .before .first-bad .ensures) (search needs)
+    let shaped = c .before .before .before .before .before .before in
+    let first-bad = c .before .before .before .before .before .first-bad in
+    weighs-done _ _ _ _ _ (passed shaped) (first-bad .ensures) (search needs)
     (sym (c .before .before .before .is-cluster .ensures) ∙ c .before .before .if3 .taken) (c .before .weigh .ensures) (c .done .ensures)
 
 returns-4 : tie.Need-returns-4

@@ -16,7 +16,9 @@ inside-requires : tie.Need-inside-requires
 inside-requires c κs = (c .before .before .before .before .pre .0, form c .counted)
 
 complete-requires : tie.Need-complete-requires
-complete-requires c κs = (c .before .before .before .before .before .before .pre .0, (form (c .before .before) .counted, c .before .before .before .before .before .before .pre .1))
+complete-requires c κs =
+    let start = c .before .before .before .before .before .before in
+    (start .pre .0, (form (c .before .before) .counted, start .pre .1))
 
 nested-requires : tie.Need-nested-requires
 nested-requires c κs = (c .before .before .before .before .before .before .before .before .pre .0, form (c .before .before .before .before) .counted)

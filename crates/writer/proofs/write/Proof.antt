@@ -19,27 +19,45 @@ use Rattle.writer.proofs.write.Statement.{statement}
 use Rattle.writer.proofs.write.Tie as tie
 
 -- the roster is good
-given : (c : tie.After-whole)
-    → Given (c .before .before .before .before .before .before .args .line .now) (c .before .before .before .parse .result .count) (c .before .before .before .parse .result .table) (c .whole .result)
+given :
+    (c : tie.After-whole)
+    → let start = c .before .before .before .before .before .before in
+    let parse = c .before .before .before .parse in
+    Given (start .args .line .now) (parse .result .count) (parse .result .table) (c .whole .result)
 given c =
     let p = c .before .before .before .parse in
     let g = read-good speciesMost (c .before .before .before .before .before .before .args .line .now) (p .result) (p .ensures) (c .before .before .if1 .left) in
     record { good = g .0; counted = g .1; tabled = g .2; species = c .whole .ensures }
 
 -- the record is valid
-valid-there : (c : tie.Else2) → ValidOn (c .before .before .before .before .whole .result) (c .before .before .before .before .before .before .before .before .before .before .args .tree .numbers)
+valid-there :
+    (c : tie.Else2)
+    → let start = c .before .before .before .before .before .before .before .before .before .before in
+    let whole = c .before .before .before .before .whole in
+    ValidOn (whole .result) (start .args .tree .numbers)
 valid-there c = rw (not-false (c .before .valid .result) (c .if2 .left)) at (c .before .valid .ensures)
 
-tested : (c : tie.Else2) → valid (whole (length (names (c .before .before .before .before .before .before .before .before .before .before .args .line .now)))) (c .before .before .before .before .before .before .before .before .before .before .args .tree .numbers) ≡ true
+tested :
+    (c : tie.Else2)
+    → let start = c .before .before .before .before .before .before .before .before .before .before in
+    valid (whole (length (names (start .args .line .now)))) (start .args .tree .numbers) ≡ true
 tested c =
+    let named = c .before .before .before .before in
+    let start = named .before .before .before .before .before .before in
     let v = c .before .valid in
-    sym (given-test (given (c .before .before .before .before)) (v .result) (c .before .before .before .before .before .before .before .before .before .before .args .tree .numbers) (v .ensures)) ∙ not-false (v .result) (c .if2 .left)
+    sym (given-test (given named) (v .result) (start .args .tree .numbers) (v .ensures)) ∙ not-false (v .result) (c .if2 .left)
 
 -- the length is that of the text, and the text has room
-length-there : (c : tie.After-text-length) → c .text-length .result ≡ length (written (names (c .before .before .before .before .before .before .before .before .before .before .before .before .args .line .now)) (c .before .before .before .before .before .before .before .before .before .before .before .before .args .tree .numbers))
+length-there :
+    (c : tie.After-text-length)
+    → let start = c .before .before .before .before .before .before .before .before .before .before .before .before in
+    c .text-length .result ≡ length (written (names (start .args .line .now)) (start .args .tree .numbers))
 length-there c = given-length (given (c .before .before .before .before .before .before)) (valid-there (c .before .before)) (c .text-length .ensures)
 
-room-there : (c : tie.Else3) → length (written (names (c .before .before .before .before .before .before .before .before .before .before .before .before .before .args .line .now)) (c .before .before .before .before .before .before .before .before .before .before .before .before .before .args .tree .numbers)) ≤ length (c .before .before .before .before .before .before .before .before .before .before .before .before .before .args .out .now)
+room-there :
+    (c : tie.Else3)
+    → let start = c .before .before .before .before .before .before .before .before .before .before .before .before .before in
+    length (written (names (start .args .line .now)) (start .args .tree .numbers)) ≤ length (start .args .out .now)
 room-there c = let l = length-there (c .before) in omega arith
 
 returns : tie.Need-returns
@@ -65,26 +83,40 @@ returns-2 c =
 
 returns-3 : tie.Need-returns-3
 returns-3 c =
-    let s = c .before .before .before .before .before .before .before .before .before .before .before .before .before .before .args in
+    let sound = c .before .before .before .before in
+    let named = sound .before .before .before .before in
+    let s = named .before .before .before .before .before .before .args in
     let l = length-there (c .before .before) in
-    writes-short (s .line .now) (s .tree .numbers) (s .out .now) (given (c .before .before .before .before .before .before .before .before) .good) (tested (c .before .before .before .before)) (omega arith) (c .refused3 .ensures) refl
+    writes-short (s .line .now) (s .tree .numbers) (s .out .now) (given named .good) (tested sound) (omega arith) (c .refused3 .ensures) refl
 
 node-requires : tie.Need-node-requires
 node-requires c κs =
-    let g = given (c .before .before .before .before .before .before .before .before .before) in
-    let v = valid-there (c .before .before .before .before .before) in
-    (given-listed g v, (given-table g, given-room g v (c .before .before .before .before .before .before .before .before .before .before .before .before .before .before .before .args .out .now) (room-there (c .before .before))))
+    let sound = c .before .before .before .before .before in
+    let named = sound .before .before .before .before in
+    let start = named .before .before .before .before .before .before in
+    let g = given named in
+    let v = valid-there sound in
+    (given-listed g v, (given-table g, given-room g v (start .args .out .now) (room-there (c .before .before))))
 
 slice-write-out : tie.Need-slice-write-out
-slice-write-out c = end-room (given (c .before .before .before .before .before .before .before .before .before .before .before .before)) (valid-there (c .before .before .before .before .before .before .before .before)) (c .before .before .before .before .before .before .before .before .before .before .before .before .before .before .before .before .before .before .args .out .now) (room-there (c .before .before .before .before .before)) (c .before .before .node .ensures)
+slice-write-out c =
+    let roomy = c .before .before .before .before .before in
+    let sound = roomy .before .before .before in
+    let named = sound .before .before .before .before in
+    let start = named .before .before .before .before .before .before in
+    end-room (given named) (valid-there sound) (start .args .out .now) (room-there roomy) (c .before .before .node .ensures)
 
 returns-4 : tie.Need-returns-4
 returns-4 c =
-    let s = c .before .before .before .before .before .before .before .before .before .before .before .before .before .before .before .before .before .before .args in
-    let g = given (c .before .before .before .before .before .before .before .before .before .before .before .before) in
-    let r = room-there (c .before .before .before .before .before) in
-    let b = given-stored g (valid-there (c .before .before .before .before .before .before .before .before)) (s .out .now) r (c .before .before .node .ensures) in
-    writes-done (s .line .now) (s .tree .numbers) (s .out .now) (g .good) (tested (c .before .before .before .before .before .before .before .before)) r (rw (length-there (c .before .before .before .before .before .before))) b
+    let roomy = c .before .before .before .before .before in
+    let measured = roomy .before in
+    let sound = measured .before .before in
+    let named = sound .before .before .before .before in
+    let s = named .before .before .before .before .before .before .args in
+    let g = given named in
+    let r = room-there roomy in
+    let b = given-stored g (valid-there sound) (s .out .now) r (c .before .before .node .ensures) in
+    writes-done (s .line .now) (s .tree .numbers) (s .out .now) (g .good) (tested sound) r (rw (length-there measured)) b
 
 pub write-spec : {M : Type 1} → statement M
 write-spec =

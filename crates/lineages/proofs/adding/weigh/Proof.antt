@@ -24,8 +24,14 @@ extra-requires c κs =
     (start .pre .1 .1 _ (record-among (now .i - 1) (start .args .count) (start .args .genes .now) (omega (arith, now .inv .first))))
 
 -- what the call has counted is the i-th gene tree
-counted : (c : tie.After-extra Inv-loop μ-loop) → c .extra .result ≡ extra (take 32 (drop (32 * (c .before .before .before .loop .i - 1)) (c .before .before .before .before .before .args .genes .now))) (c .before .before .before .before .before .args .a)
-counted c = rw (part-before (c .before .before .before .loop .i) (c .before .before .before .before .before .args .genes .now) (c .before .before .before .loop .inv .first)) at (c .extra .ensures)
+counted :
+    (c : tie.After-extra Inv-loop μ-loop)
+    → let start = c .before .before .before .before .before in
+    c .extra .result ≡ extra (take 32 (drop (32 * (c .before .before .before .loop .i - 1)) (start .args .genes .now))) (start .args .a)
+counted c =
+    let start = c .before .before .before .before .before in
+    let turn = c .before .before .before .loop in
+    rw (part-before (turn .i) (start .args .genes .now) (turn .inv .first)) at (c .extra .ensures)
 
 add-sum : tie.Need-add-sum Inv-loop μ-loop
 add-sum c =

@@ -16,7 +16,11 @@ abbrev μ-loop : tie.MeasureT-loop
 add-total : tie.Need-add-total Inv-loop μ-loop
 add-total c =
     let start = c .before .before .before .before .before .before .before .before in
-    let small = scored-fits (start .args .genes .now) (c .before .before .before .before .loop .inv) (start .pre .0) (start .pre .1 .1 .0) (start .pre .1 .1 .1) (search needs) (rw (c .before .wide .ensures) at (c .weigh .ensures)) in
+    let turn = c .before .before .before .before .loop in
+    let small =
+    scored-fits (start .args .genes .now) (turn .inv) (start .pre .0) (start .pre .1 .1 .0) (start .pre .1 .1 .1) (search needs)
+    (rw (c .before .wide .ensures) at (c .weigh .ensures))
+    in
     omega arith
 
 loop-again : tie.Need-loop-again Inv-loop μ-loop

@@ -25,14 +25,18 @@ valid-requires c κs =
 loop-again : tie.Need-loop-again Inv-loop μ-loop
 loop-again c =
     let start = c .before .before .before .before .before .before .before in
-    passed-next (c .before .before .before .before .loop .inv) (search needs)
-    (rw part-record at (sym (valid-told (c .before .valid .result) _ (start .pre .0) (c .before .before .before .before .before .whole .ensures) (c .before .valid .ensures)) ∙ c .if1 .taken))
+    let turn = c .before .before .before .before .loop in
+    let whole = c .before .before .before .before .before .whole in
+    passed-next (turn .inv) (search needs)
+    (rw part-record at (sym (valid-told (c .before .valid .result) _ (start .pre .0) (whole .ensures) (c .before .valid .ensures)) ∙ c .if1 .taken))
 
 returns : tie.Need-returns Inv-loop μ-loop
 returns c =
     let start = c .before .before .before .before .before .before .before in
-    passed-found (c .before .before .before .before .loop .inv) (search needs)
-    (rw part-record at (sym (valid-told (c .before .valid .result) _ (start .pre .0) (c .before .before .before .before .before .whole .ensures) (c .before .valid .ensures)) ∙ c .if1 .left))
+    let turn = c .before .before .before .before .loop in
+    let whole = c .before .before .before .before .before .whole in
+    passed-found (turn .inv) (search needs)
+    (rw part-record at (sym (valid-told (c .before .valid .result) _ (start .pre .0) (whole .ensures) (c .before .valid .ensures)) ∙ c .if1 .left))
 
 returns-2 : tie.Need-returns-2 Inv-loop μ-loop
 returns-2 c = passed-all (c .before .loop .inv) (omega arith)

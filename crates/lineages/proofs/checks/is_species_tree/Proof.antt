@@ -14,14 +14,16 @@ valid-requires c κs =
 returns : tie.Need-returns
 returns c =
     let start = c .before .before .before .before .before in
+    let valid = c .before .before .valid in
     let whole = c .before .before .before .whole .ensures in
-    rw (sym (valid-told (c .before .before .valid .result) (start .args .species .now) (start .pre .0) whole (c .before .before .valid .ensures)) ∙ c .before .if1 .taken)
+    rw (sym (valid-told (valid .result) (start .args .species .now) (start .pre .0) whole (valid .ensures)) ∙ c .before .if1 .taken)
     (binary-told (c .binary .result) (start .args .n) (start .args .species .now) whole (c .binary .ensures))
 
 returns-2 : tie.Need-returns-2
 returns-2 c =
     let start = c .before .before .before .before in
-    rw (sym (valid-told (c .before .valid .result) (start .args .species .now) (start .pre .0) (c .before .before .whole .ensures) (c .before .valid .ensures)) ∙ c .if1 .left)
+    rw (sym (valid-told (c .before .valid .result) (start .args .species .now) (start .pre .0) (c .before .before .whole .ensures)
+    (c .before .valid .ensures)) ∙ c .if1 .left)
 
 pub is-species-tree-spec : {M : Type 1} → statement M
 is-species-tree-spec =

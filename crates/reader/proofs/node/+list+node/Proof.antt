@@ -111,7 +111,9 @@ list-asked t c = record {
   before = c .args .found .now;
 }
 
-abbrev list-child : (t : ℕ) (c : list-lts.After-slice-known2 (list-calls t) (list-at t) list.Post) → NodeCall (list-asked t (c .before .before .before .before .before .before .before))
+abbrev list-child :
+    (t : ℕ) (c : list-lts.After-slice-known2 (list-calls t) (list-at t) list.Post)
+    → NodeCall (list-asked t (c .before .before .before .before .before .before .before))
 list-child t c = record {
   cursor = c .before .before .before .before .before .before .before .args .c;
   cursor-is = refl;
@@ -120,7 +122,11 @@ list-child t c = record {
   reads = c .before .before .node .ensures;
 }
 
-abbrev list-followed : (t : ℕ) (c : list-lts.After-blanks (list-calls t) (list-at t) list.Post) → Followed (c .before .before .before .before .before .before .before .before .before .before .before .args .text .now) (c .before .before .before .before .before .before .node .result)
+abbrev list-followed :
+    (t : ℕ) (c : list-lts.After-blanks (list-calls t) (list-at t) list.Post)
+    → let start = c .before .before .before .before .before .before .before .before .before .before .before in
+    let node = c .before .before .before .before .before .before .node in
+    Followed (start .args .text .now) (node .result)
 list-followed t c = record {
   mask = c .before .before .first .given .0 .0;
   next = c .before .before .first .given .0 .1 .0;
@@ -129,13 +135,26 @@ list-followed t c = record {
   passed = c .blanks .ensures;
 }
 
-list-comma : (t : ℕ) (c : list-lts.Then1 (list-calls t) (list-at t) list.Post) → nextIs 44 (drop (c .before .before .blanks .result) (c .before .before .before .before .before .before .before .before .before .before .before .before .before .args .text .now)) ≡ true
+list-comma :
+    (t : ℕ) (c : list-lts.Then1 (list-calls t) (list-at t) list.Post)
+    → let behind = c .before .before in
+    let start = behind .before .before .before .before .before .before .before .before .before .before .before in
+    nextIs 44 (drop (behind .blanks .result) (start .args .text .now)) ≡ true
 list-comma t c = sym (c .before .next-is .ensures) ∙ c .if1 .taken
 
-list-no-comma : (t : ℕ) (c : list-lts.Else1 (list-calls t) (list-at t) list.Post) → nextIs 44 (drop (c .before .before .blanks .result) (c .before .before .before .before .before .before .before .before .before .before .before .before .before .args .text .now)) ≡ false
+list-no-comma :
+    (t : ℕ) (c : list-lts.Else1 (list-calls t) (list-at t) list.Post)
+    → let behind = c .before .before in
+    let start = behind .before .before .before .before .before .before .before .before .before .before .before in
+    nextIs 44 (drop (behind .blanks .result) (start .args .text .now)) ≡ false
 list-no-comma t c = sym (c .before .next-is .ensures) ∙ c .if1 .left
 
-abbrev list-rest : (t : ℕ) (c : list-lts.After-slice-known3 (list-calls t) (list-at t) list.Post) → ListCall (onwards (list-asked t (c .before .before .before .before .before .before .before .before .before .before .before .before .before .before .before .before .before .before)) (c .before .before .before .before .before .before .before .before .before .first .given .0 .1 .0) (c .before .before .before .before .before .before .before .before .before .before .before .before .before .node .last .1 .1 .1 .1 .1 .0) (c .before .before .before .before .before .before .before .blanks .result))
+abbrev list-rest :
+    (t : ℕ) (c : list-lts.After-slice-known3 (list-calls t) (list-at t) list.Post)
+    → let behind = c .before .before .before .before .before .before .before in
+    let child = behind .before .before .before .before in
+    let start = child .before .before .before .before .before .before .before in
+    ListCall (onwards (list-asked t start) (list-followed t behind .next) (list-child t child .after) (list-followed t behind .here))
 list-rest t c = record {
   cursor = c .before .before .before .before .moved .result;
   cursor-is = c .before .before .before .before .moved .ensures;
@@ -158,7 +177,9 @@ list-same-length t c = search needs
 
 list-returns : (t : ℕ) → list-lts.Need-returns (list-calls t) (list-at t) list.Post
 unfolding ReadsList
-list-returns t c = λ names holds k deep. child-refused-way (list-asked t (c .before .before .before .before .before .before .before .before .before)) names holds k deep (list-child t (c .before .before)) _ (c .enum-told .given .1)
+list-returns t c = λ names holds k deep.
+    let start = c .before .before .before .before .before .before .before .before .before in
+    child-refused-way (list-asked t start) names holds k deep (list-child t (c .before .before)) _ (c .enum-told .given .1)
 
 list-blanks-requires : (t : ℕ) → list-lts.Need-blanks-requires (list-calls t) (list-at t) list.Post
 list-blanks-requires t c κs = search needs
@@ -167,17 +188,30 @@ list-next-is-requires : (t : ℕ) → list-lts.Need-next-is-requires (list-calls
 list-next-is-requires t c κs = search needs
 
 list-add-moved : (t : ℕ) → list-lts.Need-add-moved (list-calls t) (list-at t) list.Post
-list-add-moved t c = let h = next-is-inside (c .before .before .before .before .before .before .before .before .before .before .before .before .before .args .text .now) (c .before .before .blanks .result) 44 (list-comma t c) in omega arith
+list-add-moved t c =
+    let start = c .before .before .before .before .before .before .before .before .before .before .before .before .before in
+    let h = next-is-inside (start .args .text .now) (c .before .before .blanks .result) 44 (list-comma t c) in
+    omega arith
 
 list-moved-requires : (t : ℕ) → list-lts.Need-moved-requires (list-calls t) (list-at t) list.Post
 list-moved-requires t c κs = search needs
 
 list-list-requires : (t : ℕ) → list-lts.Need-list-requires (list-calls t) (list-at t) list.Post
 list-list-requires t c κs =
-    let falls-to = rest-falls (list-asked t (c .before .before .before .before .before .before .before .before .before .before .before .before .before .before .before)) (c .before .before .before .before .before .before .before .before .before .before .before .before .before .before .before .pre .1 .holds .0) (c .before .before .before .before .before .before .before .before .before .before .before .before .before .before .before .pre .1 .holds .1) (2 * (length (c .before .before .before .before .before .before .before .before .before .before .before .before .before .before .before .args .text .now) - c .before .before .before .before .before .before .before .before .before .before .before .before .before .before .before .args .c .at) + 2) (omega arith) (list-child t (c .before .before .before .before .before .before .before .before)) (list-followed t (c .before .before .before .before)) (list-comma t (c .before .before)) in
-    let more = child-grown (list-asked t (c .before .before .before .before .before .before .before .before .before .before .before .before .before .before .before)) (c .before .before .before .before .before .before .before .before .before .before .before .before .before .before .before .pre .1 .holds .0) (c .before .before .before .before .before .before .before .before .before .before .before .before .before .before .before .pre .1 .holds .1) (2 * (length (c .before .before .before .before .before .before .before .before .before .before .before .before .before .before .before .args .text .now) - c .before .before .before .before .before .before .before .before .before .before .before .before .before .before .before .args .c .at) + 2) (omega arith) (list-child t (c .before .before .before .before .before .before .before .before)) (list-followed t (c .before .before .before .before)) (c .before .before .before .before .before .before .before .before .before .before .before .before .before .before .before .pre .1) in
-    let place : c .before .moved .result .at ≡ c .before .before .before .before .blanks .result + 1 = ap (λ (m : Cursor). m .at) (c .before .moved .ensures) in
-    let e = c .before .before .before .before .before .before .before .before .before .before .before .before .before .before .before .pre .0 in
+    let behind = c .before .before .before .before in
+    let child = behind .before .before .before .before in
+    let start = child .before .before .before .before .before .before .before in
+    let text = start .args .text .now in
+    let falls-to =
+    rest-falls (list-asked t start) (start .pre .1 .holds .0) (start .pre .1 .holds .1) (2 * (length text - start .args .c .at) + 2) (omega arith)
+    (list-child t child) (list-followed t behind) (list-comma t (c .before .before))
+    in
+    let more =
+    child-grown (list-asked t start) (start .pre .1 .holds .0) (start .pre .1 .holds .1) (2 * (length text - start .args .c .at) + 2) (omega arith)
+    (list-child t child) (list-followed t behind) (start .pre .1)
+    in
+    let place : c .before .moved .result .at ≡ behind .blanks .result + 1 = ap (λ (m : Cursor). m .at) (c .before .moved .ensures) in
+    let e = start .pre .0 in
     (omega arith, given-moved _ _ _ _ _ _ _ (c .before .moved .ensures) (more .given))
 
 list-enum-known-others : (t : ℕ) → list-lts.Need-enum-known-others (list-calls t) (list-at t) list.Post
@@ -192,7 +226,12 @@ list-same-length-2 t c = search needs
 list-returns-2 : (t : ℕ) → list-lts.Need-returns-2 (list-calls t) (list-at t) list.Post
 unfolding ReadsList
 list-returns-2 t c = λ names holds k deep.
-    rest-refused-way (list-asked t (c .before .before .before .before .before .before .before .before .before .before .before .before .before .before .before .before .before .before .before .before)) names holds k deep (list-child t (c .before .before .before .before .before .before .before .before .before .before .before .before .before)) (list-followed t (c .before .before .before .before .before .before .before .before .before)) (list-comma t (c .before .before .before .before .before .before .before)) (list-rest t (c .before .before)) _ (c .enum-told2 .given .1)
+    let comma = c .before .before .before .before .before .before .before in
+    let behind = comma .before .before in
+    let child = behind .before .before .before .before in
+    let start = child .before .before .before .before .before .before .before in
+    rest-refused-way (list-asked t start) names holds k deep (list-child t child) (list-followed t behind) (list-comma t comma)
+    (list-rest t (c .before .before)) _ (c .enum-told2 .given .1)
 
 list-union-requires : (t : ℕ) → list-lts.Need-union-requires (list-calls t) (list-at t) list.Post
 list-union-requires t c κs = search needs
@@ -203,14 +242,24 @@ list-same-length-3 t c = search needs
 list-returns-3 : (t : ℕ) → list-lts.Need-returns-3 (list-calls t) (list-at t) list.Post
 unfolding ReadsList
 list-returns-3 t c = λ names holds k deep.
-    more-way (list-asked t (c .before .before .before .before .before .before .before .before .before .before .before .before .before .before .before .before .before .before .before .before .before .before)) names holds k deep (list-child t (c .before .before .before .before .before .before .before .before .before .before .before .before .before .before .before)) (list-followed t (c .before .before .before .before .before .before .before .before .before .before .before)) (list-comma t (c .before .before .before .before .before .before .before .before .before)) (list-rest t (c .before .before .before .before)) _ _ (c .union .result) (c .before .before .others .given .1)
+    let rest = c .before .before .before .before in
+    let comma = rest .before .before .before .before .before in
+    let behind = comma .before .before in
+    let child = behind .before .before .before .before in
+    let start = child .before .before .before .before .before .before .before in
+    more-way (list-asked t start) names holds k deep (list-child t child) (list-followed t behind) (list-comma t comma) (list-rest t rest) _ _
+    (c .union .result) (c .before .before .others .given .1)
     (c .union .ensures)
 
 list-next-is-requires-2 : (t : ℕ) → list-lts.Need-next-is-requires-2 (list-calls t) (list-at t) list.Post
 list-next-is-requires-2 t c κs = search needs
 
 list-add-moved-2 : (t : ℕ) → list-lts.Need-add-moved-2 (list-calls t) (list-at t) list.Post
-list-add-moved-2 t c = let h = next-is-inside (c .before .before .before .before .before .before .before .before .before .before .before .before .before .before .before .args .text .now) (c .before .before .before .before .blanks .result) 41 (sym (c .before .next-is2 .ensures) ∙ c .if2 .taken) in omega arith
+list-add-moved-2 t c =
+    let at-blanks = c .before .before .before .before in
+    let start = at-blanks .before .before .before .before .before .before .before .before .before .before .before in
+    let h = next-is-inside (start .args .text .now) (at-blanks .blanks .result) 41 (sym (c .before .next-is2 .ensures) ∙ c .if2 .taken) in
+    omega arith
 
 list-moved-requires-2 : (t : ℕ) → list-lts.Need-moved-requires-2 (list-calls t) (list-at t) list.Post
 list-moved-requires-2 t c κs = search needs
@@ -221,7 +270,12 @@ list-same-length-4 t c = search needs
 list-returns-4 : (t : ℕ) → list-lts.Need-returns-4 (list-calls t) (list-at t) list.Post
 unfolding ReadsList
 list-returns-4 t c = λ names holds k deep.
-    last-way (list-asked t (c .before .before .before .before .before .before .before .before .before .before .before .before .before .before .before .before)) names holds k deep (list-child t (c .before .before .before .before .before .before .before .before .before)) (list-followed t (c .before .before .before .before .before)) (c .moved2 .result) (list-no-comma t (c .before .before .before)) (sym (c .before .before .next-is2 .ensures) ∙ c .before .if2 .taken)
+    let no-comma = c .before .before .before in
+    let behind = no-comma .before .before in
+    let child = behind .before .before .before .before in
+    let start = child .before .before .before .before .before .before .before in
+    last-way (list-asked t start) names holds k deep (list-child t child) (list-followed t behind) (c .moved2 .result) (list-no-comma t no-comma)
+    (sym (c .before .before .next-is2 .ensures) ∙ c .before .if2 .taken)
     (c .moved2 .ensures)
 
 list-stray-requires : (t : ℕ) → list-lts.Need-stray-requires (list-calls t) (list-at t) list.Post
@@ -233,7 +287,12 @@ list-same-length-5 t c = search needs
 list-returns-5 : (t : ℕ) → list-lts.Need-returns-5 (list-calls t) (list-at t) list.Post
 unfolding ReadsList
 list-returns-5 t c = λ names holds k deep.
-    list-stray-way (list-asked t (c .before .before .before .before .before .before .before .before .before .before .before .before .before .before .before .before)) names holds k deep (list-child t (c .before .before .before .before .before .before .before .before .before)) (list-followed t (c .before .before .before .before .before)) (c .stray .result) (list-no-comma t (c .before .before .before)) (sym (c .before .before .next-is2 .ensures) ∙ c .before .if2 .left)
+    let no-comma = c .before .before .before in
+    let behind = no-comma .before .before in
+    let child = behind .before .before .before .before in
+    let start = child .before .before .before .before .before .before .before in
+    list-stray-way (list-asked t start) names holds k deep (list-child t child) (list-followed t behind) (c .stray .result) (list-no-comma t no-comma)
+    (sym (c .before .before .next-is2 .ensures) ∙ c .before .if2 .left)
     (c .stray .ensures)
 
 abbrev node-asked : (t : ℕ) (c : node-lts.Start (node-calls t) (node-at t) node.Post) → Asked
@@ -248,10 +307,14 @@ node-asked t c = record {
   before = c .args .found .now;
 }
 
-node-leafless : (t : ℕ) (c : node-lts.Else1 (node-calls t) (node-at t) node.Post) → nextName (drop (c .before .before .blanks .result) (c .before .before .before .before .before .before .args .text .now)) ≡ false
+node-leafless :
+    (t : ℕ) (c : node-lts.Else1 (node-calls t) (node-at t) node.Post)
+    → nextName (drop (c .before .before .blanks .result) (c .before .before .before .before .before .before .args .text .now)) ≡ false
 node-leafless t c = sym (c .before .next-name .ensures) ∙ c .if1 .left
 
-abbrev node-opening : (t : ℕ) (c : node-lts.Else3 (node-calls t) (node-at t) node.Post) → Opening (node-asked t (c .before .before .before .before .before .before .before .before .before))
+abbrev node-opening :
+    (t : ℕ) (c : node-lts.Else3 (node-calls t) (node-at t) node.Post)
+    → Opening (node-asked t (c .before .before .before .before .before .before .before .before .before))
 node-opening t c = record {
   here = c .before .before .before .before .before .blanks .result;
   skipped = c .before .before .before .before .before .blanks .ensures;
@@ -260,7 +323,11 @@ node-opening t c = record {
   some = c .if3 .left;
 }
 
-abbrev node-first : (t : ℕ) (c : node-lts.After-slice-known3 (node-calls t) (node-at t) node.Post) → NodeCall (inside (node-asked t (c .before .before .before .before .before .before .before .before .before .before .before .before .before .before)) (c .before .before .before .before .before .before .before .before .before .before .blanks .result))
+abbrev node-first :
+    (t : ℕ) (c : node-lts.After-slice-known3 (node-calls t) (node-at t) node.Post)
+    → let opened = c .before .before .before .before .before in
+    let start = opened .before .before .before .before .before .before .before .before .before in
+    NodeCall (inside (node-asked t start) (node-opening t opened .here))
 node-first t c = record {
   cursor = c .before .before .before .before .moved2 .result;
   cursor-is = c .before .before .before .before .moved2 .ensures;
@@ -269,7 +336,11 @@ node-first t c = record {
   reads = c .before .before .node .ensures;
 }
 
-abbrev node-followed : (t : ℕ) (c : node-lts.After-blanks2 (node-calls t) (node-at t) node.Post) → Followed (c .before .before .before .before .before .before .before .before .before .before .before .before .before .before .before .before .before .before .args .text .now) (c .before .before .before .before .before .before .node .result)
+abbrev node-followed :
+    (t : ℕ) (c : node-lts.After-blanks2 (node-calls t) (node-at t) node.Post)
+    → let at-node = c .before .before .before .before .before .before in
+    let start = at-node .before .before .before .before .before .before .before .before .before .before .before .before in
+    Followed (start .args .text .now) (at-node .node .result)
 node-followed t c = record {
   mask = c .before .before .first .given .0 .0;
   next = c .before .before .first .given .0 .1 .0;
@@ -278,10 +349,22 @@ node-followed t c = record {
   passed = c .blanks2 .ensures;
 }
 
-node-comma : (t : ℕ) (c : node-lts.Else4 (node-calls t) (node-at t) node.Post) → nextIs 44 (drop (c .before .before .blanks2 .result) (c .before .before .before .before .before .before .before .before .before .before .before .before .before .before .before .before .before .before .before .before .args .text .now)) ≡ true
+node-comma :
+    (t : ℕ) (c : node-lts.Else4 (node-calls t) (node-at t) node.Post)
+    → let behind = c .before .before in
+    let start = behind .before .before .before .before .before .before .before .before .before .before .before .before .before .before .before .before .before .before in
+    nextIs 44 (drop (behind .blanks2 .result) (start .args .text .now)) ≡ true
 node-comma t c = sym (c .before .next-is2 .ensures) ∙ not-false _ (c .if4 .left)
 
-abbrev node-others : (t : ℕ) (c : node-lts.After-slice-known4 (node-calls t) (node-at t) node.Post) → ListCall (onwards (inside (node-asked t (c .before .before .before .before .before .before .before .before .before .before .before .before .before .before .before .before .before .before .before .before .before .before .before .before .before)) (c .before .before .before .before .before .before .before .before .before .before .before .before .before .before .before .before .before .before .before .before .before .blanks .result)) (c .before .before .before .before .before .before .before .before .before .first .given .0 .1 .0) (c .before .before .before .before .before .before .before .before .before .before .before .before .before .node .last .1 .1 .1 .1 .1 .0) (c .before .before .before .before .before .before .before .blanks2 .result))
+abbrev node-others :
+    (t : ℕ) (c : node-lts.After-slice-known4 (node-calls t) (node-at t) node.Post)
+    → let behind = c .before .before .before .before .before .before .before in
+    let first = behind .before .before .before .before in
+    let opened = first .before .before .before .before .before in
+    let start = opened .before .before .before .before .before .before .before .before .before in
+    ListCall
+    (onwards (inside (node-asked t start) (node-opening t opened .here)) (node-followed t behind .next) (node-first t first .after)
+    (node-followed t behind .here))
 node-others t c = record {
   cursor = c .before .before .before .before .moved3 .result;
   cursor-is = c .before .before .before .before .moved3 .ensures;
@@ -308,8 +391,14 @@ node-same-length t c = search needs
 node-returns : (t : ℕ) → node-lts.Need-returns (node-calls t) (node-at t) node.Post
 unfolding ReadsNode
 node-returns t c = λ names holds k deep.
-    leaf-way (node-asked t (c .before .before .before .before .before .before .before .before .before .before .before)) names holds (c .before .before .before .before .before .before .before .blanks .result) (c .before .before .before .before .before .before .before .blanks .ensures) k deep (c .before .before .before .before .moved .result) _ (c .before .before .leaf .result)
-    (sym (c .before .before .before .before .before .before .next-name .ensures) ∙ c .before .before .before .before .before .if1 .taken) (c .before .before .before .before .moved .ensures) (c .before .before .leaf .ensures)
+    let start = c .before .before .before .before .before .before .before .before .before .before .before in
+    let leaf = c .before .before .leaf in
+    let moved = c .before .before .before .before .moved in
+    let if1 = c .before .before .before .before .before .if1 in
+    let next-name = c .before .before .before .before .before .before .next-name in
+    let blanks = c .before .before .before .before .before .before .before .blanks in
+    leaf-way (node-asked t start) names holds (blanks .result) (blanks .ensures) k deep (moved .result) _ (leaf .result)
+    (sym (next-name .ensures) ∙ if1 .taken) (moved .ensures) (leaf .ensures)
 
 node-next-is-requires : (t : ℕ) → node-lts.Need-next-is-requires (node-calls t) (node-at t) node.Post
 node-next-is-requires t c κs = search needs
@@ -320,17 +409,26 @@ node-stray-requires t c κs = search needs
 node-returns-2 : (t : ℕ) → node-lts.Need-returns-2 (node-calls t) (node-at t) node.Post
 unfolding ReadsNode
 node-returns-2 t c = λ names holds k deep.
-    stray-way (node-asked t (c .before .before .before .before .before .before .before .before .before)) names holds (c .before .before .before .before .before .blanks .result) (c .before .before .before .before .before .blanks .ensures) k deep _ (c .stray .result) (node-leafless t (c .before .before .before))
+    let leafless = c .before .before .before in
+    let start = leafless .before .before .before .before .before .before in
+    let blanks = leafless .before .before .blanks in
+    stray-way (node-asked t start) names holds (blanks .result) (blanks .ensures) k deep _ (c .stray .result) (node-leafless t leafless)
     (sym (c .before .before .next-is .ensures) ∙ not-true _ (c .before .if2 .taken)) (c .stray .ensures)
 
 node-returns-3 : (t : ℕ) → node-lts.Need-returns-3 (node-calls t) (node-at t) node.Post
 unfolding ReadsNode
 node-returns-3 t c = λ names holds k deep.
-    full-way (node-asked t (c .before .before .before .before .before .before .before .before .before)) names holds (c .before .before .before .before .before .blanks .result) (c .before .before .before .before .before .blanks .ensures) k deep _ (node-leafless t (c .before .before .before))
+    let leafless = c .before .before .before in
+    let start = leafless .before .before .before .before .before .before in
+    let blanks = leafless .before .before .blanks in
+    full-way (node-asked t start) names holds (blanks .result) (blanks .ensures) k deep _ (node-leafless t leafless)
     (sym (c .before .before .next-is .ensures) ∙ not-false _ (c .before .if2 .left)) (c .if3 .taken)
 
 node-add-moved : (t : ℕ) → node-lts.Need-add-moved (node-calls t) (node-at t) node.Post
-node-add-moved t c = let h = opening-inside (node-asked t (c .before .before .before .before .before .before .before .before .before)) (c .before .before .before .before .before .before .before .before .before .pre .1 .holds .0) (c .before .before .before .before .before .before .before .before .before .pre .1 .holds .1) (node-opening t c) in omega arith
+node-add-moved t c =
+    let start = c .before .before .before .before .before .before .before .before .before in
+    let h = opening-inside (node-asked t start) (start .pre .1 .holds .0) (start .pre .1 .holds .1) (node-opening t c) in
+    omega arith
 
 node-moved-requires-2 : (t : ℕ) → node-lts.Need-moved-requires-2 (node-calls t) (node-at t) node.Post
 node-moved-requires-2 t c κs = search needs
@@ -340,10 +438,12 @@ node-sub-node t c = search needs
 
 node-node-requires : (t : ℕ) → node-lts.Need-node-requires (node-calls t) (node-at t) node.Post
 node-node-requires t c κs =
-    let falls-to = first-falls (node-asked t (c .before .before .before .before .before .before .before .before .before .before .before)) (c .before .before .before .before .before .before .before .before .before .before .before .pre .1 .holds .0) (c .before .before .before .before .before .before .before .before .before .before .before .pre .1 .holds .1) (node-opening t (c .before .before)) in
-    let place : c .before .moved2 .result .at ≡ c .before .before .before .before .before .before .before .blanks .result + 1 = ap (λ (m : Cursor). m .at) (c .before .moved2 .ensures) in
-    let e = c .before .before .before .before .before .before .before .before .before .before .before .pre .0 in
-    (omega arith, given-moved _ _ _ _ _ _ _ (c .before .moved2 .ensures) (c .before .before .before .before .before .before .before .before .before .before .before .pre .1))
+    let start = c .before .before .before .before .before .before .before .before .before .before .before in
+    let blanks = c .before .before .before .before .before .before .before .blanks in
+    let falls-to = first-falls (node-asked t start) (start .pre .1 .holds .0) (start .pre .1 .holds .1) (node-opening t (c .before .before)) in
+    let place : c .before .moved2 .result .at ≡ blanks .result + 1 = ap (λ (m : Cursor). m .at) (c .before .moved2 .ensures) in
+    let e = start .pre .0 in
+    (omega arith, given-moved _ _ _ _ _ _ _ (c .before .moved2 .ensures) (start .pre .1))
 
 node-enum-known-first : (t : ℕ) → node-lts.Need-enum-known-first (node-calls t) (node-at t) node.Post
 node-enum-known-first t c = search needs
@@ -357,7 +457,9 @@ node-same-length-2 t c = search needs
 node-returns-4 : (t : ℕ) → node-lts.Need-returns-4 (node-calls t) (node-at t) node.Post
 unfolding ReadsNode
 node-returns-4 t c = λ names holds k deep.
-    first-refused-way (node-asked t (c .before .before .before .before .before .before .before .before .before .before .before .before .before .before .before .before)) names holds (node-opening t (c .before .before .before .before .before .before .before)) k deep (node-first t (c .before .before)) _ (c .enum-told .given .1)
+    let opened = c .before .before .before .before .before .before .before in
+    let start = opened .before .before .before .before .before .before .before .before .before in
+    first-refused-way (node-asked t start) names holds (node-opening t opened) k deep (node-first t (c .before .before)) _ (c .enum-told .given .1)
 
 node-blanks-requires-2 : (t : ℕ) → node-lts.Need-blanks-requires-2 (node-calls t) (node-at t) node.Post
 node-blanks-requires-2 t c κs = search needs
@@ -374,11 +476,19 @@ node-same-length-3 t c = search needs
 node-returns-5 : (t : ℕ) → node-lts.Need-returns-5 (node-calls t) (node-at t) node.Post
 unfolding ReadsNode
 node-returns-5 t c = λ names holds k deep.
-    no-comma-way (node-asked t (c .before .before .before .before .before .before .before .before .before .before .before .before .before .before .before .before .before .before .before .before .before)) names holds (node-opening t (c .before .before .before .before .before .before .before .before .before .before .before .before)) k deep (node-first t (c .before .before .before .before .before .before .before)) (node-followed t (c .before .before .before)) (c .no-comma .result)
+    let behind = c .before .before .before in
+    let first = behind .before .before .before .before in
+    let opened = first .before .before .before .before .before in
+    let start = opened .before .before .before .before .before .before .before .before .before in
+    no-comma-way (node-asked t start) names holds (node-opening t opened) k deep (node-first t first) (node-followed t behind) (c .no-comma .result)
     (sym (c .before .before .next-is2 .ensures) ∙ not-true _ (c .before .if4 .taken)) (c .no-comma .ensures)
 
 node-add-moved-2 : (t : ℕ) → node-lts.Need-add-moved-2 (node-calls t) (node-at t) node.Post
-node-add-moved-2 t c = let h = next-is-inside (c .before .before .before .before .before .before .before .before .before .before .before .before .before .before .before .before .before .before .before .before .args .text .now) (c .before .before .blanks2 .result) 44 (node-comma t c) in omega (arith, c .before .before .before .before .before .before .before .before .before .before .before .before .before .before .before .before .before .before .before .before .good .0 .0)
+node-add-moved-2 t c =
+    let behind = c .before .before in
+    let start = behind .before .before .before .before .before .before .before .before .before .before .before .before .before .before .before .before .before .before in
+    let h = next-is-inside (start .args .text .now) (behind .blanks2 .result) 44 (node-comma t c) in
+    omega (arith, start .good .0 .0)
 
 node-moved-requires-3 : (t : ℕ) → node-lts.Need-moved-requires-3 (node-calls t) (node-at t) node.Post
 node-moved-requires-3 t c κs = search needs
@@ -388,10 +498,21 @@ node-sub-list t c = search needs
 
 node-list-requires : (t : ℕ) → node-lts.Need-list-requires (node-calls t) (node-at t) node.Post
 node-list-requires t c κs =
-    let falls-to = others-fall (node-asked t (c .before .before .before .before .before .before .before .before .before .before .before .before .before .before .before .before .before .before .before .before .before .before)) (c .before .before .before .before .before .before .before .before .before .before .before .before .before .before .before .before .before .before .before .before .before .before .pre .1 .holds .0) (c .before .before .before .before .before .before .before .before .before .before .before .before .before .before .before .before .before .before .before .before .before .before .pre .1 .holds .1) (node-opening t (c .before .before .before .before .before .before .before .before .before .before .before .before .before)) (2 * (length (c .before .before .before .before .before .before .before .before .before .before .before .before .before .before .before .before .before .before .before .before .before .before .args .text .now) - c .before .before .before .before .before .before .before .before .before .before .before .before .before .before .before .before .before .before .before .before .before .before .args .c .at) + 1) (omega arith) (node-first t (c .before .before .before .before .before .before .before .before)) (node-followed t (c .before .before .before .before)) (node-comma t (c .before .before)) in
-    let more = first-grown (node-asked t (c .before .before .before .before .before .before .before .before .before .before .before .before .before .before .before .before .before .before .before .before .before .before)) (c .before .before .before .before .before .before .before .before .before .before .before .before .before .before .before .before .before .before .before .before .before .before .pre .1 .holds .0) (c .before .before .before .before .before .before .before .before .before .before .before .before .before .before .before .before .before .before .before .before .before .before .pre .1 .holds .1) (node-opening t (c .before .before .before .before .before .before .before .before .before .before .before .before .before)) (2 * (length (c .before .before .before .before .before .before .before .before .before .before .before .before .before .before .before .before .before .before .before .before .before .before .args .text .now) - c .before .before .before .before .before .before .before .before .before .before .before .before .before .before .before .before .before .before .before .before .before .before .args .c .at) + 1) (omega arith) (node-first t (c .before .before .before .before .before .before .before .before)) (node-followed t (c .before .before .before .before)) (c .before .before .before .before .before .before .before .before .before .before .before .before .before .before .before .before .before .before .before .before .before .before .pre .1) in
-    let place : c .before .moved3 .result .at ≡ c .before .before .before .before .blanks2 .result + 1 = ap (λ (m : Cursor). m .at) (c .before .moved3 .ensures) in
-    let e = c .before .before .before .before .before .before .before .before .before .before .before .before .before .before .before .before .before .before .before .before .before .before .pre .0 in
+    let behind = c .before .before .before .before in
+    let first = behind .before .before .before .before in
+    let opened = first .before .before .before .before .before in
+    let start = opened .before .before .before .before .before .before .before .before .before in
+    let text = start .args .text .now in
+    let falls-to =
+    others-fall (node-asked t start) (start .pre .1 .holds .0) (start .pre .1 .holds .1) (node-opening t opened)
+    (2 * (length text - start .args .c .at) + 1) (omega arith) (node-first t first) (node-followed t behind) (node-comma t (c .before .before))
+    in
+    let more =
+    first-grown (node-asked t start) (start .pre .1 .holds .0) (start .pre .1 .holds .1) (node-opening t opened)
+    (2 * (length text - start .args .c .at) + 1) (omega arith) (node-first t first) (node-followed t behind) (start .pre .1)
+    in
+    let place : c .before .moved3 .result .at ≡ behind .blanks2 .result + 1 = ap (λ (m : Cursor). m .at) (c .before .moved3 .ensures) in
+    let e = start .pre .0 in
     (omega arith, given-moved _ _ _ _ _ _ _ (c .before .moved3 .ensures) (more .given))
 
 node-enum-known-others : (t : ℕ) → node-lts.Need-enum-known-others (node-calls t) (node-at t) node.Post
@@ -406,7 +527,13 @@ node-same-length-4 t c = search needs
 node-returns-6 : (t : ℕ) → node-lts.Need-returns-6 (node-calls t) (node-at t) node.Post
 unfolding ReadsNode
 node-returns-6 t c = λ names holds k deep.
-    others-refused-way (node-asked t (c .before .before .before .before .before .before .before .before .before .before .before .before .before .before .before .before .before .before .before .before .before .before .before .before .before .before .before)) names holds (node-opening t (c .before .before .before .before .before .before .before .before .before .before .before .before .before .before .before .before .before .before)) k deep (node-first t (c .before .before .before .before .before .before .before .before .before .before .before .before .before)) (node-followed t (c .before .before .before .before .before .before .before .before .before)) (node-comma t (c .before .before .before .before .before .before .before)) (node-others t (c .before .before)) _
+    let comma = c .before .before .before .before .before .before .before in
+    let behind = comma .before .before in
+    let first = behind .before .before .before .before in
+    let opened = first .before .before .before .before .before in
+    let start = opened .before .before .before .before .before .before .before .before .before in
+    others-refused-way (node-asked t start) names holds (node-opening t opened) k deep (node-first t first) (node-followed t behind) (node-comma t comma)
+    (node-others t (c .before .before)) _
     (c .enum-told2 .given .1)
 
 node-closing-requires : (t : ℕ) → node-lts.Need-closing-requires (node-calls t) (node-at t) node.Post
@@ -417,17 +544,40 @@ node-union-requires t c κs = search needs
 
 node-ended-requires : (t : ℕ) → node-lts.Need-ended-requires (node-calls t) (node-at t) node.Post
 node-ended-requires t c κs =
-    others-grown (node-asked t (c .before .before .before .before .before .before .before .before .before .before .before .before .before .before .before .before .before .before .before .before .before .before .before .before .before .before .before .before .before .before .before)) (c .before .before .before .before .before .before .before .before .before .before .before .before .before .before .before .before .before .before .before .before .before .before .before .before .before .before .before .before .before .before .before .pre .1 .holds .0) (c .before .before .before .before .before .before .before .before .before .before .before .before .before .before .before .before .before .before .before .before .before .before .before .before .before .before .before .before .before .before .before .pre .1 .holds .1) (node-opening t (c .before .before .before .before .before .before .before .before .before .before .before .before .before .before .before .before .before .before .before .before .before .before)) (2 * (length (c .before .before .before .before .before .before .before .before .before .before .before .before .before .before .before .before .before .before .before .before .before .before .before .before .before .before .before .before .before .before .before .args .text .now) - c .before .before .before .before .before .before .before .before .before .before .before .before .before .before .before .before .before .before .before .before .before .before .before .before .before .before .before .before .before .before .before .args .c .at) + 1) (omega arith) (node-first t (c .before .before .before .before .before .before .before .before .before .before .before .before .before .before .before .before .before)) (node-followed t (c .before .before .before .before .before .before .before .before .before .before .before .before .before)) (node-comma t (c .before .before .before .before .before .before .before .before .before .before .before)) (node-others t (c .before .before .before .before .before .before)) _ _
-    (c .before .before .before .before .others .given .1) (c .before .before .before .before .before .before .before .before .before .before .before .before .before .before .before .before .before .before .before .before .before .before .before .before .before .before .before .before .before .before .before .pre .1) .room
+    let others = c .before .before .before .before .before .before in
+    let comma = others .before .before .before .before .before in
+    let behind = comma .before .before in
+    let first = behind .before .before .before .before in
+    let opened = first .before .before .before .before .before in
+    let start = opened .before .before .before .before .before .before .before .before .before in
+    let told = c .before .before .before .before .others in
+    others-grown (node-asked t start) (start .pre .1 .holds .0) (start .pre .1 .holds .1) (node-opening t opened)
+    (2 * (length (start .args .text .now) - start .args .c .at) + 1) (omega arith) (node-first t first) (node-followed t behind) (node-comma t comma)
+    (node-others t others) _ _
+    (told .given .1) (start .pre .1) .room
 
 node-same-length-5 : (t : ℕ) → node-lts.Need-same-length-5 (node-calls t) (node-at t) node.Post
-node-same-length-5 t c = c .before .before .ended .kept .1 .1 .1 .1 .0 ∙ c .before .before .before .before .before .before .before .before .before .before .before .list .kept .1 .1 .1 .1 .1 .0 ∙ c .before .before .before .before .before .before .before .before .before .before .before .before .before .before .before .before .before .before .before .before .before .before .node .kept .1 .1 .1 .1 .1 .0
+node-same-length-5 t c =
+    let at-list = c .before .before .before .before .before .before .before .before .before .before .before in
+    let node = at-list .before .before .before .before .before .before .before .before .before .before .before .node in
+    c .before .before .ended .kept .1 .1 .1 .1 .0 ∙ at-list .list .kept .1 .1 .1 .1 .1 .0 ∙ node .kept .1 .1 .1 .1 .1 .0
 
 node-returns-7 : (t : ℕ) → node-lts.Need-returns-7 (node-calls t) (node-at t) node.Post
 unfolding ReadsNode
 node-returns-7 t c = λ names holds k deep.
-    node-way (node-asked t (c .before .before .before .before .before .before .before .before .before .before .before .before .before .before .before .before .before .before .before .before .before .before .before .before .before .before .before .before .before .before .before .before .before .before)) names holds (node-opening t (c .before .before .before .before .before .before .before .before .before .before .before .before .before .before .before .before .before .before .before .before .before .before .before .before .before)) k deep (node-first t (c .before .before .before .before .before .before .before .before .before .before .before .before .before .before .before .before .before .before .before .before)) (node-followed t (c .before .before .before .before .before .before .before .before .before .before .before .before .before .before .before .before)) (node-comma t (c .before .before .before .before .before .before .before .before .before .before .before .before .before .before)) (node-others t (c .before .before .before .before .before .before .before .before .before)) _ _ (c .before .before .before .before .before .before .before .others .given .1)
-    (c .before .before .before .before .union .result) (c .before .before .before .before .before .closing .result) _ (c .before .before .ended .result) (c .before .before .before .before .union .ensures) (c .before .before .before .before .before .closing .ensures) (c .before .before .ended .ensures .0) (c .before .before .ended .ensures .1)
+    let others = c .before .before .before .before .before .before .before .before .before in
+    let comma = others .before .before .before .before .before in
+    let behind = comma .before .before in
+    let first = behind .before .before .before .before in
+    let opened = first .before .before .before .before .before in
+    let start = opened .before .before .before .before .before .before .before .before .before in
+    let ended = c .before .before .ended in
+    let union = c .before .before .before .before .union in
+    let closing = c .before .before .before .before .before .closing in
+    let told = c .before .before .before .before .before .before .before .others in
+    node-way (node-asked t start) names holds (node-opening t opened) k deep (node-first t first) (node-followed t behind) (node-comma t comma)
+    (node-others t others) _ _ (told .given .1)
+    (union .result) (closing .result) _ (ended .result) (union .ensures) (closing .ensures) (ended .ensures .0) (ended .ensures .1)
 
 pub +list+node-spec : {M : Type 1} → statement M
 +list+node-spec = close μ-list μ-node (λ t. list-lts.spec (list-calls t) (list-at t) list.Post

@@ -14,35 +14,55 @@ refused-requires : tie.Need-refused-requires
 refused-requires c κs = search needs
 
 returns : tie.Need-returns
-returns c = roster-refused (c .before .before .before .before .before .args .line .now) (c .before .before .before .before .before .args .text .now) (c .before .before .before .before .before .args .start) (c .before .before .parse .result) (c .before .before .parse .ensures) (c .refused .result) (c .before .if1 .taken) (c .refused .ensures)
+returns c =
+    let start = c .before .before .before .before .before in
+    let parse = c .before .before .parse in
+    roster-refused (start .args .line .now) (start .args .text .now) (start .args .start) (parse .result) (parse .ensures) (c .refused .result)
+    (c .before .if1 .taken) (c .refused .ensures)
 
 refused-requires-2 : tie.Need-refused-requires-2
 refused-requires-2 c κs = search needs
 
 returns-2 : tie.Need-returns-2
-returns-2 c = long-refused (c .before .before .before .before .before .before .args .line .now) (c .before .before .before .before .before .before .args .text .now) (c .before .before .before .before .before .before .args .start) (c .before .before .before .parse .result) (c .before .before .before .parse .ensures) (c .refused2 .result) (omega arith) (c .before .if2 .taken) (c .refused2 .ensures)
+returns-2 c =
+    let start = c .before .before .before .before .before .before in
+    let parse = c .before .before .before .parse in
+    long-refused (start .args .line .now) (start .args .text .now) (start .args .start) (parse .result) (parse .ensures) (c .refused2 .result)
+    (omega arith) (c .before .if2 .taken) (c .refused2 .ensures)
 
 refused-requires-3 : tie.Need-refused-requires-3
 refused-requires-3 c κs = search needs
 
 returns-3 : tie.Need-returns-3
-returns-3 c = start-refused (c .before .before .before .before .before .before .before .args .line .now) (c .before .before .before .before .before .before .before .args .text .now) (c .before .before .before .before .before .before .before .args .start) (c .before .before .before .before .parse .result) (c .before .before .before .before .parse .ensures) (c .refused3 .result) (omega arith) (c .before .before .if2 .left) (c .before .if3 .taken) (c .refused3 .ensures)
+returns-3 c =
+    let start = c .before .before .before .before .before .before .before in
+    let parse = c .before .before .before .before .parse in
+    start-refused (start .args .line .now) (start .args .text .now) (start .args .start) (parse .result) (parse .ensures) (c .refused3 .result)
+    (omega arith) (c .before .before .if2 .left) (c .before .if3 .taken) (c .refused3 .ensures)
 
 slice-aggregate-recorded : tie.Need-slice-aggregate-recorded
 slice-aggregate-recorded c = search needs
 
 recorded-requires : tie.Need-recorded-requires
 recorded-requires c κs =
-    let room = read-room 16 (c .before .before .before .before .before .before .before .before .args .line .now) (c .before .before .before .before .before .parse .result) (c .before .before .before .before .before .parse .ensures) (omega arith) in (
+    let start = c .before .before .before .before .before .before .before .before in
+    let parse = c .before .before .before .before .before .parse in
+    let line = start .args .line .now in
+    let room = read-room 16 line (parse .result) (parse .ensures) (omega arith) in (
       (
-        names (c .before .before .before .before .before .before .before .before .args .line .now),
-        holds-names (c .before .before .before .before .before .before .before .before .args .line .now) (c .before .before .before .before .before .parse .result) (c .before .before .before .before .before .parse .ensures) (omega arith),
+        names line,
+        holds-names line (parse .result) (parse .ensures) (omega arith),
       ),
       (room .1, omega (arith, room .0, room .1)),
     )
 
 returns-4 : tie.Need-returns-4
-returns-4 c = tree-recorded (c .before .before .before .before .before .before .before .before .before .args .line .now) (c .before .before .before .before .before .before .before .before .before .args .text .now) (c .before .before .before .before .before .before .before .before .before .args .start) (c .before .before .before .before .before .before .parse .result) (c .before .before .before .before .before .before .parse .ensures) (c .recorded .result) (omega arith) (c .before .before .before .before .if2 .left) (c .before .before .before .if3 .left) (c .recorded .ensures)
+returns-4 c =
+    let start = c .before .before .before .before .before .before .before .before .before in
+    let if2 = c .before .before .before .before .if2 in
+    let parse = c .before .before .before .before .before .before .parse in
+    tree-recorded (start .args .line .now) (start .args .text .now) (start .args .start) (parse .result) (parse .ensures) (c .recorded .result)
+    (omega arith) (if2 .left) (c .before .before .before .if3 .left) (c .recorded .ensures)
 
 pub read-spec : {M : Type 1} → statement M
 read-spec =

@@ -8,12 +8,15 @@ use borrow.Author.Tests.{not-true, not-false}
 use Rattle.tokens.specs.Tokens.{nextIs}
 use Rattle.reader.specs.Core.{ReadsTree}
 use Rattle.tokens.proofs.Places.{next-is-inside}
-use Rattle.reader.proofs.NodeWays.{NodeCall, Followed}
+use Rattle.reader.proofs.NodeWays.{Asked, NodeCall, Followed}
 use Rattle.reader.proofs.TreeWays.{fromStart, root-refused-way, end-missing-way, species-missing-way, tree-way}
 use Rattle.reader.proofs.tree.tree.Statement.{statement}
 use Rattle.reader.proofs.tree.tree.Tie as tie
 
-abbrev root-call : (c : tie.After-slice-known2) → NodeCall (fromStart (c .before .before .before .before .before .before .before .args .text .now) (c .before .before .before .before .before .before .before .args .table .now) (c .before .before .before .before .before .before .before .args .count) (c .before .before .before .before .before .before .before .args .start) (c .before .before .before .before .before .before .before .args .room) (c .before .before .before .before .before .before .before .args .found .now))
+abbrev asked : tie.Start → Asked
+asked c = fromStart (c .args .text .now) (c .args .table .now) (c .args .count) (c .args .start) (c .args .room) (c .args .found .now)
+
+abbrev root-call : (c : tie.After-slice-known2) → NodeCall (asked (c .before .before .before .before .before .before .before))
 root-call c = record {
   cursor = record { at = c .before .before .before .before .before .before .before .args .start; seen = 0; stored = 0 };
   cursor-is = refl;
@@ -22,7 +25,10 @@ root-call c = record {
   reads = c .before .before .node .ensures;
 }
 
-abbrev followed : (c : tie.After-blanks) → Followed (c .before .before .before .before .before .before .before .before .before .before .before .args .text .now) (c .before .before .before .before .before .before .node .result)
+abbrev followed :
+    (c : tie.After-blanks)
+    → Followed (c .before .before .before .before .before .before .before .before .before .before .before .args .text .now)
+    (c .before .before .before .before .before .before .node .result)
 followed c = record {
   mask = c .before .before .root .given .0 .0;
   next = c .before .before .root .given .0 .1 .0;
@@ -31,7 +37,10 @@ followed c = record {
   passed = c .blanks .ensures;
 }
 
-at-end : (c : tie.Else1) → nextIs 59 (drop (c .before .before .blanks .result) (c .before .before .before .before .before .before .before .before .before .before .before .before .before .args .text .now)) ≡ true
+at-end :
+    (c : tie.Else1)
+    → let start = c .before .before .before .before .before .before .before .before .before .before .before .before .before in
+    nextIs 59 (drop (c .before .before .blanks .result) (start .args .text .now)) ≡ true
 at-end c = sym (c .before .next-is .ensures) ∙ not-false _ (c .if1 .left)
 
 node-requires : tie.Need-node-requires
@@ -48,7 +57,10 @@ same-length c = search needs
 
 returns : tie.Need-returns
 unfolding ReadsTree
-returns c = λ names holds k deep. root-refused-way (c .before .before .before .before .before .before .before .before .before .args .text .now) (c .before .before .before .before .before .before .before .before .before .args .table .now) (c .before .before .before .before .before .before .before .before .before .args .count) names holds (c .before .before .before .before .before .before .before .before .before .args .start) (c .before .before .before .before .before .before .before .before .before .args .needed) (c .before .before .before .before .before .before .before .before .before .args .room) (c .before .before .before .before .before .before .before .before .before .args .found .now) k deep (root-call (c .before .before)) _ (c .enum-told .given .1)
+returns c = λ names holds k deep.
+    let start = c .before .before .before .before .before .before .before .before .before in
+    root-refused-way (start .args .text .now) (start .args .table .now) (start .args .count) names holds (start .args .start) (start .args .needed)
+    (start .args .room) (start .args .found .now) k deep (root-call (c .before .before)) _ (c .enum-told .given .1)
 
 blanks-requires : tie.Need-blanks-requires
 blanks-requires c κs = search needs
@@ -65,7 +77,12 @@ same-length-2 c = search needs
 returns-2 : tie.Need-returns-2
 unfolding ReadsTree
 returns-2 c = λ names holds k deep.
-    end-missing-way (c .before .before .before .before .before .before .before .before .before .before .before .before .before .before .args .text .now) (c .before .before .before .before .before .before .before .before .before .before .before .before .before .before .args .table .now) (c .before .before .before .before .before .before .before .before .before .before .before .before .before .before .args .count) names holds (c .before .before .before .before .before .before .before .before .before .before .before .before .before .before .args .start) (c .before .before .before .before .before .before .before .before .before .before .before .before .before .before .args .needed) (c .before .before .before .before .before .before .before .before .before .before .before .before .before .before .args .room) (c .before .before .before .before .before .before .before .before .before .before .before .before .before .before .args .found .now) k deep (root-call (c .before .before .before .before .before .before .before)) (followed (c .before .before .before)) (c .stray .result) (sym (c .before .before .next-is .ensures) ∙ not-true _ (c .before .if1 .taken)) (c .stray .ensures)
+    let behind = c .before .before .before in
+    let root = behind .before .before .before .before in
+    let start = root .before .before .before .before .before .before .before in
+    end-missing-way (start .args .text .now) (start .args .table .now) (start .args .count) names holds (start .args .start) (start .args .needed)
+    (start .args .room) (start .args .found .now) k deep (root-call root) (followed behind) (c .stray .result)
+    (sym (c .before .before .next-is .ensures) ∙ not-true _ (c .before .if1 .taken)) (c .stray .ensures)
 
 within-requires : tie.Need-within-requires
 within-requires c κs = search needs
@@ -76,10 +93,18 @@ same-length-3 c = search needs
 returns-3 : tie.Need-returns-3
 unfolding ReadsTree
 returns-3 c = λ names holds k deep.
-    species-missing-way (c .before .before .before .before .before .before .before .before .before .before .before .before .before .before .before .args .text .now) (c .before .before .before .before .before .before .before .before .before .before .before .before .before .before .before .args .table .now) (c .before .before .before .before .before .before .before .before .before .before .before .before .before .before .before .args .count) names holds (c .before .before .before .before .before .before .before .before .before .before .before .before .before .before .before .args .start) (c .before .before .before .before .before .before .before .before .before .before .before .before .before .before .before .args .needed) (c .before .before .before .before .before .before .before .before .before .before .before .before .before .before .before .args .room) (c .before .before .before .before .before .before .before .before .before .before .before .before .before .before .before .args .found .now) k deep (root-call (c .before .before .before .before .before .before .before .before)) (followed (c .before .before .before .before)) (at-end (c .before .before)) (sym (c .before .within .ensures) ∙ not-true _ (c .if2 .taken))
+    let behind = c .before .before .before .before in
+    let root = behind .before .before .before .before in
+    let start = root .before .before .before .before .before .before .before in
+    species-missing-way (start .args .text .now) (start .args .table .now) (start .args .count) names holds (start .args .start) (start .args .needed)
+    (start .args .room) (start .args .found .now) k deep (root-call root) (followed behind) (at-end (c .before .before))
+    (sym (c .before .within .ensures) ∙ not-true _ (c .if2 .taken))
 
 add-moved : tie.Need-add-moved
-add-moved c = let h = next-is-inside (c .before .before .before .before .before .before .before .before .before .before .before .before .before .before .before .args .text .now) (c .before .before .before .before .blanks .result) 59 (at-end (c .before .before)) in omega (arith, c .before .before .before .before .before .before .before .before .before .before .before .before .before .before .before .good .0 .0)
+add-moved c =
+    let start = c .before .before .before .before .before .before .before .before .before .before .before .before .before .before .before in
+    let blanks = c .before .before .before .before .blanks in
+    let h = next-is-inside (start .args .text .now) (blanks .result) 59 (at-end (c .before .before)) in omega (arith, start .good .0 .0)
 
 moved-requires : tie.Need-moved-requires
 moved-requires c κs = search needs
@@ -90,7 +115,13 @@ same-length-4 c = search needs
 returns-4 : tie.Need-returns-4
 unfolding ReadsTree
 returns-4 c = λ names holds k deep.
-    tree-way (c .before .before .before .before .before .before .before .before .before .before .before .before .before .before .before .before .args .text .now) (c .before .before .before .before .before .before .before .before .before .before .before .before .before .before .before .before .args .table .now) (c .before .before .before .before .before .before .before .before .before .before .before .before .before .before .before .before .args .count) names holds (c .before .before .before .before .before .before .before .before .before .before .before .before .before .before .before .before .args .start) (c .before .before .before .before .before .before .before .before .before .before .before .before .before .before .before .before .args .needed) (c .before .before .before .before .before .before .before .before .before .before .before .before .before .before .before .before .args .room) (c .before .before .before .before .before .before .before .before .before .before .before .before .before .before .before .before .args .found .now) k deep (root-call (c .before .before .before .before .before .before .before .before .before)) (followed (c .before .before .before .before .before)) (at-end (c .before .before .before)) (c .moved .result) (sym (c .before .before .within .ensures) ∙ not-false _ (c .before .if2 .left))
+    let end = c .before .before .before in
+    let behind = end .before .before in
+    let root = behind .before .before .before .before in
+    let start = root .before .before .before .before .before .before .before in
+    tree-way (start .args .text .now) (start .args .table .now) (start .args .count) names holds (start .args .start) (start .args .needed)
+    (start .args .room) (start .args .found .now) k deep (root-call root) (followed behind) (at-end end) (c .moved .result)
+    (sym (c .before .before .within .ensures) ∙ not-false _ (c .before .if2 .left))
     (c .moved .ensures)
 
 pub tree-spec : {M : Type 1} → statement M

@@ -35,8 +35,11 @@ loop-less c = search needs
 
 loop-again : tie.Need-loop-again Inv-loop μ-loop
 loop-again c =
-    let at-loop = c .before .before in
-    (search needs, copied-more (at-loop .loop .name) (at-loop .before .args .text .now) (at-loop .before .args .at) (at-loop .loop .i) (omega arith) (omega arith) (at-loop .loop .inv .1))
+    let at-loop = c .before .before in (
+      search needs,
+      copied-more (at-loop .loop .name) (at-loop .before .args .text .now) (at-loop .before .args .at) (at-loop .loop .i) (omega arith)
+          (omega arith) (at-loop .loop .inv .1),
+    )
 
 returns : tie.Need-returns Inv-loop μ-loop
 returns c =

@@ -31,7 +31,10 @@ sub-result c = search needs
 returns : tie.Need-returns Inv-loop μ-loop
 returns c =
     let at-loop = c .before .before .before .before in
-    let off = run-off isName (at-loop .before .before .args .text .now) (at-loop .loop .i) (c .before .before .before .loop-test .taken) (sym (c .before .is-name-byte .ensures) ∙ not-true _ (c .if1 .taken)) in
+    let off =
+    run-off isName (at-loop .before .before .args .text .now) (at-loop .loop .i) (c .before .before .before .loop-test .taken)
+    (sym (c .before .is-name-byte .ensures) ∙ not-true _ (c .if1 .taken))
+    in
     omega arith
 
 add-i : tie.Need-add-i Inv-loop μ-loop
@@ -43,7 +46,10 @@ loop-less c = search needs
 loop-again : tie.Need-loop-again Inv-loop μ-loop
 loop-again c =
     let at-loop = c .before .before .before .before in
-    let on = run-on isName (at-loop .before .before .args .text .now) (at-loop .loop .i) (c .before .before .before .loop-test .taken) (sym (c .before .is-name-byte .ensures) ∙ not-false _ (c .if1 .left)) in
+    let on =
+    run-on isName (at-loop .before .before .args .text .now) (at-loop .loop .i) (c .before .before .before .loop-test .taken)
+    (sym (c .before .is-name-byte .ensures) ∙ not-false _ (c .if1 .left))
+    in
     omega arith
 
 sub-result-2 : tie.Need-sub-result-2 Inv-loop μ-loop

@@ -12,26 +12,34 @@ run-of-name-requires c κs = search needs
 
 padded-requires : tie.Need-padded-requires
 padded-requires c κs =
-    let left = run-left isName (c .before .before .before .args .text .now) (c .before .before .before .args .at) (c .before .run-of-name .result) (c .before .run-of-name .ensures) in
+    let start = c .before .before .before in
+    let left = run-left isName (start .args .text .now) (start .args .at) (c .before .run-of-name .result) (c .before .run-of-name .ensures) in
     omega arith
 
 add-t6 : tie.Need-add-t6
 add-t6 c =
-    let left = run-left isName (c .before .before .before .before .args .text .now) (c .before .before .before .before .args .at) (c .before .before .run-of-name .result) (c .before .before .run-of-name .ensures) in
+    let start = c .before .before .before .before in
+    let run-of-name = c .before .before .run-of-name in
+    let left = run-left isName (start .args .text .now) (start .args .at) (run-of-name .result) (run-of-name .ensures) in
     omega arith
 
 returns : tie.Need-returns
 returns c =
-    scan-ended (c .before .before .before .before .args .text .now) (c .before .before .before .before .args .at) (c .before .before .run-of-name .result) (c .before .before .run-of-name .ensures) (c .padded .result) (c .before .if1 .taken) (c .padded .ensures)
+    let start = c .before .before .before .before in
+    let run-of-name = c .before .before .run-of-name in
+    scan-ended (start .args .text .now) (start .args .at) (run-of-name .result) (run-of-name .ensures) (c .padded .result) (c .before .if1 .taken)
+    (c .padded .ensures)
 
 add-t8 : tie.Need-add-t8
 add-t8 c =
-    let left = run-left isName (c .before .before .before .args .text .now) (c .before .before .before .args .at) (c .before .run-of-name .result) (c .before .run-of-name .ensures) in
+    let start = c .before .before .before in
+    let left = run-left isName (start .args .text .now) (start .args .at) (c .before .run-of-name .result) (c .before .run-of-name .ensures) in
     omega arith
 
 returns-2 : tie.Need-returns-2
 returns-2 c =
-    scan-too-long (c .before .before .before .args .text .now) (c .before .before .before .args .at) (c .before .run-of-name .result) (c .before .run-of-name .ensures) (c .if1 .left)
+    let start = c .before .before .before in
+    scan-too-long (start .args .text .now) (start .args .at) (c .before .run-of-name .result) (c .before .run-of-name .ensures) (c .if1 .left)
 
 pub scan-spec : {M : Type 1} → statement M
 scan-spec =

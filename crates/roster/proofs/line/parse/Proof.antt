@@ -18,25 +18,45 @@ abbrev μ-loop : tie.MeasureT-loop
 μ-loop line most table₀ count₀ at₀ table count at = length line - at
 
 -- a name begins where the first test has been passed
-starts : (c : tie.Else1 Inv-loop μ-loop) → Starts (c .before .before .before .before .before .before .args .line .now) (c .before .before .before .before .loop .at)
-starts c =
-    record { apart = c .before .before .before .before .loop .inv .apart; here = c .before .before .before .loop-test .taken; first = sym (c .before .is-name-byte .ensures) ∙ not-false _ (c .if1 .left) }
+starts :
+    (c : tie.Else1 Inv-loop μ-loop)
+    → Starts (c .before .before .before .before .before .before .args .line .now) (c .before .before .before .before .loop .at)
+starts c = record {
+  apart = c .before .before .before .before .loop .inv .apart;
+  here = c .before .before .before .loop-test .taken;
+  first = sym (c .before .is-name-byte .ensures) ∙ not-false _ (c .if1 .left);
+}
 
 -- what is known once the name has been looked up
-met : (c : tie.After-species Inv-loop μ-loop)
-    → Met (c .before .before .before .before .before .before .before .before .before .before .before .before .before .before .args .most) (c .before .before .before .before .before .before .before .before .before .before .before .before .before .before .args .line .now) (c .before .before .before .before .before .before .before .before .before .before .before .before .loop .table) (c .before .before .before .before .before .before .before .before .before .before .before .before .loop .count) (c .before .before .before .before .before .before .before .before .before .before .before .before .loop .at) (c .before .before .before .label2 .given .0 .0) (c .before .before .before .before .before .before .scan .result .name) (c .species .result)
+met :
+    (c : tie.After-species Inv-loop μ-loop)
+    → let at-scan = c .before .before .before .before .before .before in
+    let start = at-scan .before .before .before .before .before .before .before .before in
+    let turn = at-scan .before .before .before .before .before .before .loop in
+    Met (start .args .most) (start .args .line .now) (turn .table) (turn .count) (turn .at) (c .before .before .before .label2 .given .0 .0)
+    (at-scan .scan .result .name) (c .species .result)
 met c =
+    let at-name = c .before .before .before .before .before .before .before .before in
+    let start = at-name .before .before .before .before .before .before in
+    let label2 = c .before .before .before .label2 in
+    let scan = c .before .before .before .before .before .before .scan in
+    let if2 = c .before .before .before .before .before .before .before .if2 in
+    let turn = at-name .before .before .before .before .loop in
     record {
-      room = c .before .before .before .before .before .before .before .before .before .before .before .before .before .before .pre;
-      begun = c .before .before .before .before .before .before .before .before .before .before .before .before .loop .inv;
-      starts = starts (c .before .before .before .before .before .before .before .before);
-      fewer = c .before .before .before .before .before .before .before .if2 .left;
-      ended = ended-short (c .before .before .before .before .before .before .before .before .before .before .before .before .before .before .args .line .now) (c .before .before .before .before .before .before .before .before .before .before .before .before .loop .at) (c .before .before .before .before .before .before .scan .result) (c .before .before .before .before .before .before .scan .ensures) (c .before .before .before .label2 .given .0 .0) (c .before .before .before .label2 .given .1);
+      room = start .pre;
+      begun = turn .inv;
+      starts = starts at-name;
+      fewer = if2 .left;
+      ended = ended-short (start .args .line .now) (turn .at) (scan .result) (scan .ensures) (label2 .given .0 .0) (label2 .given .1);
       looked = c .species .ensures;
     }
 
 -- the line goes on behind the name
-more : (c : tie.Else4 Inv-loop μ-loop) → c .before .before .before .before .before .before .before .before .label2 .given .0 .0 < length (c .before .before .before .before .before .before .before .before .before .before .before .before .before .before .before .before .before .before .before .args .line .now)
+more :
+    (c : tie.Else4 Inv-loop μ-loop)
+    → let at-label2 = c .before .before .before .before .before .before .before .before in
+    let start = at-label2 .before .before .before .before .before .before .before .before .before .before .before in
+    at-label2 .label2 .given .0 .0 < length (start .args .line .now)
 more c =
     let w = next-within _ _ _ _ _ _ _ _ (met (c .before .before .before .before .before)) in
     let n = c .if4 .left in
@@ -56,7 +76,9 @@ faulty-requires c κs = search needs
 
 returns : tie.Need-returns Inv-loop μ-loop
 returns c =
-    c .faulty .ensures ∙ stray-first _ _ _ _ _ (c .before .before .before .before .before .loop .inv) (c .before .before .before .before .loop-test .taken) (sym (c .before .before .is-name-byte .ensures) ∙ not-true _ (c .before .if1 .taken))
+    let loop-test = c .before .before .before .before .loop-test in
+    let turn = c .before .before .before .before .before .loop in
+    c .faulty .ensures ∙ stray-first _ _ _ _ _ (turn .inv) (loop-test .taken) (sym (c .before .before .is-name-byte .ensures) ∙ not-true _ (c .before .if1 .taken))
 
 faulty-requires-2 : tie.Need-faulty-requires-2 Inv-loop μ-loop
 faulty-requires-2 c κs = search needs
@@ -76,9 +98,15 @@ faulty-requires-3 c κs = search needs
 
 returns-3 : tie.Need-returns-3 Inv-loop μ-loop
 returns-3 c =
+    let at-name = c .before .before .before .before .before .before .before in
+    let start = at-name .before .before .before .before .before .before in
+    let label = c .before .before .label in
+    let scan = c .before .before .before .before .before .scan in
+    let if2 = c .before .before .before .before .before .before .if2 in
+    let turn = at-name .before .before .before .before .loop in
     c .faulty3 .ensures
-    ∙ too-long _ _ _ _ _ (c .before .before .before .before .before .before .before .before .before .before .before .loop .inv) (starts (c .before .before .before .before .before .before .before)) (c .before .before .before .before .before .before .if2 .left) _
-    (too-long-run (c .before .before .before .before .before .before .before .before .before .before .before .before .before .args .line .now) (c .before .before .before .before .before .before .before .before .before .before .before .loop .at) (c .before .before .before .before .before .scan .result) (c .before .before .before .before .before .scan .ensures) (c .before .before .label .given .0 .0) (c .before .before .label .given .1))
+    ∙ too-long _ _ _ _ _ (turn .inv) (starts at-name) (if2 .left) _
+    (too-long-run (start .args .line .now) (turn .at) (scan .result) (scan .ensures) (label .given .0 .0) (label .given .1))
 
 enum-known-label-2 : tie.Need-enum-known-label-2 Inv-loop μ-loop
 enum-known-label-2 c = search needs
@@ -107,8 +135,11 @@ add-count c = search needs
 
 returns-5 : tie.Need-returns-5 Inv-loop μ-loop
 returns-5 c =
-    ap (λ (t : List ℕ). record { number = 0; place = 0; count = c .before .before .before .before .before .before .before .before .before .before .before .before .before .before .before .before .before .loop .count + 1; table = t }) (c .before .before .enter .ensures)
-    ∙ well-ended _ _ _ _ _ _ _ _ (met (c .before .before .before .before .before)) (c .before .before .before .before .if3 .left) (c .if4 .taken)
+    let looked = c .before .before .before .before .before in
+    let if3 = c .before .before .before .before .if3 in
+    let turn = looked .before .before .before .before .before .before .before .before .before .before .before .before .loop in
+    ap (λ (t : List ℕ). record { number = 0; place = 0; count = turn .count + 1; table = t }) (c .before .before .enter .ensures)
+    ∙ well-ended _ _ _ _ _ _ _ _ (met looked) (if3 .left) (c .if4 .taken)
 
 shared-slice-read-if5 : tie.Need-shared-slice-read-if5 Inv-loop μ-loop
 shared-slice-read-if5 c = more (c .before)
@@ -118,7 +149,10 @@ faulty-requires-5 c κs = search needs
 
 returns-6 : tie.Need-returns-6 Inv-loop μ-loop
 returns-6 c =
-    c .faulty5 .ensures ∙ stray-behind _ _ _ _ _ _ _ _ (met (c .before .before .before .before .before .before .before .before)) (c .before .before .before .before .before .before .before .if3 .left) (more (c .before .before .before)) (c .before .if5 .taken)
+    let onwards = c .before .before .before in
+    let looked = onwards .before .before .before .before .before in
+    let if3 = onwards .before .before .before .before .if3 in
+    c .faulty5 .ensures ∙ stray-behind _ _ _ _ _ _ _ _ (met looked) (if3 .left) (more onwards) (c .before .if5 .taken)
 
 add-at : tie.Need-add-at Inv-loop μ-loop
 add-at c =
@@ -133,7 +167,10 @@ loop-less c =
 
 loop-again : tie.Need-loop-again Inv-loop μ-loop
 loop-again c =
-    rw (c .before .before .before .before .enter .ensures) (space-behind _ _ _ _ _ _ _ _ (met (c .before .before .before .before .before .before .before)) (c .before .before .before .before .before .before .if3 .left) (more (c .before .before)) (c .if5 .left))
+    let looked = c .before .before .before .before .before .before .before in
+    let enter = c .before .before .before .before .enter in
+    let if3 = c .before .before .before .before .before .before .if3 in
+    rw (enter .ensures) (space-behind _ _ _ _ _ _ _ _ (met looked) (if3 .left) (more (c .before .before)) (c .if5 .left))
 
 faulty-requires-6 : tie.Need-faulty-requires-6 Inv-loop μ-loop
 faulty-requires-6 c κs = search needs

@@ -29,8 +29,9 @@ add-table c = search needs
 
 slice-write-table : tie.Need-slice-write-table Inv-loop μ-loop
 slice-write-table c =
-    let sixteen : length (c .before .before .args .t3) ≡ 16 = search needs in
-    let e = length-paste (c .before .before .args .table .now) (16 * c .before .before .args .i) (c .before .before .args .t3) (c .before .loop .k) (omega arith) (omega arith) in
+    let start = c .before .before in
+    let sixteen : length (start .args .t3) ≡ 16 = search needs in
+    let e = length-paste (start .args .table .now) (16 * start .args .i) (start .args .t3) (c .before .loop .k) (omega arith) (omega arith) in
     rw (c .before .loop .inv .1, e) (omega arith)
 
 add-k : tie.Need-add-k Inv-loop μ-loop
@@ -41,14 +42,17 @@ loop-less c = search needs
 
 loop-again : tie.Need-loop-again Inv-loop μ-loop
 loop-again c =
-    let sixteen : length (c .before .before .args .t3) ≡ 16 = search needs in
-    let more = paste-suc (c .before .before .args .table .now) (16 * c .before .before .args .i) (c .before .before .args .t3) (c .before .loop .k) 0 (omega arith) (omega arith) in
+    let start = c .before .before in
+    let sixteen : length (start .args .t3) ≡ 16 = search needs in
+    let more = paste-suc (start .args .table .now) (16 * start .args .i) (start .args .t3) (c .before .loop .k) 0 (omega arith) (omega arith) in
     (search needs, rw (c .before .loop .inv .1, add-one (c .before .loop .k)) more)
 
 same-length : tie.Need-same-length Inv-loop μ-loop
 same-length c =
-    let sixteen : length (c .before .before .args .t3) ≡ 16 = search needs in
-    ap length (c .before .loop .inv .1) ∙ length-paste (c .before .before .args .table .now) (16 * c .before .before .args .i) (c .before .before .args .t3) (c .before .loop .k) (omega arith) (omega arith)
+    let start = c .before .before in
+    let sixteen : length (start .args .t3) ≡ 16 = search needs in
+    ap length (c .before .loop .inv .1)
+    ∙ length-paste (start .args .table .now) (16 * start .args .i) (start .args .t3) (c .before .loop .k) (omega arith) (omega arith)
 
 returns : tie.Need-returns Inv-loop μ-loop
 returns c =

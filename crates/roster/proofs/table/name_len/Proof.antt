@@ -30,7 +30,10 @@ shared-slice-read-if1 c = search needs
 
 returns : tie.Need-returns Inv-loop μ-loop
 returns c =
-    let off = name-off (c .before .before .before .before .args .table .now) (c .before .before .before .before .args .i) (c .before .before .before .loop .k) (c .before .before .before .before .pre) (c .before .before .loop-test .taken) (c .if1 .taken) in
+    let start = c .before .before .before .before in
+    let off =
+    name-off (start .args .table .now) (start .args .i) (c .before .before .before .loop .k) (start .pre) (c .before .before .loop-test .taken) (c .if1 .taken)
+    in
     omega arith
 
 add-k : tie.Need-add-k Inv-loop μ-loop
@@ -41,7 +44,10 @@ loop-less c = search needs
 
 loop-again : tie.Need-loop-again Inv-loop μ-loop
 loop-again c =
-    let on = name-on (c .before .before .before .before .args .table .now) (c .before .before .before .before .args .i) (c .before .before .before .loop .k) (c .before .before .before .before .pre) (c .before .before .loop-test .taken) (c .if1 .left) in
+    let start = c .before .before .before .before in
+    let on =
+    name-on (start .args .table .now) (start .args .i) (c .before .before .before .loop .k) (start .pre) (c .before .before .loop-test .taken) (c .if1 .left)
+    in
     omega arith
 
 returns-2 : tie.Need-returns-2 Inv-loop μ-loop

@@ -25,7 +25,11 @@ stands-at-requires c κs = search needs
 
 returns : tie.Need-returns Inv-loop μ-loop
 returns c =
-    let here = position-here (c .before .before .before .before .before .args .name) (c .before .before .before .before .before .args .table .now) (c .before .before .before .before .before .args .count) (c .before .before .before .loop .i) (c .before .before .loop-test .taken) (sym (c .before .stands-at .ensures) ∙ c .if1 .taken) in
+    let start = c .before .before .before .before .before in
+    let here =
+    position-here (start .args .name) (start .args .table .now) (start .args .count) (c .before .before .before .loop .i)
+    (c .before .before .loop-test .taken) (sym (c .before .stands-at .ensures) ∙ c .if1 .taken)
+    in
     omega arith
 
 add-i : tie.Need-add-i Inv-loop μ-loop
@@ -36,12 +40,19 @@ loop-less c = search needs
 
 loop-again : tie.Need-loop-again Inv-loop μ-loop
 loop-again c =
-    let on = position-on (c .before .before .before .before .before .args .name) (c .before .before .before .before .before .args .table .now) (c .before .before .before .before .before .args .count) (c .before .before .before .loop .i) (c .before .before .loop-test .taken) (sym (c .before .stands-at .ensures) ∙ c .if1 .left) in
+    let start = c .before .before .before .before .before in
+    let on =
+    position-on (start .args .name) (start .args .table .now) (start .args .count) (c .before .before .before .loop .i)
+    (c .before .before .loop-test .taken) (sym (c .before .stands-at .ensures) ∙ c .if1 .left)
+    in
     omega arith
 
 returns-2 : tie.Need-returns-2 Inv-loop μ-loop
 returns-2 c =
-    let over = position-end (c .before .before .before .args .name) (drop (16 * c .before .loop .i) (c .before .before .before .args .table .now)) (c .before .before .before .args .count) (c .before .loop .i) (c .loop-test .left) in
+    let start = c .before .before .before in
+    let over =
+    position-end (start .args .name) (drop (16 * c .before .loop .i) (start .args .table .now)) (start .args .count) (c .before .loop .i) (c .loop-test .left)
+    in
     omega arith
 
 pub species-spec : {M : Type 1} → statement M

@@ -31,7 +31,10 @@ array-read-if1 c = search needs
 
 returns : tie.Need-returns Inv-loop μ-loop
 returns c =
-    sym (same-off (c .before .before .before .before .args .table .now) (c .before .before .before .before .args .i) (c .before .before .before .loop .k) (c .before .before .before .before .pre) (c .before .before .loop-test .taken) (c .before .before .before .before .args .t3) (search needs) (c .if1 .taken)) ∙ sym (c .before .before .before .loop .inv .1)
+    let start = c .before .before .before .before in
+    let turn = c .before .before .before .loop in
+    sym (same-off (start .args .table .now) (start .args .i) (turn .k) (start .pre) (c .before .before .loop-test .taken) (start .args .t3) (search needs)
+    (c .if1 .taken)) ∙ sym (turn .inv .1)
 
 add-k : tie.Need-add-k Inv-loop μ-loop
 add-k c = search needs
@@ -41,11 +44,17 @@ loop-less c = search needs
 
 loop-again : tie.Need-loop-again Inv-loop μ-loop
 loop-again c =
-    (search needs, c .before .before .before .loop .inv .1 ∙ same-on (c .before .before .before .before .args .table .now) (c .before .before .before .before .args .i) (c .before .before .before .loop .k) (c .before .before .before .before .pre) (c .before .before .loop-test .taken) (c .before .before .before .before .args .t3) (search needs) (c .if1 .left))
+    let start = c .before .before .before .before in
+    let turn = c .before .before .before .loop in (
+      search needs,
+      turn .inv .1 ∙ same-on (start .args .table .now) (start .args .i) (turn .k) (start .pre) (c .before .before .loop-test .taken)
+          (start .args .t3) (search needs) (c .if1 .left),
+    )
 
 returns-2 : tie.Need-returns-2 Inv-loop μ-loop
 returns-2 c =
-    sym (same-end (c .before .before .args .table .now) (c .before .before .args .i) (c .before .loop .k) (c .before .before .pre) (c .loop-test .left) (c .before .before .args .t3) (search needs)) ∙ sym (c .before .loop .inv .1)
+    sym (same-end (c .before .before .args .table .now) (c .before .before .args .i) (c .before .loop .k) (c .before .before .pre) (c .loop-test .left)
+    (c .before .before .args .t3) (search needs)) ∙ sym (c .before .loop .inv .1)
 
 pub stands-at-spec : {M : Type 1} → statement M
 stands-at-spec =

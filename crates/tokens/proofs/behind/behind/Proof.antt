@@ -22,14 +22,17 @@ nothing-requires-2 c κs = search needs
 
 returns : tie.Need-returns
 returns c = λ w.
-    let text = c .before .before .before .before .before .before .args .text .now in
-    let at = c .before .before .before .before .before .before .args .at in
+    let start = c .before .before .before .before .before .before in
+    let blanks = c .before .before .before .before .blanks in
+    let text = start .args .text .now in
+    let at = start .args .at in
     rw (c .nothing2 .ensures, c .before .nothing .ensures, between-none text at)
-    (numbers-missing text at (c .before .before .before .before .blanks .result) (c .before .before .before .before .blanks .ensures) w (sym (c .before .before .before .next-is .ensures) ∙ not-true _ (c .before .before .if1 .taken)))
+    (numbers-missing text at (blanks .result) (blanks .ensures) w (sym (c .before .before .before .next-is .ensures) ∙ not-true _ (c .before .before .if1 .taken)))
 
 add-blanks : tie.Need-add-blanks
 add-blanks c =
-    let h = next-is-inside (c .before .before .before .before .args .text .now) (c .before .before .blanks .result) 58 (sym (c .before .next-is .ensures) ∙ not-false _ (c .if1 .left)) in
+    let start = c .before .before .before .before in
+    let h = next-is-inside (start .args .text .now) (c .before .before .blanks .result) 58 (sym (c .before .next-is .ensures) ∙ not-false _ (c .if1 .left)) in
     omega arith
 
 blanks-requires-2 : tie.Need-blanks-requires-2
@@ -40,7 +43,8 @@ next-is-requires-2 c κs = search needs
 
 add-support : tie.Need-add-support
 add-support c =
-    let h = next-is-inside (c .before .before .before .before .before .before .before .args .text .now) (c .before .before .blanks2 .result) 58 (sym (c .before .next-is2 .ensures) ∙ c .if2 .taken) in
+    let start = c .before .before .before .before .before .before .before in
+    let h = next-is-inside (start .args .text .now) (c .before .before .blanks2 .result) 58 (sym (c .before .next-is2 .ensures) ∙ c .if2 .taken) in
     omega arith
 
 nothing-requires-3 : tie.Need-nothing-requires-3
@@ -51,18 +55,29 @@ support-requires c κs = search needs
 
 returns-2 : tie.Need-returns-2
 returns-2 c = λ w.
+    let start = c .before .before .before .before .before .before .before .before .before in
+    let blanks2 = c .before .before .before .before .blanks2 in
+    let if1 = c .before .before .before .before .before .if1 in
+    let next-is = c .before .before .before .before .before .before .next-is in
+    let blanks = c .before .before .before .before .before .before .before .blanks in
     c .support .ensures w
-    ∙ support-alone (c .before .before .before .before .before .before .before .before .before .args .text .now) (c .before .before .before .before .before .before .before .before .before .args .at) (c .before .before .before .before .before .before .before .blanks .result) (c .before .before .before .before .before .before .before .blanks .ensures) (c .before .before .before .before .blanks2 .result) (c .before .before .before .before .blanks2 .ensures) w
-    (sym (c .before .before .before .before .before .before .next-is .ensures) ∙ not-false _ (c .before .before .before .before .before .if1 .left)) (c .before .nothing3 .result) (c .before .nothing3 .ensures) (sym (c .before .before .before .next-is2 .ensures) ∙ c .before .before .if2 .taken)
+    ∙ support-alone (start .args .text .now) (start .args .at) (blanks .result) (blanks .ensures) (blanks2 .result) (blanks2 .ensures) w
+    (sym (next-is .ensures) ∙ not-false _ (if1 .left)) (c .before .nothing3 .result) (c .before .nothing3 .ensures)
+    (sym (c .before .before .before .next-is2 .ensures) ∙ c .before .before .if2 .taken)
 
 distance-requires : tie.Need-distance-requires
 distance-requires c κs = search needs
 
 returns-3 : tie.Need-returns-3
 returns-3 c = λ w.
+    let start = c .before .before .before .before .before .before .before .before in
+    let blanks2 = c .before .before .before .blanks2 in
+    let if1 = c .before .before .before .before .if1 in
+    let next-is = c .before .before .before .before .before .next-is in
+    let blanks = c .before .before .before .before .before .before .blanks in
     c .distance .ensures w
-    ∙ distance-first (c .before .before .before .before .before .before .before .before .args .text .now) (c .before .before .before .before .before .before .before .before .args .at) (c .before .before .before .before .before .before .blanks .result) (c .before .before .before .before .before .before .blanks .ensures) (c .before .before .before .blanks2 .result) (c .before .before .before .blanks2 .ensures) w
-    (sym (c .before .before .before .before .before .next-is .ensures) ∙ not-false _ (c .before .before .before .before .if1 .left)) (sym (c .before .before .next-is2 .ensures) ∙ c .before .if2 .left)
+    ∙ distance-first (start .args .text .now) (start .args .at) (blanks .result) (blanks .ensures) (blanks2 .result) (blanks2 .ensures) w
+    (sym (next-is .ensures) ∙ not-false _ (if1 .left)) (sym (c .before .before .next-is2 .ensures) ∙ c .before .if2 .left)
 
 pub behind-spec : {M : Type 1} → statement M
 behind-spec =

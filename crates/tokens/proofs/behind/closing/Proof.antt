@@ -22,16 +22,21 @@ label-refusal-requires c κs = search needs
 
 returns : tie.Need-returns
 returns c =
-    name-refused (c .before .before .before .before .before .args .text .now) _ (c .before .before .before .inner-name .result) _ (c .before .before .before .inner-name .ensures) _ _ _ (c .before .enum-told .given .1) (c .label-refusal .ensures)
+    let start = c .before .before .before .before .before in
+    let inner-name = c .before .before .before .inner-name in
+    name-refused (start .args .text .now) _ (inner-name .result) _ (inner-name .ensures) _ _ _ (c .before .enum-told .given .1) (c .label-refusal .ensures)
 
 behind-requires : tie.Need-behind-requires
 behind-requires c κs = search needs
 
 returns-2 : tie.Need-returns-2
 returns-2 c =
-    let text = c .before .before .before .before .before .before .args .text .now in
-    c .behind .ensures (innerWord (drop (c .before .before .before .before .before .before .args .at) text))
-    ∙ name-read text (innerWord (drop (c .before .before .before .before .before .before .args .at) text)) (c .before .before .before .before .inner-name .result) _ (c .before .before .before .before .inner-name .ensures) (λ w s p. numbers w s p) _ (c .before .before .label .given .1)
+    let start = c .before .before .before .before .before .before in
+    let inner-name = c .before .before .before .before .inner-name in
+    let text = start .args .text .now in
+    c .behind .ensures (innerWord (drop (start .args .at) text))
+    ∙ name-read text (innerWord (drop (start .args .at) text)) (inner-name .result) _ (inner-name .ensures) (λ w s p. numbers w s p) _
+    (c .before .before .label .given .1)
 
 pub closing-spec : {M : Type 1} → statement M
 closing-spec =

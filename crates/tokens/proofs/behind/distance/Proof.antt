@@ -24,7 +24,9 @@ number-refusal-requires c κs = search needs
 
 returns : tie.Need-returns
 returns c = λ w.
-    number-refused (c .before .before .before .before .before .args .text .now) (c .before .before .before .number .result) _ (c .before .before .before .number .ensures) _ _ _ (c .before .enum-told .given .1) (c .number-refusal .ensures)
+    let start = c .before .before .before .before .before in
+    let number = c .before .before .before .number in
+    number-refused (start .args .text .now) (number .result) _ (number .ensures) _ _ _ (c .before .enum-told .given .1) (c .number-refusal .ensures)
 
 blanks-requires : tie.Need-blanks-requires
 blanks-requires c κs = search needs
@@ -34,7 +36,8 @@ next-is-requires c κs = search needs
 
 add-support : tie.Need-add-support
 add-support c =
-    let h = next-is-inside (c .before .before .before .before .before .before .before .before .args .text .now) (c .before .before .blanks .result) 58 (sym (c .before .next-is .ensures) ∙ c .if1 .taken) in
+    let start = c .before .before .before .before .before .before .before .before in
+    let h = next-is-inside (start .args .text .now) (c .before .before .blanks .result) 58 (sym (c .before .next-is .ensures) ∙ c .if1 .taken) in
     omega arith
 
 support-requires : tie.Need-support-requires
@@ -42,22 +45,30 @@ support-requires c κs = search needs
 
 returns-2 : tie.Need-returns-2
 returns-2 c = λ w.
-    let text = c .before .before .before .before .before .before .before .before .before .args .text .now in
-    let x = c .before .before .before .before .before .read .given .0 .0 in
+    let start = c .before .before .before .before .before .before .before .before .before in
+    let blanks = c .before .before .before .blanks in
+    let read = c .before .before .before .before .before .read in
+    let number = c .before .before .before .before .before .before .before .number in
+    let text = start .args .text .now in
+    let x = read .given .0 .0 in
     c .support .ensures w
-    ∙ sym (second-follows text (x .to) (c .before .before .before .blanks .result) (c .before .before .before .blanks .ensures) w (between text x) (sym (c .before .before .next-is .ensures) ∙ c .before .if1 .taken))
-    ∙ number-read text (c .before .before .before .before .before .before .before .number .result) _ (c .before .before .before .before .before .before .before .number .ensures) (λ d s p. secondNumber (nextIs 58 (skip s)) w d s p) x (c .before .before .before .before .before .read .given .1)
+    ∙ sym (second-follows text (x .to) (blanks .result) (blanks .ensures) w (between text x) (sym (c .before .before .next-is .ensures) ∙ c .before .if1 .taken))
+    ∙ number-read text (number .result) _ (number .ensures) (λ d s p. secondNumber (nextIs 58 (skip s)) w d s p) x (read .given .1)
 
 nothing-requires : tie.Need-nothing-requires
 nothing-requires c κs = search needs
 
 returns-3 : tie.Need-returns-3
 returns-3 c = λ w.
-    let text = c .before .before .before .before .before .before .before .before .before .args .text .now in
-    let x = c .before .before .before .before .before .read .given .0 .0 in
+    let start = c .before .before .before .before .before .before .before .before .before in
+    let blanks = c .before .before .before .blanks in
+    let read = c .before .before .before .before .before .read in
+    let number = c .before .before .before .before .before .before .before .number in
+    let text = start .args .text .now in
+    let x = read .given .0 .0 in
     rw (c .nothing .ensures, between-none text (x .to))
-    (sym (second-missing text (x .to) (c .before .before .before .blanks .result) (c .before .before .before .blanks .ensures) w (between text x) (sym (c .before .before .next-is .ensures) ∙ c .before .if1 .left))
-    ∙ number-read text (c .before .before .before .before .before .before .before .number .result) _ (c .before .before .before .before .before .before .before .number .ensures) (λ d s p. secondNumber (nextIs 58 (skip s)) w d s p) x (c .before .before .before .before .before .read .given .1))
+    (sym (second-missing text (x .to) (blanks .result) (blanks .ensures) w (between text x) (sym (c .before .before .next-is .ensures) ∙ c .before .if1 .left))
+    ∙ number-read text (number .result) _ (number .ensures) (λ d s p. secondNumber (nextIs 58 (skip s)) w d s p) x (read .given .1))
 
 pub distance-spec : {M : Type 1} → statement M
 distance-spec =

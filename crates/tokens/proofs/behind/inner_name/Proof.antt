@@ -16,12 +16,17 @@ scan-requires c κs = search needs
 
 returns : tie.Need-returns
 returns c =
+    let start = c .before .before .before .before .before in
+    let blanks = c .before .before .before .blanks in
     rw (c .scan .ensures)
-    (inner-named (c .before .before .before .before .before .args .text .now) (c .before .before .before .before .before .args .at) (c .before .before .before .blanks .result) (c .before .before .before .blanks .ensures) (sym (c .before .before .next-name .ensures) ∙ c .before .if1 .taken))
+    (inner-named (start .args .text .now) (start .args .at) (blanks .result) (blanks .ensures)
+    (sym (c .before .before .next-name .ensures) ∙ c .before .if1 .taken))
 
 returns-2 : tie.Need-returns-2
 returns-2 c =
-    inner-nameless (c .before .before .before .before .args .text .now) (c .before .before .before .before .args .at) (c .before .before .blanks .result) (c .before .before .blanks .ensures) (sym (c .before .next-name .ensures) ∙ c .if1 .left)
+    let start = c .before .before .before .before in
+    let blanks = c .before .before .blanks in
+    inner-nameless (start .args .text .now) (start .args .at) (blanks .result) (blanks .ensures) (sym (c .before .next-name .ensures) ∙ c .if1 .left)
 
 pub inner-name-spec : {M : Type 1} → statement M
 inner-name-spec =

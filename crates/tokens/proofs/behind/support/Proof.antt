@@ -24,14 +24,22 @@ number-refusal-requires c κs = search needs
 
 returns : tie.Need-returns
 returns c = λ w.
-    rw (number-behind (c .before .before .before .before .before .before .args .text .now) (c .before .before .before .before .before .before .args .at) (c .before .before .before .before .blanks .result) (c .before .before .before .before .blanks .ensures))
-    (number-refused (c .before .before .before .before .before .before .args .text .now) (c .before .before .before .number .result) _ (c .before .before .before .number .ensures) _ _ _ (c .before .enum-told .given .1) (c .number-refusal .ensures))
+    let start = c .before .before .before .before .before .before in
+    let number = c .before .before .before .number in
+    let blanks = c .before .before .before .before .blanks in
+    let text = start .args .text .now in
+    rw (number-behind text (start .args .at) (blanks .result) (blanks .ensures))
+    (number-refused text (number .result) _ (number .ensures) _ _ _ (c .before .enum-told .given .1) (c .number-refusal .ensures))
 
 returns-2 : tie.Need-returns-2
 returns-2 c = λ w.
-    rw (number-behind (c .before .before .before .before .before .before .args .text .now) (c .before .before .before .before .before .before .args .at) (c .before .before .before .before .blanks .result) (c .before .before .before .before .blanks .ensures))
-    (number-read (c .before .before .before .before .before .before .args .text .now) (c .before .before .before .number .result) _ (c .before .before .before .number .ensures)
-    (λ b s p. parsed (record { name = w; distance = between (c .before .before .before .before .before .before .args .text .now) (c .before .before .before .before .before .before .args .distance); support = b }) s p)
+    let start = c .before .before .before .before .before .before in
+    let number = c .before .before .before .number in
+    let blanks = c .before .before .before .before .blanks in
+    let text = start .args .text .now in
+    rw (number-behind text (start .args .at) (blanks .result) (blanks .ensures))
+    (number-read text (number .result) _ (number .ensures)
+    (λ b s p. parsed (record { name = w; distance = between text (start .args .distance); support = b }) s p)
     _
     (c .before .read .given .1))
 

@@ -30,7 +30,10 @@ returns : tie.Need-returns Inv-loop μ-loop
 unfolding blanks
 returns c =
     let at-loop = c .before .before .before .before in
-    let off = run-off isBlank (at-loop .before .before .args .text .now) (at-loop .loop .i) (c .before .before .before .loop-test .taken) (sym (c .before .is-blank .ensures) ∙ not-true _ (c .if1 .taken)) in
+    let off =
+    run-off isBlank (at-loop .before .before .args .text .now) (at-loop .loop .i) (c .before .before .before .loop-test .taken)
+    (sym (c .before .is-blank .ensures) ∙ not-true _ (c .if1 .taken))
+    in
     omega arith
 
 add-i : tie.Need-add-i Inv-loop μ-loop
@@ -42,7 +45,10 @@ loop-less c = search needs
 loop-again : tie.Need-loop-again Inv-loop μ-loop
 loop-again c =
     let at-loop = c .before .before .before .before in
-    let on = run-on isBlank (at-loop .before .before .args .text .now) (at-loop .loop .i) (c .before .before .before .loop-test .taken) (sym (c .before .is-blank .ensures) ∙ not-false _ (c .if1 .left)) in
+    let on =
+    run-on isBlank (at-loop .before .before .args .text .now) (at-loop .loop .i) (c .before .before .before .loop-test .taken)
+    (sym (c .before .is-blank .ensures) ∙ not-false _ (c .if1 .left))
+    in
     omega arith
 
 returns-2 : tie.Need-returns-2 Inv-loop μ-loop

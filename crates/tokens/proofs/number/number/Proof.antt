@@ -18,23 +18,38 @@ some c = omega arith
 
 ends : (c : tie.Else1) → c .before .before .before .args .at + c .before .digits .result ≤ length (c .before .before .before .args .text .now)
 ends c =
-    let h = digits-within (c .before .before .before .args .text .now) (c .before .before .before .args .at) (c .before .digits .result) (c .before .digits .ensures) in
+    let start = c .before .before .before in
+    let h = digits-within (start .args .text .now) (start .args .at) (c .before .digits .result) (c .before .digits .ensures) in
     let z = some c in
     omega arith
 
 -- a point stands behind them
-pointed : (c : tie.Else2) → nextIs 46 (drop (c .before .before .before .before .before .args .at + c .before .before .before .digits .result) (c .before .before .before .before .before .args .text .now)) ≡ true
+pointed :
+    (c : tie.Else2)
+    → let start = c .before .before .before .before .before in
+    nextIs 46 (drop (start .args .at + c .before .before .before .digits .result) (start .args .text .now)) ≡ true
 pointed c = sym (c .before .next-is .ensures) ∙ not-false _ (c .if2 .left)
 
-point-ends : (c : tie.Else2) → c .before .before .before .before .before .args .at + c .before .before .before .digits .result < length (c .before .before .before .before .before .args .text .now)
-point-ends c = next-is-inside (c .before .before .before .before .before .args .text .now) (c .before .before .before .before .before .args .at + c .before .before .before .digits .result) 46 (pointed c)
+point-ends :
+    (c : tie.Else2)
+    → let start = c .before .before .before .before .before in
+    start .args .at + c .before .before .before .digits .result < length (start .args .text .now)
+point-ends c =
+    let start = c .before .before .before .before .before in
+    next-is-inside (start .args .text .now) (start .args .at + c .before .before .before .digits .result) 46 (pointed c)
 
 -- and digits behind the point
-part-ends : (c : tie.After-digits2) → c .before .before .before .before .before .before .args .at + c .before .before .before .before .digits .result + 1 + c .digits2 .result ≤ length (c .before .before .before .before .before .before .args .text .now)
+part-ends :
+    (c : tie.After-digits2)
+    → let start = c .before .before .before .before .before .before in
+    let digits = c .before .before .before .before .digits in
+    start .args .at + digits .result + 1 + c .digits2 .result ≤ length (start .args .text .now)
 part-ends c =
+    let begun = c .before .before .before in
+    let start = begun .before .before .before in
     let l = point-ends (c .before) in
     let h =
-    part-within (c .before .before .before .before .before .before .args .text .now) (c .before .before .before .before .before .before .args .at) (c .before .before .before .before .digits .result) (c .before .before .before .before .digits .ensures) (some (c .before .before .before))
+    part-within (start .args .text .now) (start .args .at) (begun .before .digits .result) (begun .before .digits .ensures) (some begun)
     (pointed (c .before)) (c .digits2 .result) (c .digits2 .ensures)
     in
     omega arith
@@ -46,7 +61,9 @@ stray-requires : tie.Need-stray-requires
 stray-requires c κs = search needs
 
 returns : tie.Need-returns
-returns c = no-digits (c .before .before .before .before .args .text .now) (c .before .before .before .before .args .at) _ (c .before .before .digits .ensures) (c .stray .result) (c .stray .ensures) (c .before .if1 .taken)
+returns c =
+    let start = c .before .before .before .before in
+    no-digits (start .args .text .now) (start .args .at) _ (c .before .before .digits .ensures) (c .stray .result) (c .stray .ensures) (c .before .if1 .taken)
 
 add-point : tie.Need-add-point
 add-point c = let e = ends c in omega arith
@@ -59,8 +76,10 @@ limited-requires c κs = let e = ends (c .before .before) in omega arith
 
 returns-2 : tie.Need-returns-2
 returns-2 c =
-    c .limited .ensures (c .before .before .before .before .before .before .args .text .now)
-    ∙ whole-number _ _ _ (c .before .before .before .before .digits .ensures) (some (c .before .before .before)) (sym (c .before .before .next-is .ensures) ∙ not-true _ (c .before .if2 .taken))
+    let begun = c .before .before .before in
+    let start = begun .before .before .before in
+    c .limited .ensures (start .args .text .now)
+    ∙ whole-number _ _ _ (begun .before .digits .ensures) (some begun) (sym (c .before .before .next-is .ensures) ∙ not-true _ (c .before .if2 .taken))
 
 add-digits : tie.Need-add-digits
 add-digits c = let e = point-ends c in omega arith
@@ -76,7 +95,10 @@ stray-requires-2 c κs = search needs
 
 returns-3 : tie.Need-returns-3
 returns-3 c =
-    open-point _ _ _ (c .before .before .before .before .before .before .before .digits .ensures) (some (c .before .before .before .before .before .before)) (pointed (c .before .before .before .before)) _ (c .before .before .before .digits2 .ensures) (c .stray2 .result) (c .stray2 .ensures)
+    let point = c .before .before .before .before in
+    let begun = point .before .before in
+    open-point _ _ _ (begun .before .digits .ensures) (some begun) (pointed point) _ (c .before .before .before .digits2 .ensures) (c .stray2 .result)
+    (c .stray2 .ensures)
     (c .before .before .if3 .taken) (c .before .if4 .taken)
 
 add-limited : tie.Need-add-limited
@@ -87,8 +109,12 @@ limited-requires-2 c κs = let e = point-ends (c .before .before .before) in ome
 
 returns-4 : tie.Need-returns-4
 returns-4 c =
-    c .limited2 .ensures (c .before .before .before .before .before .before .before .before .before .args .text .now)
-    ∙ point-too-long _ _ _ (c .before .before .before .before .before .before .before .digits .ensures) (some (c .before .before .before .before .before .before)) (pointed (c .before .before .before .before)) _ (c .before .before .before .digits2 .ensures) (c .before .before .if3 .taken) (c .before .if4 .left)
+    let point = c .before .before .before .before in
+    let begun = point .before .before in
+    let start = begun .before .before .before in
+    c .limited2 .ensures (start .args .text .now)
+    ∙ point-too-long _ _ _ (begun .before .digits .ensures) (some begun) (pointed point) _ (c .before .before .before .digits2 .ensures)
+    (c .before .before .if3 .taken) (c .before .if4 .left)
 
 add-limited-2 : tie.Need-add-limited-2
 add-limited-2 c = let e = part-ends (c .before) in omega arith
@@ -101,8 +127,11 @@ limited-requires-3 c κs = let e = part-ends (c .before) in omega arith
 
 returns-5 : tie.Need-returns-5
 returns-5 c =
-    c .limited3 .ensures (c .before .before .before .before .before .before .before .before .args .text .now)
-    ∙ decimal-number _ _ _ (c .before .before .before .before .before .before .digits .ensures) (some (c .before .before .before .before .before)) (pointed (c .before .before .before)) _ (c .before .before .digits2 .ensures) (omega arith)
+    let point = c .before .before .before in
+    let begun = point .before .before in
+    let start = begun .before .before .before in
+    c .limited3 .ensures (start .args .text .now)
+    ∙ decimal-number _ _ _ (begun .before .digits .ensures) (some begun) (pointed point) _ (c .before .before .digits2 .ensures) (omega arith)
 
 pub number-spec : {M : Type 1} → statement M
 number-spec =

@@ -18,7 +18,8 @@ abbrev μ-loop : tie.MeasureT-loop
 returns : tie.Need-returns Inv-loop μ-loop
 returns c zeros =
     let s = c .before .before .before .before .before .before in
-    let zero = places-of-zeros (s .args .r .now) (s .args .m) (s .pre .0) (s .pre .1) zeros (c .before .before .before .before .loop .i) (omega arith) (omega arith) in
+    let turn = c .before .before .before .before .loop in
+    let zero = places-of-zeros (s .args .r .now) (s .args .m) (s .pre .0) (s .pre .1) zeros (turn .i) (omega arith) (omega arith) in
     omega arith
 
 loop-again : tie.Need-loop-again Inv-loop μ-loop

@@ -28,11 +28,19 @@ abbrev μ-pairs : tie.MeasureT-pairs
 loop-again : tie.Need-loop-again Inv-loop μ-loop Inv-pairs μ-pairs
 loop-again c = (search needs, below-more _ _ (c .before .before .before .before .before .loop .inv .1) (λ more. here))
   where
-    here : Nested (getD (c .before .before .before .before .before .before .before .before .before .before .before .args .r .now) (c .before .before .before .before .before .before .before .before .before .pairs .i) 0) (getD (c .before .before .before .before .before .before .before .before .before .before .before .args .r .now) (c .before .before .before .before .before .loop .j) 0)
-    here = rw (c .before .before .before .before .before .before .wide .ensures, c .before .before .wide2 .ensures) at (rw (not-false (c .before .agree .result) (c .if1 .left)) at (c .before .agree .ensures))
+    here :
+        let start = c .before .before .before .before .before .before .before .before .before .before .before in
+        let r = start .args .r .now in
+        Nested (getD r (c .before .before .before .before .before .before .before .before .before .pairs .i) 0)
+        (getD r (c .before .before .before .before .before .loop .j) 0)
+    here =
+        rw (c .before .before .before .before .before .before .wide .ensures, c .before .before .wide2 .ensures) at
+        (rw (not-false (c .before .agree .result) (c .if1 .left)) at (c .before .agree .ensures))
 
 pairs-again : tie.Need-pairs-again Inv-loop μ-loop Inv-pairs μ-pairs
-pairs-again c = (search needs, below-more _ _ (c .before .before .before .before .before .pairs .inv .1) (λ one y more last. c .before .loop .inv .1 y (omega arith) more))
+pairs-again c =
+    let pairs = c .before .before .before .before .before .pairs in
+    (search needs, below-more _ _ (pairs .inv .1) (λ one y more last. c .before .loop .inv .1 y (omega arith) more))
 
 returns : tie.Need-returns Inv-loop μ-loop Inv-pairs μ-pairs
 returns c =

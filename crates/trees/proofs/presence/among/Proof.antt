@@ -18,7 +18,8 @@ abbrev μ-loop : tie.MeasureT-loop
 returns : tie.Need-returns Inv-loop μ-loop
 returns c =
     let s = c .before .before .before .before .before .before in
-    present-of-place (s .args .r .now) (s .args .m) (s .pre .0) (s .pre .1) (s .args .a) (c .before .before .before .before .loop .i) (search needs) (search needs) (omega arith)
+    let turn = c .before .before .before .before .loop in
+    present-of-place (s .args .r .now) (s .args .m) (s .pre .0) (s .pre .1) (s .args .a) (turn .i) (search needs) (search needs) (omega arith)
 
 loop-again : tie.Need-loop-again Inv-loop μ-loop
 loop-again c = (search needs, below-more _ _ (c .before .before .before .before .loop .inv .1) (λ one e. omega arith))

@@ -26,7 +26,12 @@ returns c all =
     omega arith
 
 loop-again : tie.Need-loop-again Inv-loop μ-loop
-loop-again c = (search needs, below-more _ _ (c .before .before .before .before .before .before .loop .inv .1) (λ one. (omega arith, rw (c .before .before .before .wide .ensures) at (within-true _ _ (sym (c .before .within .ensures) ∙ c .if2 .taken)))))
+loop-again c =
+    let turn = c .before .before .before .before .before .before .loop in (
+      search needs,
+      below-more _ _ (turn .inv .1)
+          (λ one. (omega arith, rw (c .before .before .before .wide .ensures) at (within-true _ _ (sym (c .before .within .ensures) ∙ c .if2 .taken)))),
+    )
 
 returns-2 : tie.Need-returns-2 Inv-loop μ-loop
 returns-2 c all =

@@ -24,13 +24,17 @@ abbrev μ-loop : tie.MeasureT-loop
 returns : tie.Need-returns Inv-loop μ-loop
 returns c all =
     let one = c .before .before .before .before .single .ensures in
+    let turn = c .before .before .before .before .before .before .loop in
     let held = has-of-single _ _ (rw one at (within-true _ _ (sym (c .before .before .before .within .ensures) ∙ c .before .before .if1 .taken))) in
-    (rw (not-true (c .before .among .result) (c .if2 .taken)) at (c .before .among .ensures)) (rw one (all (c .before .before .before .before .before .before .loop .i) held))
+    (rw (not-true (c .before .among .result) (c .if2 .taken)) at (c .before .among .ensures)) (rw one (all (turn .i) held))
 
 loop-again : tie.Need-loop-again Inv-loop μ-loop
 loop-again c = below-more _ _ (c .before .before .before .before .loop .inv) here
   where
-    here : Has (c .before .before .before .before .before .before .args .s) (c .before .before .before .before .loop .i) → Among (single (c .before .before .before .before .loop .i)) (take (c .before .before .before .before .before .before .args .m) (drop 1 (c .before .before .before .before .before .before .args .r .now)))
+    here :
+        let start = c .before .before .before .before .before .before in
+        let turn = c .before .before .before .before .loop in
+        Has (start .args .s) (turn .i) → Among (single (turn .i)) (take (start .args .m) (drop 1 (start .args .r .now)))
     here h =
         ⊎-elim (λ w. rw (c .before .before .single .ensures) at (rw (not-false (w .1 .result) (w .2 .left)) at (w .1 .ensures)))
         (λ w. absurd (within-false _ _ (sym (c .before .within .ensures) ∙ w .left) (rw (c .before .before .single .ensures) (single-within _ _ h))))

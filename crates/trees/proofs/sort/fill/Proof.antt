@@ -22,8 +22,11 @@ cast-put c = record { fits = c .before .before .before .before .before .before .
 loop-again : tie.Need-loop-again Inv-loop μ-loop
 loop-again c =
     let s = c .before .before .before .before .before .before .before .before .before in
-    filling-next (s .args .numbers .now) (s .args .clusters .now) (s .args .count) (search needs) (omega arith) (c .before .before .before .before .before .before .loop .held) (c .before .before .before .before .before .before .loop .inv)
-    (c .before .before .before .before .before .loop-test .taken) (c .before .before .put .kept .0) (c .before .before .put .ensures)
+    let put = c .before .before .put in
+    let loop-test = c .before .before .before .before .before .loop-test in
+    let turn = c .before .before .before .before .before .before .loop in
+    filling-next (s .args .numbers .now) (s .args .clusters .now) (s .args .count) (search needs) (omega arith) (turn .held) (turn .inv)
+    (loop-test .taken) (put .kept .0) (put .ensures)
 
 returns : tie.Need-returns Inv-loop μ-loop
 returns c =

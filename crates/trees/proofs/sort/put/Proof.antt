@@ -14,8 +14,11 @@ abbrev μ-loop : tie.MeasureT-loop
 
 loop-again : tie.Need-loop-again Inv-loop μ-loop
 loop-again c =
-    ⊎-elim (λ w. inserting-moves (c .before .before .before .before .pre) (c .before .before .before .loop .inv) (c .before .before .loop-test .taken) (w .0 .taken) (w .1) (w .2))
-    (λ w. inserting-stays (c .before .before .before .before .pre) (c .before .before .before .loop .inv) (c .before .before .loop-test .taken) (w .0 .left) (w .1) (w .2)) (c .if1 .came)
+    let start = c .before .before .before .before in
+    let loop-test = c .before .before .loop-test in
+    let turn = c .before .before .before .loop in
+    ⊎-elim (λ w. inserting-moves (start .pre) (turn .inv) (loop-test .taken) (w .0 .taken) (w .1) (w .2))
+    (λ w. inserting-stays (start .pre) (turn .inv) (loop-test .taken) (w .0 .left) (w .1) (w .2)) (c .if1 .came)
 
 returns : tie.Need-returns Inv-loop μ-loop
 returns c = inserting-ends (c .before .before .pre) (c .before .loop .inv) (c .loop-test .left)

@@ -16,10 +16,19 @@ abbrev μ-loop : tie.MeasureT-loop
 μ-loop cluster left species numbers m largest₀ i₀ largest i = m + 1 - i
 
 single-requires : tie.Need-single-requires Inv-loop μ-loop
-single-requires c κs = let s = c .before in let l = lowest-thirty-two (s .pre .0) (s .args .left) (s .pre .1 .1 .0) (s .pre .1 .1 .1) (s .pre .1 .0) in omega (arith, c .lowest .ensures)
+single-requires c κs =
+    let s = c .before in
+    let l = lowest-thirty-two (s .pre .0) (s .args .left) (s .pre .1 .1 .0) (s .pre .1 .1 .1) (s .pre .1 .0) in
+    omega (arith, c .lowest .ensures)
 
 loop-holds : tie.Need-loop-holds Inv-loop μ-loop
-loop-holds c = let s = c .before .before .before in (omega arith, omega arith, rw (c .before .single .ensures, c .before .before .lowest .ensures) (single-largest (s .pre .0) (s .args .left) (s .pre .1 .1 .0) (s .pre .1 .1 .1) (s .pre .1 .0)))
+loop-holds c =
+    let s = c .before .before .before in (
+      omega arith,
+      omega arith,
+      rw (c .before .single .ensures, c .before .before .lowest .ensures)
+          (single-largest (s .pre .0) (s .args .left) (s .pre .1 .1 .0) (s .pre .1 .1 .1) (s .pre .1 .0)),
+    )
 
 mul-c : tie.Need-mul-c Inv-loop μ-loop
 mul-c c = let f = c .before .before .before .before .before .pre .0 .valid .form .counted in search needs

@@ -9,7 +9,11 @@ returns : tie.Need-returns
 returns c = not-itself (c .before .args .c) (c .before .args .cluster) (c .before .args .species) (c .if1 .taken)
 
 returns-2 : tie.Need-returns-2
-returns-2 c = let s = c .before .before .before .before .args in c .within2 .ensures ∙ sym (held-inside (s .c) (s .cluster) (s .species) (c .before .before .before .if1 .left) (sym (c .before .before .within .ensures) ∙ c .before .if2 .taken))
+returns-2 c =
+    let s = c .before .before .before .before .args in
+    c .within2 .ensures
+    ∙ sym (held-inside (s .c) (s .cluster) (s .species) (c .before .before .before .if1 .left)
+    (sym (c .before .before .within .ensures) ∙ c .before .if2 .taken))
 
 returns-3 : tie.Need-returns-3
 returns-3 c = let s = c .before .before .before .args in not-outside (s .c) (s .cluster) (s .species) (sym (c .before .within .ensures) ∙ c .if2 .left)

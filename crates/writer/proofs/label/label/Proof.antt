@@ -18,11 +18,14 @@ abbrev μ-loop : tie.MeasureT-loop
 μ-loop out₀ at table i n start k₀ out k = n - k
 
 loop-holds : tie.Need-loop-holds Inv-loop μ-loop
-loop-holds c = (omega arith, c .name-len .ensures ∙ sym (name-length (c .before .before .before .args .table .now) (c .before .before .before .args .i) (omega arith)), refl, refl)
+loop-holds c =
+    let start = c .before .before .before in
+    (omega arith, c .name-len .ensures ∙ sym (name-length (start .args .table .now) (start .args .i) (omega arith)), refl, refl)
 
 shared-slice-read-out : tie.Need-shared-slice-read-out Inv-loop μ-loop
 shared-slice-read-out c =
-    let s = name-short (c .before .before .before .before .before .before .args .table .now) (c .before .before .before .before .before .before .args .i) (omega arith) in
+    let start = c .before .before .before .before .before .before in
+    let s = name-short (start .args .table .now) (start .args .i) (omega arith) in
     omega arith
 
 slice-write-out : tie.Need-slice-write-out Inv-loop μ-loop

@@ -43,8 +43,11 @@ loop-again c =
 
 returns : tie.Need-returns Inv-loop μ-loop
 returns c =
-    let e : c .before .loop .i ≡ c .before .before .before .args .n = omega arith in
-    let l : labels (namesIn (c .before .loop .i) (c .before .before .before .args .table .now)) ≡ labels (namesIn (c .before .before .before .args .n) (c .before .before .before .args .table .now)) = ap (λ (k : ℕ). labels (namesIn k (c .before .before .before .args .table .now))) e in
+    let start = c .before .before .before in
+    let n = start .args .n in
+    let table = start .args .table .now in
+    let e : c .before .loop .i ≡ n = omega arith in
+    let l : labels (namesIn (c .before .loop .i) table) ≡ labels (namesIn n table) = ap (λ (k : ℕ). labels (namesIn k table)) e in
     omega arith
 
 pub text-length-spec : {M : Type 1} → statement M

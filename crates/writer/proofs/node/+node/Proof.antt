@@ -62,12 +62,14 @@ pub +node-spec : {M : Type 1} → statement M
     let e = leaf-text h (s .args .table .now) (sym (c .before .before .before .size .ensures) ∙ c .before .before .if1 .taken) in
     let l = c .lowest .ensures in
     let b = lowest-sixteen h in
-    let f : length (nameIn (s .args .table .now) (c .lowest .result)) ≡ length (clusterText (s .args .table .now) (s .args .tree .numbers) (s .args .cluster)) = rw (l, e) in
+    let table = s .args .table .now in
+    let f : length (nameIn table (c .lowest .result)) ≡ length (clusterText table (s .args .tree .numbers) (s .args .cluster)) = rw (l, e) in
     (omega arith, omega arith))
     (λ c. ap length (c .before .before .label .ensures .stored) ∙ simp length-sets)
     (λ c.
-    let s = c .before .before .before .before .before .before .before .before .before in
-    let e = leaf-text (s .pre .1 .0) (s .args .table .now) (sym (c .before .before .before .before .before .before .size .ensures) ∙ c .before .before .before .before .before .if1 .taken) in
+    let one = c .before .before .before .before .before in
+    let s = one .before .before .before .before in
+    let e = leaf-text (s .pre .1 .0) (s .args .table .now) (sym (one .before .size .ensures) ∙ one .if1 .taken) in
     rw (e, ← c .before .before .before .lowest .ensures) (c .before .before .label .ensures))
     (λ c.
     let s = c .before .before .before .before in
@@ -80,33 +82,48 @@ pub +node-spec : {M : Type 1} → statement M
     omega arith)
     (λ c κs.
     let s = c .before .before .before .before .before .before in
-    let h = s .pre .1 .0 in
-    (h, (two-species h (λ e. c .before .before .if1 .left (c .before .before .before .size .ensures ∙ e)), (omega arith, begun-within h (s .args .table .now) (s .args .out .now) (s .args .at) (c .before .loop .inv)))))
+    let h = s .pre .1 .0 in (
+      h,
+      (
+        two-species h (λ e. c .before .before .if1 .left (c .before .before .before .size .ensures ∙ e)),
+        (omega arith, begun-within h (s .args .table .now) (s .args .out .now) (s .args .at) (c .before .loop .inv)),
+      ),
+    ))
     (λ c.
-    let s = c .before .before .before .before .before .before .before .before in
-    let o = begun-next (s .pre .1 .0) (s .args .table .now) (s .args .out .now) (s .args .at) (c .before .before .before .loop .inv) (omega arith) (c .before .child .ensures) in
+    let found = c .before in
+    let turn = found .before .before in
+    let s = turn .before .before .before .before .before in
+    let o = begun-next (s .pre .1 .0) (s .args .table .now) (s .args .out .now) (s .args .at) (turn .loop .inv) (omega arith) (found .child .ensures) in
     let r = o .room in
     search needs)
     (λ c κs.
-    let s = c .before .before .before .before .before .before .before .before in
-    let o = begun-next (s .pre .1 .0) (s .args .table .now) (s .args .out .now) (s .args .at) (c .before .before .before .loop .inv) (omega arith) (c .before .child .ensures) in
-    let l = c .before .before .before .loop .inv .long in
+    let found = c .before in
+    let turn = found .before .before in
+    let s = turn .before .before .before .before .before in
+    let o = begun-next (s .pre .1 .0) (s .args .table .now) (s .args .out .now) (s .args .at) (turn .loop .inv) (omega arith) (found .child .ensures) in
+    let l = turn .loop .inv .long in
     let f = o .smaller in
     let r = o .room in
     (omega arith, (o .listed, (s .pre .1 .1 .0, simp length-set (omega arith)))))
     (λ c.
-    let s = c .before .before .before .before .before .before .before .before .before .before .before in
-    let o = begun-next (s .pre .1 .0) (s .args .table .now) (s .args .out .now) (s .args .at) (c .before .before .before .before .before .before .loop .inv) (omega arith) (c .before .before .before .before .child .ensures) in
+    let found = c .before .before .before .before in
+    let turn = found .before .before in
+    let s = turn .before .before .before .before .before in
+    let o = begun-next (s .pre .1 .0) (s .args .table .now) (s .args .out .now) (s .args .at) (turn .loop .inv) (omega arith) (found .child .ensures) in
     o .most)
     (λ c.
-    let s = c .before .before .before .before .before .before .before .before .before .before .before in
-    let o = begun-next (s .pre .1 .0) (s .args .table .now) (s .args .out .now) (s .args .at) (c .before .before .before .before .before .before .loop .inv) (omega arith) (c .before .before .before .before .child .ensures) in
+    let found = c .before .before .before .before in
+    let turn = found .before .before in
+    let s = turn .before .before .before .before .before in
+    let o = begun-next (s .pre .1 .0) (s .args .table .now) (s .args .out .now) (s .args .at) (turn .loop .inv) (omega arith) (found .child .ensures) in
     let p = o .some in
     let q = o .most in
     omega arith)
     (λ c.
-    let s = c .before .before .before .before .before .before .before .before .before .before .before in
-    let o = begun-next (s .pre .1 .0) (s .args .table .now) (s .args .out .now) (s .args .at) (c .before .before .before .before .before .before .loop .inv) (omega arith) (c .before .before .before .before .child .ensures) in
+    let found = c .before .before .before .before in
+    let turn = found .before .before in
+    let s = turn .before .before .before .before .before in
+    let o = begun-next (s .pre .1 .0) (s .args .table .now) (s .args .out .now) (s .args .at) (turn .loop .inv) (omega arith) (found .child .ensures) in
     o .then (c .before .before .node .result) (c .before .before .node .last .0) (c .before .before .node .ensures))
     (λ c.
     let s = c .before .before .before .before .before .before in
