@@ -1,6 +1,6 @@
 -- The refusals of the calls on gene records, as tests in 01's order: "1, 11, 12, 16, 15, 13, 14, each where it applies".
 use Prim.Native.Nat.{ℕ, zero, suc, _*_, _^_}
-use mathlib.Core.Bool.{Bool, true, false, not, _&&_, _||_}
+use mathlib.Core.Bool.{Bool, true, false, not, _&&_}
 use mathlib.Core.List.{List, [], _∷_}
 use lib.ListN.{length}
 use lib.Dec.{leb, ltb}

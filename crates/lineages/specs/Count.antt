@@ -1,7 +1,6 @@
 -- The count (01, "The count"): extra lineages of a cluster, its weight, and the score of a species tree.
-use Prim.Native.Nat.{ℕ, _+_, _-_}
-use mathlib.Core.Bool.{Bool}
-use mathlib.Core.List.{List, [], _∷_, map}
+use Prim.Native.Nat.{ℕ, _-_}
+use mathlib.Core.List.{List, map}
 use lib.ListN.{length}
 use Rattle.clusters.specs.Sets.{within}
 use Rattle.trees.specs.Lists.{keep, pieces, total}

@@ -8,7 +8,7 @@ use Rattle.trees.specs.Valid.{among}
 use Rattle.roster.specs.Roster.{upTo}
 use Rattle.roster.specs.declared.Reply.{Reply}
 use Rattle.lineages.specs.Count.{shownBy, weight, score, recordsIn}
-use Rattle.roster.specs.Verdict.{Verdict, verdict, replyOf}
+use Rattle.roster.specs.Verdict.{verdict, replyOf}
 use Rattle.lineages.specs.Checks.{weightTests, scoreTests, markTests}
 
 -- the promise of `weight`

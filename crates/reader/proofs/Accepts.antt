@@ -1,5 +1,5 @@
 -- What `read` accepts: exactly the texts that draw, by 01's grammar and within its limits, a tree with each species of a good roster once.
-use Prim.Native.Nat.{ℕ, _+_, _-_, _≤_, _<_}
+use Prim.Native.Nat.{ℕ, _+_, _-_, _≤_}
 use mathlib.Core.Path.{_≡_, refl, sym, ap, _∙_}
 use mathlib.Core.Bool.{Bool, true, false}
 use mathlib.Core.List.{List}
@@ -16,8 +16,6 @@ use Rattle.trees.proofs.Nodes.{has-leaf}
 use Rattle.roster.specs.Roster.{names, faulty}
 use Rattle.roster.specs.Judged.{speciesMost}
 use Rattle.tokens.specs.Answers.Answer.{parsed}
-use Rattle.reader.specs.Reading.{openMost}
-use Rattle.reader.specs.Grammar.{strict, Text}
 use Rattle.reader.specs.Accepted.{Draws, JustBehind, Accepted}
 use Rattle.reader.specs.Promise.{textMost, fromStart, inLimit, onRoster, answerTo}
 use Rattle.reader.proofs.Answers.{refused-parsed}

@@ -19,14 +19,13 @@ use Rattle.tokens.specs.Answers.Answer.{parsed, refused}
 use Rattle.tokens.specs.Tokens.{numberBytes, nextIs, nextName, blanks, skip, number, numberBehind, secondNumber, numbersBy, numbers, name, innerName}
 use Rattle.reader.specs.Reading.{openMost, leafNew, leafKnown, leafAt, closing, afterFirst, opened, afterChild, readNode, readForest, complete, ended, readTreeTo, readTree}
 use Rattle.reader.specs.Grammar.{lifted, Blanks, Run, Number, ColonNumber, Numbers, Inner, Node, Text}
-use Rattle.reader.specs.Grammar.Run.{one, next}
 use Rattle.reader.specs.Grammar.Number.{whole, decimal}
 use Rattle.reader.specs.Grammar.ColonNumber.{colon}
 use Rattle.reader.specs.Grammar.Numbers.{nothing, distance, both, support}
 use Rattle.reader.specs.Grammar.Inner.{nameless, named}
 use Rattle.reader.specs.Grammar.Text.{text}
 use Rattle.reader.proofs.Derivations.{Steps, over-node}
-use Rattle.reader.proofs.Exact.{no-name-run, no-digit-run, number-first, colon-stopped, numbers-stopped, Stopped, Follows, comma-follows, closing-follows, semicolon-follows, colon-stops, digit-name, stopped-name, stopped-point, stopped-skip-name, follows-no-colon, run-some, run-splits, run-exact, run-first, name-no-blank, name-no-byte, next-is, next-not, blanks-skip, skip-to, skip-is, solid-run, number-gives, name-gives}
+use Rattle.reader.proofs.Exact.{no-name-run, no-digit-run, number-first, colon-stopped, numbers-stopped, Stopped, Follows, comma-follows, closing-follows, semicolon-follows, stopped-name, stopped-point, stopped-skip-name, follows-no-colon, run-some, run-splits, run-exact, run-first, name-no-blank, name-no-byte, next-is, next-not, blanks-skip, skip-to, skip-is, solid-run, number-gives, name-gives}
 use Rattle.reader.proofs.Answers.{parsed-refused}
 use Rattle.reader.proofs.Rests.{tail-drop}
 use Rattle.reader.proofs.Fronts.{blanks-front, node-front}

@@ -11,7 +11,7 @@ use Rattle.clusters.specs.Sets.{single, union, apart, within}
 use Rattle.trees.specs.Tree.{Tree, Forest, Behind, cluster}
 use Rattle.trees.specs.Tree.Tree.{leaf, node}
 use Rattle.trees.specs.Tree.Forest.{more}
-use Rattle.roster.specs.Bytes.{isDigit, isName, isBlank, oneMore, run}
+use Rattle.roster.specs.Bytes.{isDigit, isName, isBlank, run}
 use Rattle.roster.specs.Labels.{labelBytes}
 use Rattle.roster.specs.Roster.{position}
 use Rattle.tokens.specs.Answers.{Answer, andThen, unexpected}

@@ -4,7 +4,7 @@ use mathlib.Core.Path.{_≡_}
 use mathlib.Core.Bool.{Bool, true}
 use mathlib.Core.List.{List, [], _∷_, _++_}
 use lib.ListN.{length}
-use Rattle.trees.specs.Tree.{Tree, Forest, Behind}
+use Rattle.trees.specs.Tree.{Tree, Forest}
 use Rattle.trees.specs.Tree.Tree.{leaf, node}
 use Rattle.trees.specs.Tree.Forest.{last, more}
 use Rattle.roster.specs.Bytes.{isDigit, isName, isBlank}

@@ -1,8 +1,8 @@
 -- Reading a tree from the left (01, "Tree text"): the tree that is drawn, or the number and place of the first fault met.
 use Prim.Native.Nat.{ℕ, zero, suc, _+_, _*_}
 use mathlib.Core.Bool.{Bool, true, false}
-use mathlib.Core.List.{List, [], _∷_, tail}
-use lib.ListN.{length, drop}
+use mathlib.Core.List.{List, [], tail}
+use lib.ListN.{length}
 use lib.Dec.{ltb}
 use Rattle.clusters.specs.Sets.{single, union, apart, within}
 use Rattle.trees.specs.Tree.{Tree, Forest, cluster}

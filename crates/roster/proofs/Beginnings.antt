@@ -5,7 +5,7 @@ use native.Mathlib.Omega.{arith}
 use mathlib.Core.Path.{_≡_, refl, ap, _∙_}
 use mathlib.Core.Bool.{Bool, true, false}
 use mathlib.Core.List.{List, [], _∷_, _++_, map, append-nil, map-append}
-use lib.ListN.{length, getD, drop, length-map, length-take}
+use lib.ListN.{length, drop, length-map, length-take}
 use lib.Seq.{getD-take}
 use Rattle.trees.specs.Lists.{keep, keepIf}
 use Rattle.roster.specs.Bytes.{isName, run}

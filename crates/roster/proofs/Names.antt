@@ -6,7 +6,7 @@ use native.Mathlib.Omega.{arith}
 use mathlib.Core.Path.{_≡_, refl, sym, ap, _∙_}
 use mathlib.Core.Bool.{Bool, true, false, not}
 use mathlib.Core.List.{List, []}
-use lib.ListN.{length, getD, take, length-append, length-take, List·getD-eq-default}
+use lib.ListN.{length, getD, length-append, length-take, List·getD-eq-default}
 use borrow.Author.Tests.{not-true}
 use Rattle.roster.specs.Bytes.{isName, run}
 use Rattle.roster.specs.Labels.{word, padded}

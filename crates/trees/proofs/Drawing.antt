@@ -9,10 +9,10 @@ use native.Mathlib.Omega.{arith}
 use lib.ListN.{length}
 use lib.Dec.{eqb}
 use borrow.Author.Tests.{eqb-true, eqb-false, eq-eqb, ne-eqb}
-use Rattle.clusters.specs.Sets.{Within, Apart, single, union, size, lowest}
-use Rattle.clusters.proofs.Members.{has-of-apart, single-has, has-below}
+use Rattle.clusters.specs.Sets.{Within, Apart, union, size, lowest}
+use Rattle.clusters.proofs.Members.{has-of-apart}
 use Rattle.clusters.proofs.Sets.{within-single, union-zero}
-use Rattle.clusters.proofs.Sizes.{size-one, size-some, size-within-lt}
+use Rattle.clusters.proofs.Sizes.{size-some, size-within-lt}
 use Rattle.clusters.proofs.LowestSpecies.{single-lowest}
 use Rattle.trees.specs.Lists.{Among, NoneTwice}
 use Rattle.trees.specs.Records.{listed, recordOf, ValidOn}

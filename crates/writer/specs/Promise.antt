@@ -1,14 +1,14 @@
 -- What `write` promises (01, "Numbers returned").
 use Prim.Native.Nat.{ℕ, zero, suc}
 use mathlib.Core.Path.{_≡_}
-use mathlib.Core.Bool.{Bool, not}
+use mathlib.Core.Bool.{not}
 use mathlib.Core.List.{List, [], _∷_, _++_}
 use lib.ListN.{length, drop}
 use Rattle.clusters.specs.Sets.{whole}
 use Rattle.trees.specs.Valid.{valid}
 use Rattle.roster.specs.Roster.{names, faulty, firstFault}
 use Rattle.roster.specs.Judged.{speciesMost}
-use Rattle.roster.specs.Verdict.{Test, Verdict, verdict, lengthTest, replyOf}
+use Rattle.roster.specs.Verdict.{Test, verdict, lengthTest, replyOf}
 use Rattle.roster.specs.declared.Reply.{Reply}
 use Rattle.writer.specs.Writing.{written}
 

@@ -1,6 +1,6 @@
 -- The digits end inside the slice; what is left of it falls.
 use borrow.Author.Needs.{needs}
-use Prim.Native.Nat.{_≤_, _<_, _-_}
+use Prim.Native.Nat.{_≤_, _-_}
 use lib.ListN.{length}
 use Rattle.cases.proofs.fields.decimal.Statement.{statement}
 use Rattle.cases.proofs.fields.decimal.Tie as tie

@@ -1,6 +1,6 @@
 -- Repeating stores below the end, which is at most the length; the stores keep the length.
 use borrow.Author.Needs.{needs}
-use Prim.Native.Nat.{_≤_, _<_, _-_}
+use Prim.Native.Nat.{_≤_, _-_}
 use mathlib.Core.Path.{_≡_}
 use lib.ListN.{length}
 use Rattle.cases.proofs.packed.again.Statement.{statement}

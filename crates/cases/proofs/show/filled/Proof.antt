@@ -1,6 +1,6 @@
 -- The count falls from the length.
 use borrow.Author.Needs.{needs}
-use Prim.Native.Nat.{_≤_, _<_, _-_}
+use Prim.Native.Nat.{_≤_}
 use lib.ListN.{length}
 use Rattle.cases.proofs.show.filled.Statement.{statement}
 use Rattle.cases.proofs.show.filled.Tie as tie
