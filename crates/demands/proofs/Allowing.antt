@@ -82,7 +82,9 @@ modeWord false = genesWord
 
 every-byte : (n a : ℕ) → a < 2 ^ n → allowedIn n (replicate (2 ^ n) 1) a ≡ true
 unfolding allowedIn
-every-byte n a below = or-right (eqb (size a) 1 || eqb a (whole n)) (eqb (getD (replicate (2 ^ n) 1) a 0) 1) (eq-eqb (getD (replicate (2 ^ n) 1) a 0) 1 (getD-replicate (2 ^ n) a 1 0 below))
+every-byte n a below =
+    or-right (eqb (size a) 1 || eqb a (whole n)) (eqb (getD (replicate (2 ^ n) 1) a 0) 1)
+    (eq-eqb (getD (replicate (2 ^ n) 1) a 0) 1 (getD-replicate (2 ^ n) a 1 0 below))
 
 module _ {n : ℕ} {genes : List (List ℕ)} {trees : List Tree} (r : RecordsOf n genes trees) (a : ℕ) (below : a < 2 ^ n) where
   pub byte-allows : (all : Bool) → allowedIn n (allowedBy all n genes) a ≡ true → Allows n trees (modeWord all) a

@@ -1,4 +1,5 @@
 -- The rows of 01's table that are marked P, under one claim.
+use Prim.Native.Nat.{ℕ}
 use mathlib.Core.Path.{_≡_, refl}
 use mathlib.Core.Bool.{true}
 use mathlib.Core.List.{List, [], _∷_}
@@ -30,33 +31,60 @@ use Rattle.writer.specs.Writing.{treeText, written, nodeText}
 -- 01's rows marked P, in its order
 pub examples : List Row
 examples =
+    -- the rosters, and the texts of the trees
+    -- `a b c`
+    let abc : List ℕ = 97 ∷ 32 ∷ 98 ∷ 32 ∷ 99 ∷ [] in
+    -- `a b c d`
+    let abcd : List ℕ = 97 ∷ 32 ∷ 98 ∷ 32 ∷ 99 ∷ 32 ∷ 100 ∷ [] in
+    -- `((a,b),c);`
+    let ab-c : List ℕ = 40 ∷ 40 ∷ 97 ∷ 44 ∷ 98 ∷ 41 ∷ 44 ∷ 99 ∷ 41 ∷ 59 ∷ [] in
+    -- `((a,c),b);`
+    let ac-b : List ℕ = 40 ∷ 40 ∷ 97 ∷ 44 ∷ 99 ∷ 41 ∷ 44 ∷ 98 ∷ 41 ∷ 59 ∷ [] in
+    -- `((b,c),a);`
+    let bc-a : List ℕ = 40 ∷ 40 ∷ 98 ∷ 44 ∷ 99 ∷ 41 ∷ 44 ∷ 97 ∷ 41 ∷ 59 ∷ [] in
+    -- `(a,(b,c));`
+    let a-bc : List ℕ = 40 ∷ 97 ∷ 44 ∷ 40 ∷ 98 ∷ 44 ∷ 99 ∷ 41 ∷ 41 ∷ 59 ∷ [] in
+    -- `((a,b),(c,d));`
+    let ab-cd : List ℕ = 40 ∷ 40 ∷ 97 ∷ 44 ∷ 98 ∷ 41 ∷ 44 ∷ 40 ∷ 99 ∷ 44 ∷ 100 ∷ 41 ∷ 41 ∷ 59 ∷ [] in
+    -- `((a,c),(b,d));`
+    let ac-bd : List ℕ = 40 ∷ 40 ∷ 97 ∷ 44 ∷ 99 ∷ 41 ∷ 44 ∷ 40 ∷ 98 ∷ 44 ∷ 100 ∷ 41 ∷ 41 ∷ 59 ∷ [] in
+    -- `(((a,b),c),d);`
+    let ab-c-d : List ℕ = 40 ∷ 40 ∷ 40 ∷ 97 ∷ 44 ∷ 98 ∷ 41 ∷ 44 ∷ 99 ∷ 41 ∷ 44 ∷ 100 ∷ 41 ∷ 59 ∷ [] in
+    -- `(a,b,c,d);`
+    let star : List ℕ = 40 ∷ 97 ∷ 44 ∷ 98 ∷ 44 ∷ 99 ∷ 44 ∷ 100 ∷ 41 ∷ 59 ∷ [] in
+    -- `((a,b),c,d);`
+    let ab-star : List ℕ = 40 ∷ 40 ∷ 97 ∷ 44 ∷ 98 ∷ 41 ∷ 44 ∷ 99 ∷ 44 ∷ 100 ∷ 41 ∷ 59 ∷ [] in
     -- `((a,b),c);` | record 5, 1, 2, 3, 4, 7
-    recorded (97 ∷ 32 ∷ 98 ∷ 32 ∷ 99 ∷ []) (40 ∷ 40 ∷ 97 ∷ 44 ∷ 98 ∷ 41 ∷ 44 ∷ 99 ∷ 41 ∷ 59 ∷ []) (1 ∷ 2 ∷ 3 ∷ 4 ∷ 7 ∷ [])
+    recorded abc ab-c (1 ∷ 2 ∷ 3 ∷ 4 ∷ 7 ∷ [])
     -- that tree, cluster 5 | k = 2
-    ∷ counted (97 ∷ 32 ∷ 98 ∷ 32 ∷ 99 ∷ []) (40 ∷ 40 ∷ 97 ∷ 44 ∷ 98 ∷ 41 ∷ 44 ∷ 99 ∷ 41 ∷ 59 ∷ []) 5 2
+    ∷ counted abc ab-c 5 2
     -- that tree, cluster 7 | k = 1
-    ∷ counted (97 ∷ 32 ∷ 98 ∷ 32 ∷ 99 ∷ []) (40 ∷ 40 ∷ 97 ∷ 44 ∷ 98 ∷ 41 ∷ 44 ∷ 99 ∷ 41 ∷ 59 ∷ []) 7 1
+    ∷ counted abc ab-c 7 1
     -- `((a,b),(c,d));` scored on `(((a,b),c),d);` | 1
-    ∷ scored (97 ∷ 32 ∷ 98 ∷ 32 ∷ 99 ∷ 32 ∷ 100 ∷ []) (40 ∷ 40 ∷ 97 ∷ 44 ∷ 98 ∷ 41 ∷ 44 ∷ 40 ∷ 99 ∷ 44 ∷ 100 ∷ 41 ∷ 41 ∷ 59 ∷ []) (40 ∷ 40 ∷ 40 ∷ 97 ∷ 44 ∷ 98 ∷ 41 ∷ 44 ∷ 99 ∷ 41 ∷ 44 ∷ 100 ∷ 41 ∷ 59 ∷ []) 1
+    ∷ scored abcd ab-cd ab-c-d 1
     -- the same on `((a,c),(b,d));` | 2
-    ∷ scored (97 ∷ 32 ∷ 98 ∷ 32 ∷ 99 ∷ 32 ∷ 100 ∷ []) (40 ∷ 40 ∷ 97 ∷ 44 ∷ 98 ∷ 41 ∷ 44 ∷ 40 ∷ 99 ∷ 44 ∷ 100 ∷ 41 ∷ 41 ∷ 59 ∷ []) (40 ∷ 40 ∷ 97 ∷ 44 ∷ 99 ∷ 41 ∷ 44 ∷ 40 ∷ 98 ∷ 44 ∷ 100 ∷ 41 ∷ 41 ∷ 59 ∷ []) 2
+    ∷ scored abcd ab-cd ac-bd 2
     -- `(a,b,c,d);` on `((a,b),(c,d));` | 2
-    ∷ scored (97 ∷ 32 ∷ 98 ∷ 32 ∷ 99 ∷ 32 ∷ 100 ∷ []) (40 ∷ 97 ∷ 44 ∷ 98 ∷ 44 ∷ 99 ∷ 44 ∷ 100 ∷ 41 ∷ 59 ∷ []) (40 ∷ 40 ∷ 97 ∷ 44 ∷ 98 ∷ 41 ∷ 44 ∷ 40 ∷ 99 ∷ 44 ∷ 100 ∷ 41 ∷ 41 ∷ 59 ∷ []) 2
+    ∷ scored abcd star ab-cd 2
     -- `(a,b,c,d);` on `(((a,b),c),d);` | 3
-    ∷ scored (97 ∷ 32 ∷ 98 ∷ 32 ∷ 99 ∷ 32 ∷ 100 ∷ []) (40 ∷ 97 ∷ 44 ∷ 98 ∷ 44 ∷ 99 ∷ 44 ∷ 100 ∷ 41 ∷ 59 ∷ []) (40 ∷ 40 ∷ 40 ∷ 97 ∷ 44 ∷ 98 ∷ 41 ∷ 44 ∷ 99 ∷ 41 ∷ 44 ∷ 100 ∷ 41 ∷ 59 ∷ []) 3
+    ∷ scored abcd star ab-c-d 3
     -- `((a,b),c);` `((a,b),c);` `((a,c),b);`, all | 1, `((a,b),c);`
-    ∷ searched (97 ∷ 32 ∷ 98 ∷ 32 ∷ 99 ∷ []) ((40 ∷ 40 ∷ 97 ∷ 44 ∷ 98 ∷ 41 ∷ 44 ∷ 99 ∷ 41 ∷ 59 ∷ []) ∷ (40 ∷ 40 ∷ 97 ∷ 44 ∷ 98 ∷ 41 ∷ 44 ∷ 99 ∷ 41 ∷ 59 ∷ []) ∷ (40 ∷ 40 ∷ 97 ∷ 44 ∷ 99 ∷ 41 ∷ 44 ∷ 98 ∷ 41 ∷ 59 ∷ []) ∷ []) every 0 1 (40 ∷ 40 ∷ 97 ∷ 44 ∷ 98 ∷ 41 ∷ 44 ∷ 99 ∷ 41 ∷ 59 ∷ [])
+    ∷ searched abc (ab-c ∷ ab-c ∷ ac-b ∷ []) every 0 1 ab-c
     -- one of each three-species binary tree, all | 2, `(a,(b,c));`
-    ∷ searched (97 ∷ 32 ∷ 98 ∷ 32 ∷ 99 ∷ []) ((40 ∷ 40 ∷ 97 ∷ 44 ∷ 98 ∷ 41 ∷ 44 ∷ 99 ∷ 41 ∷ 59 ∷ []) ∷ (40 ∷ 40 ∷ 97 ∷ 44 ∷ 99 ∷ 41 ∷ 44 ∷ 98 ∷ 41 ∷ 59 ∷ []) ∷ (40 ∷ 40 ∷ 98 ∷ 44 ∷ 99 ∷ 41 ∷ 44 ∷ 97 ∷ 41 ∷ 59 ∷ []) ∷ []) every 0 2 (40 ∷ 97 ∷ 44 ∷ 40 ∷ 98 ∷ 44 ∷ 99 ∷ 41 ∷ 41 ∷ 59 ∷ [])
+    ∷ searched abc (ab-c ∷ ac-b ∷ bc-a ∷ []) every 0 2 a-bc
     -- `((a,b),c,d);`, its own clusters | 14
-    ∷ searched (97 ∷ 32 ∷ 98 ∷ 32 ∷ 99 ∷ 32 ∷ 100 ∷ []) ((40 ∷ 40 ∷ 97 ∷ 44 ∷ 98 ∷ 41 ∷ 44 ∷ 99 ∷ 44 ∷ 100 ∷ 41 ∷ 59 ∷ []) ∷ []) own 14 0 []
+    ∷ searched abcd (ab-star ∷ []) own 14 0 []
     -- `((a,c),(b,d));`, allowed 3 and 12 only | 2, `((a,b),(c,d));`
-    ∷ searched (97 ∷ 32 ∷ 98 ∷ 32 ∷ 99 ∷ 32 ∷ 100 ∷ []) ((40 ∷ 40 ∷ 97 ∷ 44 ∷ 99 ∷ 41 ∷ 44 ∷ 40 ∷ 98 ∷ 44 ∷ 100 ∷ 41 ∷ 41 ∷ 59 ∷ []) ∷ []) (only (3 ∷ 12 ∷ [])) 0 2 (40 ∷ 40 ∷ 97 ∷ 44 ∷ 98 ∷ 41 ∷ 44 ∷ 40 ∷ 99 ∷ 44 ∷ 100 ∷ 41 ∷ 41 ∷ 59 ∷ [])
+    ∷ searched abcd (ac-bd ∷ []) (only (3 ∷ 12 ∷ [])) 0 2 ab-cd
     -- roster `a`, `a;`, all | 0, `a;`
     ∷ searched (97 ∷ []) ((97 ∷ 59 ∷ []) ∷ []) every 0 0 (97 ∷ 59 ∷ [])
     ∷ []
 
 -- every one of them holds, by the definitions that the promises cite
 pub examples-hold : allHold examples ≡ true
-unfolding examples ones onesIn trailingZeros whole single union has within apart size lowest recordIn foundIn holds allHold kOf extra total weight score pieces shown marks answerTo leafAt closing readTreeTo readTree readNode nextIs nextName blanks skip number numberBehind numbers name innerName run word padded upTo same position begins beginnings nameAt names strayAt longAt manyAt againAt openAt faultAt least firstFault faulty clustersIn isLow lows each forks treesTo treesOn those all scoreOf treesOver leastTrees best allowedIn bestFor properly maximal placed byLowest children drawnTo drawn keep some insert sorted recordOf cluster clusters every-trees among rising singlesFrom treeText written nodeText
+unfolding examples ones onesIn trailingZeros whole single union has within apart size lowest recordIn foundIn holds allHold kOf extra total weight
+    score pieces shown marks answerTo leafAt closing readTreeTo readTree readNode nextIs nextName blanks skip number numberBehind numbers name
+    innerName run word padded upTo same position begins beginnings nameAt names strayAt longAt manyAt againAt openAt faultAt least firstFault faulty
+    clustersIn isLow lows each forks treesTo treesOn those all scoreOf treesOver leastTrees best allowedIn bestFor properly maximal placed byLowest
+    children drawnTo drawn keep some insert sorted recordOf cluster clusters every-trees among rising singlesFrom treeText written nodeText
 examples-hold = refl

@@ -276,7 +276,9 @@ score-done n genes count species r p =
     (λ z. omega arith, (λ z. omega arith, (λ z. omega arith, (λ z. omega arith, (λ z. omega arith, tt)))))
 
 -- "done | 0": marking
-pub mark-done : (n : ℕ) (genes : List ℕ) (count : ℕ) (out : List ℕ) (r : Reply) (after : List ℕ) → Marks n genes count out r after → r .number ≡ 0 → r .place ≡ 0
+pub mark-done :
+    (n : ℕ) (genes : List ℕ) (count : ℕ) (out : List ℕ) (r : Reply) (after : List ℕ) → Marks n genes count out r after
+    → r .number ≡ 0 → r .place ≡ 0
 unfolding markTests speciesTest countTest lengthTest recordsTest NoneGives
 mark-done n genes count out r after p =
     replyOf-done (markTests n genes count out) 0 r (p .reply)

@@ -82,12 +82,16 @@ length-more : (before : List (List ℕ)) (r : List ℕ) → length (before ++ (r
 length-more before r = length-append before (r ∷ [])
 
 module _ (line txt : List ℕ) (genes : List (List ℕ)) where
-  no-more : (at : ℕ) (before : List (List ℕ)) → length before ≤ genesMost → length txt ≤ begun line txt at → gathered before ≡ gathered genes → Gathers line txt at before genes
+  no-more :
+      (at : ℕ) (before : List (List ℕ)) → length before ≤ genesMost → length txt ≤ begun line txt at → gathered before ≡ gathered genes
+      → Gathers line txt at before genes
   no-more at before few ends e =
       let same : before ≡ genes = cc in
       record {
         trees = [];
-        stand = only-blanks (subst (λ (l : List ℕ). Blanks (drop at txt) l) (drop-of-length-le txt {i = begun line txt at} ends) (blanks-from line txt at));
+        stand =
+            only-blanks
+            (subst (λ (l : List ℕ). Blanks (drop at txt) l) (drop-of-length-le txt {i = begun line txt at} ends) (blanks-from line txt at));
         records = sym same ∙ sym (append-nil before);
         few = subst (λ (l : List (List ℕ)). length l ≤ genesMost) same few;
       }
@@ -105,19 +109,26 @@ module _ (line txt : List ℕ) (genes : List (List ℕ)) where
       }
 
   -- at most 512 are gathered, so that k turns are enough where they and those gathered before make 514
-  gathers : (k : ℕ) (before : List (List ℕ)) (at : ℕ) → length before ≤ genesMost → 514 ≤ k + length before → gatherTo k line txt before at ≡ gathered genes
+  gathers :
+      (k : ℕ) (before : List (List ℕ)) (at : ℕ) → length before ≤ genesMost → 514 ≤ k + length before
+      → gatherTo k line txt before at ≡ gathered genes
       → Gathers line txt at before genes
   unfolding gatherTo
   gathers zero before at few enough e = absurd (omega arith)
   gathers (suc k) before at few enough e =
-      ends (leb (length txt) (begun line txt at)) refl e (λ r q l h. gathers k (before ++ (r ∷ [])) q (omega (arith, length-more before r)) (omega (arith, length-more before r)) h)
+      ends (leb (length txt) (begun line txt at)) refl e
+      (λ r q l h. gathers k (before ++ (r ∷ [])) q (omega (arith, length-more before r)) (omega (arith, length-more before r)) h)
     where
       Later : Type 0
-      Later = (r : List ℕ) (q : ℕ) → length before < genesMost → gatherTo k line txt (before ++ (r ∷ [])) q ≡ gathered genes → Gathers line txt q (before ++ (r ∷ [])) genes
+      Later =
+          (r : List ℕ) (q : ℕ) → length before < genesMost → gatherTo k line txt (before ++ (r ∷ [])) q ≡ gathered genes
+          → Gathers line txt q (before ++ (r ∷ [])) genes
 
       read :
           (a : Answer Tree) → answerTo line txt (begun line txt at) ≡ a → length before < genesMost
-          → gatherOn (readingOf (begun line txt at) a .number) (readingOf (begun line txt at) a) (λ numbers next. gatherTo k line txt (before ++ (numbers ∷ [])) next) ≡ gathered genes
+          → gatherOn (readingOf (begun line txt at) a .number) (readingOf (begun line txt at) a)
+          (λ numbers next. gatherTo k line txt (before ++ (numbers ∷ [])) next)
+          ≡ gathered genes
           → Later → Gathers line txt at before genes
       read (parsed t rest q) a l e later = one-more at before t rest q a (later (recordOf (clusters t)) q l e)
       read (refused zero p) a l e later = absurd (omega (arith, fault-numbers (fault-of-refusal line txt (begun line txt at) 0 p a)))
@@ -202,7 +213,8 @@ module _ (line txt : List ℕ) (at : ℕ) where
 
 module _ (line txt : List ℕ) where
   gathers-all :
-      (k : ℕ) (before : List (List ℕ)) {at : ℕ} {trees : List Tree} → TreesFrom line txt at trees → length before + length trees ≤ genesMost → 514 ≤ k + length before
+      (k : ℕ) (before : List (List ℕ)) {at : ℕ} {trees : List Tree}
+      → TreesFrom line txt at trees → length before + length trees ≤ genesMost → 514 ≤ k + length before
       → gatherTo k line txt before at ≡ gathered (before ++ map (λ (t : Tree). recordOf (clusters t)) trees)
   unfolding gatherTo
   gathers-all zero before stand few enough = absurd (omega arith)
@@ -210,7 +222,8 @@ module _ (line txt : List ℕ) where
       rw (le-leb (length txt) (begun line txt at) (omega (arith, blanks-all b, length-drop at txt))) (ap gathered (sym (append-nil before)))
   gathers-all (suc k) before {at} (a-tree {next = next} {t = t} {trees = trees} d j later) few enough =
       let r = reads-from-begun line txt at d j in
-      let step = gathers-all k (before ++ (recordOf (clusters t) ∷ [])) later (omega (arith, length-more before (recordOf (clusters t)))) (omega (arith, length-more before (recordOf (clusters t)))) in
+      let longer = length-more before (recordOf (clusters t)) in
+      let step = gathers-all k (before ++ (recordOf (clusters t) ∷ [])) later (omega (arith, longer)) (omega (arith, longer)) in
       rw (lt-leb (length txt) (begun line txt at) (r .0), lt-leb genesMost (length before) (omega arith), r .1)
       (step ∙ ap gathered (append-assoc before (recordOf (clusters t) ∷ []) (map (λ (t : Tree). recordOf (clusters t)) trees)))
 
@@ -234,7 +247,9 @@ module _ (line txt : List ℕ) {number place : ℕ} where
 
       read :
           (a : Answer Tree) → answerTo line txt (begun line txt at) ≡ a
-          → gatherOn (readingOf (begun line txt at) a .number) (readingOf (begun line txt at) a) (λ numbers next. gatherTo k line txt (before ++ (numbers ∷ [])) next) ≡ stopped number place
+          → gatherOn (readingOf (begun line txt at) a .number) (readingOf (begun line txt at) a)
+          (λ numbers next. gatherTo k line txt (before ++ (numbers ∷ [])) next)
+          ≡ stopped number place
           → Later → number ≡ 14 → ⊥
       read (parsed t rest q) a e later = later (recordOf (clusters t)) q e
       read (refused zero p) a e later = absurd (omega (arith, fault-numbers (fault-of-refusal line txt (begun line txt at) 0 p a)))
@@ -242,11 +257,18 @@ module _ (line txt : List ℕ) {number place : ℕ} where
           let i : suc m ≡ number = cc in
           λ f. omega (arith, fault-numbers (fault-of-refusal line txt (begun line txt at) (suc m) p a))
 
-      room : (b : Bool) → gatherAt b line txt (begun line txt at) (λ numbers next. gatherTo k line txt (before ++ (numbers ∷ [])) next) ≡ stopped number place → Later → number ≡ 14 → ⊥
+      room :
+          (b : Bool)
+          → gatherAt b line txt (begun line txt at) (λ numbers next. gatherTo k line txt (before ++ (numbers ∷ [])) next) ≡ stopped number place
+          → Later → number ≡ 14 → ⊥
       room true e later = let i : 17 ≡ number = cc in λ f. omega arith
       room false e later = read (answerTo line txt (begun line txt at)) refl e later
 
-      ends : (b : Bool) → gatherMore b line txt before (begun line txt at) (λ numbers next. gatherTo k line txt (before ++ (numbers ∷ [])) next) ≡ stopped number place → Later → number ≡ 14 → ⊥
+      ends :
+          (b : Bool)
+          → gatherMore b line txt before (begun line txt at) (λ numbers next. gatherTo k line txt (before ++ (numbers ∷ [])) next)
+          ≡ stopped number place
+          → Later → number ≡ 14 → ⊥
       ends true e later = absurd (stopped-gathered (sym e))
       ends false e later = room (leb genesMost (length before)) e later
 

@@ -67,51 +67,78 @@ unfolding a-line Judged run word upTo same position begins beginnings nameAt nam
 judge-a r p = p
 
 read-a : (r : Reading) → Reads a-line a-text 0 r → r ≡ record { number = 0; place = 0; next = 2; numbers = a-record }
-unfolding a-line a-text a-record Reads ones onesIn trailingZeros whole single union has within apart size lowest answerTo leafAt closing readTreeTo readTree readNode nextIs nextName blanks skip number numberBehind numbers name innerName run word padded upTo same position begins beginnings nameAt names strayAt longAt manyAt againAt openAt faultAt least firstFault faulty keep some insert sorted recordOf cluster clusters
+unfolding a-line a-text a-record Reads ones onesIn trailingZeros whole single union has within apart size lowest answerTo leafAt closing readTreeTo
+    readTree readNode nextIs nextName blanks skip number numberBehind numbers name innerName run word padded upTo same position begins beginnings
+    nameAt names strayAt longAt manyAt againAt openAt faultAt least firstFault faulty keep some insert sorted recordOf cluster clusters
 read-a r p = p
 
 write-a : (r : Reply) (after : List ℕ) → Writes a-line a-record (0 ∷ 0 ∷ []) r after → (r ≡ record { number = 0; place = 0; value = 2 }) × (after ≡ a-text)
-unfolding a-line a-text a-record ones onesIn trailingZeros whole single union has within apart size lowest run word upTo same position begins beginnings nameAt names strayAt longAt manyAt againAt openAt faultAt least firstFault faulty keep some insert sorted recordOf cluster every among rising singlesFrom nested valid properly maximal placed byLowest children drawnTo drawn treeText written nodeText verdict lengthTest rosterTest recordTest writeTests
+unfolding a-line a-text a-record ones onesIn trailingZeros whole single union has within apart size lowest run word upTo same position begins
+    beginnings nameAt names strayAt longAt manyAt againAt openAt faultAt least firstFault faulty keep some insert sorted recordOf cluster every among
+    rising singlesFrom nested valid properly maximal placed byLowest children drawnTo drawn treeText written nodeText verdict lengthTest rosterTest
+    recordTest writeTests
 write-a r after w = (w .answer, w .bytes)
 
 -- cluster 3, `a` with `b`, weighs nothing in two trees that have it, and 1 where the second does not
 weigh-alike : (r : Reply) → Weighs 3 (ab-c ++ ab-c) 2 3 r → r ≡ record { number = 0; place = 0; value = 0 }
-unfolding ab-c Weighs weightTests clusterTest ones onesIn trailingZeros whole single union has within apart size lowest keep some insert sorted recordOf properly maximal every among rising singlesFrom nested valid binary verdict lengthTest kOf extra total weight score pieces speciesTest countTest firstBad recordsTest
+unfolding ab-c Weighs weightTests clusterTest ones onesIn trailingZeros whole single union has within apart size lowest keep some insert sorted
+    recordOf properly maximal every among rising singlesFrom nested valid binary verdict lengthTest kOf extra total weight score pieces speciesTest
+    countTest firstBad recordsTest
 weigh-alike r p = p
 
 weigh-unlike : (r : Reply) → Weighs 3 (ab-c ++ ac-b) 2 3 r → r ≡ record { number = 0; place = 0; value = 1 }
-unfolding ab-c ac-b Weighs weightTests clusterTest ones onesIn trailingZeros whole single union has within apart size lowest keep some insert sorted recordOf properly maximal every among rising singlesFrom nested valid binary verdict lengthTest kOf extra total weight score pieces speciesTest countTest firstBad recordsTest
+unfolding ab-c ac-b Weighs weightTests clusterTest ones onesIn trailingZeros whole single union has within apart size lowest keep some insert sorted
+    recordOf properly maximal every among rising singlesFrom nested valid binary verdict lengthTest kOf extra total weight score pieces speciesTest
+    countTest firstBad recordsTest
 weigh-unlike r p = p
 
 -- and so for the score of `((a,b),c);`
 score-alike : (r : Reply) → Scores 3 (ab-c ++ ab-c) 2 ab-c r → r ≡ record { number = 0; place = 0; value = 0 }
-unfolding ab-c Scores scoreTests speciesRecordTest ones onesIn trailingZeros whole single union has within apart size lowest keep some insert sorted recordOf properly maximal every among rising singlesFrom nested valid binary verdict lengthTest kOf extra total weight score pieces speciesTest countTest firstBad recordsTest
+unfolding ab-c Scores scoreTests speciesRecordTest ones onesIn trailingZeros whole single union has within apart size lowest keep some insert sorted
+    recordOf properly maximal every among rising singlesFrom nested valid binary verdict lengthTest kOf extra total weight score pieces speciesTest
+    countTest firstBad recordsTest
 score-alike r p = p
 
 score-unlike : (r : Reply) → Scores 3 (ab-c ++ ac-b) 2 ab-c r → r ≡ record { number = 0; place = 0; value = 1 }
-unfolding ab-c ac-b Scores scoreTests speciesRecordTest ones onesIn trailingZeros whole single union has within apart size lowest keep some insert sorted recordOf properly maximal every among rising singlesFrom nested valid binary verdict lengthTest kOf extra total weight score pieces speciesTest countTest firstBad recordsTest
+unfolding ab-c ac-b Scores scoreTests speciesRecordTest ones onesIn trailingZeros whole single union has within apart size lowest keep some insert
+    sorted recordOf properly maximal every among rising singlesFrom nested valid binary verdict lengthTest kOf extra total weight score pieces
+    speciesTest countTest firstBad recordsTest
 score-unlike r p = p
 
 mark-one : (r : Reply) (after : List ℕ) → Marks 1 a-record 1 (9 ∷ 9 ∷ []) r after → (r ≡ record { number = 0; place = 0; value = 0 }) × (after ≡ 0 ∷ 1 ∷ [])
-unfolding a-record markTests shown marks upTo ones onesIn trailingZeros whole single union has within apart size lowest keep some insert sorted recordOf properly maximal every among rising singlesFrom nested valid binary verdict lengthTest kOf extra total weight score pieces speciesTest countTest firstBad recordsTest
+unfolding a-record markTests shown marks upTo ones onesIn trailingZeros whole single union has within apart size lowest keep some insert sorted
+    recordOf properly maximal every among rising singlesFrom nested valid binary verdict lengthTest kOf extra total weight score pieces speciesTest
+    countTest firstBad recordsTest
 mark-one r after p = (p .reply, p .bytes)
 
 find-ab-c : (r : Found) (s p : List ℕ) → Finds 3 ab-c 1 every-cluster lent lent r s p → r ≡ record { number = 0; place = 0; score = 0; numbers = ab-c }
-unfolding ab-c every-cluster lent ones onesIn trailingZeros whole single union has within apart size lowest keep some insert sorted recordOf properly maximal every among rising singlesFrom nested valid binary verdict lengthTest kOf extra total weight score pieces speciesTest countTest firstBad recordsTest shown marks upTo least clustersIn isLow lows each forks treesTo treesOn those all scoreOf treesOver leastTrees best allowedIn firstStrange allowedTest searchTests bestFor
+unfolding ab-c every-cluster lent ones onesIn trailingZeros whole single union has within apart size lowest keep some insert sorted recordOf properly
+    maximal every among rising singlesFrom nested valid binary verdict lengthTest kOf extra total weight score pieces speciesTest countTest firstBad
+    recordsTest shown marks upTo least clustersIn isLow lows each forks treesTo treesOn those all scoreOf treesOver leastTrees best allowedIn
+    firstStrange allowedTest searchTests bestFor
 find-ab-c r s p f = f .reply
 
 find-ac-b : (r : Found) (s p : List ℕ) → Finds 3 ac-b 1 every-cluster lent lent r s p → r ≡ record { number = 0; place = 0; score = 0; numbers = ac-b }
-unfolding ac-b every-cluster lent ones onesIn trailingZeros whole single union has within apart size lowest keep some insert sorted recordOf properly maximal every among rising singlesFrom nested valid binary verdict lengthTest kOf extra total weight score pieces speciesTest countTest firstBad recordsTest shown marks upTo least clustersIn isLow lows each forks treesTo treesOn those all scoreOf treesOver leastTrees best allowedIn firstStrange allowedTest searchTests bestFor
+unfolding ac-b every-cluster lent ones onesIn trailingZeros whole single union has within apart size lowest keep some insert sorted recordOf properly
+    maximal every among rising singlesFrom nested valid binary verdict lengthTest kOf extra total weight score pieces speciesTest countTest firstBad
+    recordsTest shown marks upTo least clustersIn isLow lows each forks treesTo treesOn those all scoreOf treesOver leastTrees best allowedIn
+    firstStrange allowedTest searchTests bestFor
 find-ac-b r s p f = f .reply
 
 find-both : (r : Found) (s p : List ℕ) → Finds 3 (ab-c ++ ac-b) 2 every-cluster lent lent r s p → r ≡ record { number = 0; place = 0; score = 1; numbers = ab-c }
-unfolding ab-c ac-b every-cluster lent ones onesIn trailingZeros whole single union has within apart size lowest keep some insert sorted recordOf properly maximal every among rising singlesFrom nested valid binary verdict lengthTest kOf extra total weight score pieces speciesTest countTest firstBad recordsTest shown marks upTo least clustersIn isLow lows each forks treesTo treesOn those all scoreOf treesOver leastTrees best allowedIn firstStrange allowedTest searchTests bestFor
+unfolding ab-c ac-b every-cluster lent ones onesIn trailingZeros whole single union has within apart size lowest keep some insert sorted recordOf
+    properly maximal every among rising singlesFrom nested valid binary verdict lengthTest kOf extra total weight score pieces speciesTest countTest
+    firstBad recordsTest shown marks upTo least clustersIn isLow lows each forks treesTo treesOn those all scoreOf treesOver leastTrees best allowedIn
+    firstStrange allowedTest searchTests bestFor
 find-both r s p f = f .reply
 
 find-tables :
     (r : Found) (s p : List ℕ) → Finds 3 ab-c 1 every-cluster lent lent r s p
     → (s ≡ noTree ∷ 0 ∷ 0 ∷ 0 ∷ 0 ∷ 1 ∷ 1 ∷ 0 ∷ []) × (p ≡ 0 ∷ 0 ∷ 0 ∷ 1 ∷ 0 ∷ 1 ∷ 2 ∷ 3 ∷ [])
-unfolding ab-c every-cluster lent ones onesIn trailingZeros whole single union has within apart size lowest keep some insert sorted recordOf properly maximal every among rising singlesFrom nested valid binary verdict lengthTest kOf extra total weight score pieces speciesTest countTest firstBad recordsTest shown marks upTo least clustersIn isLow lows each forks treesTo treesOn those all scoreOf treesOver leastTrees best allowedIn firstStrange allowedTest searchTests bestFor
+unfolding ab-c every-cluster lent ones onesIn trailingZeros whole single union has within apart size lowest keep some insert sorted recordOf properly
+    maximal every among rising singlesFrom nested valid binary verdict lengthTest kOf extra total weight score pieces speciesTest countTest firstBad
+    recordsTest shown marks upTo least clustersIn isLow lows each forks treesTo treesOn those all scoreOf treesOver leastTrees best allowedIn
+    firstStrange allowedTest searchTests bestFor
 find-tables r s p f = (f .scoreTable, f .splitTable)
 
 -- the input `a`, `all`, `a;` prints three lines, the empty one `refused 1 at 0`
@@ -119,11 +146,19 @@ a-input : List ℕ
 a-input = 97 ∷ 10 ∷ 97 ∷ 108 ∷ 108 ∷ 10 ∷ 97 ∷ 59 ∷ 10 ∷ []
 
 a-output : output a-input ≡ taxaText ++ 49 ∷ genesText ++ 49 ∷ 10 ∷ scoreText ++ 48 ∷ 10 ∷ 97 ∷ 59 ∷ 10 ∷ []
-unfolding a-input lineLength firstLine behindLine endsInFeed modePlace treesPlace gatherTo gather searched program digitsTo decimal output ones onesIn trailingZeros whole single union has within apart size lowest keep some insert sorted recordOf properly maximal every among rising singlesFrom nested valid binary verdict lengthTest kOf extra total weight score pieces speciesTest countTest firstBad recordsTest shown marks upTo least clustersIn isLow lows each forks treesTo treesOn those all scoreOf treesOver leastTrees best allowedIn bestFor answerTo leafAt closing readTreeTo readTree readNode nextIs nextName blanks skip number numberBehind numbers name innerName run word padded same position begins beginnings nameAt names strayAt longAt manyAt againAt openAt faultAt firstFault faulty cluster clusters placed byLowest children drawnTo drawn treeText written nodeText
+unfolding a-input lineLength firstLine behindLine endsInFeed modePlace treesPlace gatherTo gather searched program digitsTo decimal output ones onesIn
+    trailingZeros whole single union has within apart size lowest keep some insert sorted recordOf properly maximal every among rising singlesFrom
+    nested valid binary verdict lengthTest kOf extra total weight score pieces speciesTest countTest firstBad recordsTest shown marks upTo least
+    clustersIn isLow lows each forks treesTo treesOn those all scoreOf treesOver leastTrees best allowedIn bestFor answerTo leafAt closing readTreeTo
+    readTree readNode nextIs nextName blanks skip number numberBehind numbers name innerName run word padded same position begins beginnings nameAt
+    names strayAt longAt manyAt againAt openAt faultAt firstFault faulty cluster clusters placed byLowest children drawnTo drawn treeText written
+    nodeText
 a-output = refl
 
 no-output : output [] ≡ refusedText ++ 49 ∷ atText ++ 48 ∷ 10 ∷ []
-unfolding lineLength firstLine behindLine endsInFeed modePlace treesPlace gatherTo gather searched program digitsTo decimal output answerTo leafAt closing readTreeTo readTree readNode nextIs nextName blanks skip number numberBehind numbers name innerName run word padded same position begins beginnings nameAt names strayAt longAt manyAt againAt openAt faultAt firstFault faulty cluster clusters upTo least keep
+unfolding lineLength firstLine behindLine endsInFeed modePlace treesPlace gatherTo gather searched program digitsTo decimal output answerTo leafAt
+    closing readTreeTo readTree readNode nextIs nextName blanks skip number numberBehind numbers name innerName run word padded same position begins
+    beginnings nameAt names strayAt longAt manyAt againAt openAt faultAt firstFault faulty cluster clusters upTo least keep
 no-output = refl
 
 -- ---- the roster
@@ -194,32 +229,35 @@ module _ (f : ℕ → List ℕ → ℕ → ℕ → Reply) (meets : (n : ℕ) (ge
 
 -- ---- the score
 
-module _ (f : ℕ → List ℕ → ℕ → List ℕ → Reply) (meets : (n : ℕ) (genes : List ℕ) (count : ℕ) (species : List ℕ) → Scores n genes count species (f n genes count species)) where
-  -- "one that turns everything away (demand 2 for .. scoring)"
-  pub score-does-not-refuse-all : ((n : ℕ) (genes : List ℕ) (count : ℕ) (species : List ℕ) → f n genes count species .number ≡ 0 → ⊥) → ⊥
-  score-does-not-refuse-all away =
-      away 3 (ab-c ++ ab-c) 2 ab-c (ap (λ (r : Reply). r .number) (score-alike (f 3 (ab-c ++ ab-c) 2 ab-c) (meets 3 (ab-c ++ ab-c) 2 ab-c)))
+module _
+    (f : ℕ → List ℕ → ℕ → List ℕ → Reply)
+    (meets : (n : ℕ) (genes : List ℕ) (count : ℕ) (species : List ℕ) → Scores n genes count species (f n genes count species))
+  where
+    -- "one that turns everything away (demand 2 for .. scoring)"
+    pub score-does-not-refuse-all : ((n : ℕ) (genes : List ℕ) (count : ℕ) (species : List ℕ) → f n genes count species .number ≡ 0 → ⊥) → ⊥
+    score-does-not-refuse-all away =
+        away 3 (ab-c ++ ab-c) 2 ab-c (ap (λ (r : Reply). r .number) (score-alike (f 3 (ab-c ++ ab-c) 2 ab-c) (meets 3 (ab-c ++ ab-c) 2 ab-c)))
 
-  -- "one that counts the first gene tree and passes over the others (2's sum over all)"
-  pub score-counts-every-gene-tree :
-      ((n : ℕ) (genes genes′ : List ℕ) (count : ℕ) (species : List ℕ) → take 32 genes ≡ take 32 genes′
-      → f n genes count species .number ≡ 0 → f n genes′ count species .number ≡ 0 → f n genes count species .value ≡ f n genes′ count species .value) → ⊥
-  unfolding ab-c ac-b recordOf sorted insert
-  score-counts-every-gene-tree first-only =
-      let x = score-alike (f 3 (ab-c ++ ab-c) 2 ab-c) (meets 3 (ab-c ++ ab-c) 2 ab-c) in
-      let y = score-unlike (f 3 (ab-c ++ ac-b) 2 ab-c) (meets 3 (ab-c ++ ac-b) 2 ab-c) in
-      let e = first-only 3 (ab-c ++ ab-c) (ab-c ++ ac-b) 2 ab-c refl (ap (λ (r : Reply). r .number) x) (ap (λ (r : Reply). r .number) y) in
-      omega (arith, ap (λ (r : Reply). r .value) x, ap (λ (r : Reply). r .value) y, e)
+    -- "one that counts the first gene tree and passes over the others (2's sum over all)"
+    pub score-counts-every-gene-tree :
+        ((n : ℕ) (genes genes′ : List ℕ) (count : ℕ) (species : List ℕ) → take 32 genes ≡ take 32 genes′
+        → f n genes count species .number ≡ 0 → f n genes′ count species .number ≡ 0 → f n genes count species .value ≡ f n genes′ count species .value) → ⊥
+    unfolding ab-c ac-b recordOf sorted insert
+    score-counts-every-gene-tree first-only =
+        let x = score-alike (f 3 (ab-c ++ ab-c) 2 ab-c) (meets 3 (ab-c ++ ab-c) 2 ab-c) in
+        let y = score-unlike (f 3 (ab-c ++ ac-b) 2 ab-c) (meets 3 (ab-c ++ ac-b) 2 ab-c) in
+        let e = first-only 3 (ab-c ++ ab-c) (ab-c ++ ac-b) 2 ab-c refl (ap (λ (r : Reply). r .number) x) (ap (λ (r : Reply). r .number) y) in
+        omega (arith, ap (λ (r : Reply). r .value) x, ap (λ (r : Reply). r .value) y, e)
 
-  -- "one that reports an invented score (2)": the same for all trees
-  pub score-is-not-invented :
-      (c : ℕ) → ((n : ℕ) (genes : List ℕ) (count : ℕ) (species : List ℕ) → f n genes count species .number ≡ 0 → f n genes count species .value ≡ c) → ⊥
-  score-is-not-invented c always =
-      let x = score-alike (f 3 (ab-c ++ ab-c) 2 ab-c) (meets 3 (ab-c ++ ab-c) 2 ab-c) in
-      let y = score-unlike (f 3 (ab-c ++ ac-b) 2 ab-c) (meets 3 (ab-c ++ ac-b) 2 ab-c) in
-      let e = always 3 (ab-c ++ ab-c) 2 ab-c (ap (λ (r : Reply). r .number) x) in
-      let d = always 3 (ab-c ++ ac-b) 2 ab-c (ap (λ (r : Reply). r .number) y) in
-      omega (arith, ap (λ (r : Reply). r .value) x, ap (λ (r : Reply). r .value) y, e, d)
+    -- "one that reports an invented score (2)": the same for all trees
+    pub score-is-not-invented :
+        (c : ℕ) → ((n : ℕ) (genes : List ℕ) (count : ℕ) (species : List ℕ) → f n genes count species .number ≡ 0 → f n genes count species .value ≡ c) → ⊥
+    score-is-not-invented c always =
+        let x = score-alike (f 3 (ab-c ++ ab-c) 2 ab-c) (meets 3 (ab-c ++ ab-c) 2 ab-c) in
+        let y = score-unlike (f 3 (ab-c ++ ac-b) 2 ab-c) (meets 3 (ab-c ++ ac-b) 2 ab-c) in
+        let e = always 3 (ab-c ++ ab-c) 2 ab-c (ap (λ (r : Reply). r .number) x) in
+        let d = always 3 (ab-c ++ ac-b) 2 ab-c (ap (λ (r : Reply). r .number) y) in
+        omega (arith, ap (λ (r : Reply). r .value) x, ap (λ (r : Reply). r .value) y, e, d)
 
 -- ---- marking
 

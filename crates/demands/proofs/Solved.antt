@@ -40,15 +40,22 @@ pub record Best (n : ℕ) (genes : List (List ℕ)) (allowed : List ℕ) (n′ m
   pub scored : scoreOf (weight genes) tree ≡ s
   pub recorded : recordOf (clustersIn tree) ≡ r
 
-pub searched-best : (n : ℕ) (genes : List (List ℕ)) (allowed : List ℕ) {n′ m s : ℕ} {r : List ℕ} → searched n genes allowed ≡ solved n′ m s r → Best n genes allowed n′ m s r
+pub searched-best :
+    (n : ℕ) (genes : List (List ℕ)) (allowed : List ℕ) {n′ m s : ℕ} {r : List ℕ} → searched n genes allowed ≡ solved n′ m s r
+    → Best n genes allowed n′ m s r
 unfolding searched
 searched-best n genes allowed {n′} {m} {s} {r} e = go (bestFor n genes allowed (whole n)) refl e
   where
-    go : (o : Option Binary) → bestFor n genes allowed (whole n) ≡ o → outcomeOf (foundBy o genes .number) n (length genes) (foundBy o genes) ≡ solved n′ m s r → Best n genes allowed n′ m s r
+    go :
+        (o : Option Binary) → bestFor n genes allowed (whole n) ≡ o
+        → outcomeOf (foundBy o genes .number) n (length genes) (foundBy o genes) ≡ solved n′ m s r
+        → Best n genes allowed n′ m s r
     go none b e = absurd (refused-solved e)
     go (some t) b e = record { tree = t; is-best = b; species = cc; count = cc; scored = cc; recorded = cc }
 
-pub searched-none : (n : ℕ) (genes : List (List ℕ)) (allowed : List ℕ) {number place : ℕ} → searched n genes allowed ≡ refused number place → bestFor n genes allowed (whole n) ≡ none
+pub searched-none :
+    (n : ℕ) (genes : List (List ℕ)) (allowed : List ℕ) {number place : ℕ} → searched n genes allowed ≡ refused number place
+    → bestFor n genes allowed (whole n) ≡ none
 unfolding searched
 searched-none n genes allowed {number} {place} e = go (bestFor n genes allowed (whole n)) refl e
   where

@@ -98,9 +98,9 @@ module _ {input line mode : List ℕ} {trees : List Tree} (h : Holds input line 
   searches all e = to-search all e ∙ go trees (h .some-trees)
     where
       go :
-          (trees : List Tree) → 1 ≤ length trees
-          → withGenes (map (λ (t : Tree). recordOf (clusters t)) trees) all (length (names line))
-          ≡ searched (length (names line)) (map (λ (t : Tree). recordOf (clusters t)) trees) (allowedBy all (length (names line)) (map (λ (t : Tree). recordOf (clusters t)) trees))
+          (trees : List Tree) → 1 ≤ length trees → let n = length (names line) in
+          let genes = map (λ (t : Tree). recordOf (clusters t)) trees in
+          withGenes genes all n ≡ searched n genes (allowedBy all n genes)
       go [] k = absurd (omega arith)
       go (t ∷ trees) k = refl
 

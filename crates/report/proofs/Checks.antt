@@ -1,6 +1,6 @@
 -- The program's first checks, in their order: 2, 1, 17, then the mode.
 use Prim.Native.Nat.{ℕ, _≤_, _<_}
-use mathlib.Core.Path.{_≡_, refl, sym, ap, _∙_}
+use mathlib.Core.Path.{_≡_, refl, sym, ap, subst, _∙_}
 use mathlib.Core.Bool.{Bool, true, false}
 use mathlib.Core.List.{List}
 use native.Mathlib.Omega.{arith}
@@ -16,10 +16,14 @@ use Rattle.report.specs.Promise.{output, Reports}
 use Rattle.report.specs.Work.{reportOf, told, Roster}
 use Rattle.report.specs.declared.print.Report.{Report}
 
+-- the report of one outcome is that of an equal one
+pub retold : (ns : List (List ℕ)) {r : Report} {o outcome : Outcome} → o ≡ outcome → r ≡ told ns o → r ≡ told ns outcome
+retold ns {r} e is = subst (λ (o : Outcome). r ≡ told ns o) e is
+
 -- the report of what the program finds is what is promised
 pub reports : (input : List ℕ) {r : Report} {outcome : Outcome} → r ≡ told (names (firstLine input)) outcome → outcome ≡ program input → Reports input r
 unfolding Reports output reportOf
-reports input e is = e ∙ ap (λ (o : Outcome). told (names (firstLine input)) o) is
+reports input e is = retold (names (firstLine input)) is e
 
 pub too-long : (input : List ℕ) → 65536 < length input → refused 2 65536 ≡ program input
 unfolding program

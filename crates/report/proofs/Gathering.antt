@@ -40,11 +40,15 @@ module _ (line trees : List ℕ) where
     left-many h e = rw (lt-leb (length trees) p h, le-leb 512 (length genes) (omega arith))
 
     -- a tree is refused
-    pub left-refused : (r : Reading) → p < length trees → length genes < 512 → Reads line trees p r → (r .number ≡ 0 → ⊥) → leftFrom k genes p ≡ stopped (r .number) (r .place)
+    pub left-refused :
+        (r : Reading) → p < length trees → length genes < 512 → Reads line trees p r → (r .number ≡ 0 → ⊥)
+        → leftFrom k genes p ≡ stopped (r .number) (r .place)
     unfolding leftFrom Reads
     left-refused r h l e some = rw (lt-leb (length trees) p h, lt-leb 512 (length genes) l, ← e) (go (r .number) refl)
       where
-        go : (number : ℕ) → r .number ≡ number → gatherOn number r (λ numbers next. gatherTo k line trees (genes ++ (numbers ∷ [])) next) ≡ stopped number (r .place)
+        go :
+            (number : ℕ) → r .number ≡ number
+            → gatherOn number r (λ numbers next. gatherTo k line trees (genes ++ (numbers ∷ [])) next) ≡ stopped number (r .place)
         go zero z = absurd (some z)
         go (suc number) z = refl
 
@@ -101,7 +105,9 @@ module _ {line trees : List ℕ} {count : ℕ} {genes : List ℕ} {at : ℕ} (no
 module _ (line trees : List ℕ) where
   module _
       (k k′ : ℕ) (genes : List (List ℕ)) (p : ℕ)
-      (later : (numbers : List ℕ) (at : ℕ) → length genes < 512 → gatherTo k line trees (genes ++ (numbers ∷ [])) at ≡ gatherTo k′ line trees (genes ++ (numbers ∷ [])) at)
+      (later :
+      (numbers : List ℕ) (at : ℕ) → length genes < 512
+      → gatherTo k line trees (genes ++ (numbers ∷ [])) at ≡ gatherTo k′ line trees (genes ++ (numbers ∷ [])) at)
     where
       same-on :
           length genes < 512 → (number : ℕ) (r : Reading)

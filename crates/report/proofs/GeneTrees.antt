@@ -45,7 +45,9 @@ Holds P Q (stopped number place) = Q number place
 
 module _
     (line trees : List ℕ) (P : List (List ℕ) → Type 0) (Q : ℕ → ℕ → Type 0)
-    (read : (genes : List (List ℕ)) (p : ℕ) (t : Tree) (rest : List ℕ) (q : ℕ) → length genes < 512 → P genes → answerTo line trees p ≡ parsed t rest q → P (genes ++ (recordOf (clusters t) ∷ [])))
+    (read :
+    (genes : List (List ℕ)) (p : ℕ) (t : Tree) (rest : List ℕ) (q : ℕ) → length genes < 512 → P genes → answerTo line trees p ≡ parsed t rest q
+    → P (genes ++ (recordOf (clusters t) ∷ [])))
     (many : (p : ℕ) → p < length trees → Q 17 p)
     (refuse : (p number q : ℕ) → p < length trees → answerTo line trees p ≡ refusedAt number q → (1 ≤ number) × Q number q)
   where
@@ -100,7 +102,9 @@ among n genes r all one g m =
 
 module _ (line trees : List ℕ) (good : faulty speciesMost line ≡ false) where
   -- a tree that is read has a valid record
-  read-valid : (p : ℕ) {t : Tree} {rest : List ℕ} {q : ℕ} → answerTo line trees p ≡ parsed t rest q → GeneValid (length (names line)) (recordOf (clusters t))
+  read-valid :
+      (p : ℕ) {t : Tree} {rest : List ℕ} {q : ℕ} → answerTo line trees p ≡ parsed t rest q
+      → GeneValid (length (names line)) (recordOf (clusters t))
   read-valid p e =
       valid-of-drawn (accepted-derives line trees p e .draws .on) (whole-below-sixteen (length (names line)) (good-names line good .few))
 
@@ -165,7 +169,9 @@ module _ (genes : List ℕ) (all : Bool) (n : ℕ) where
   unfolding pieces
   without-genes e = rw e
 
-  pub with-some-genes : (count : ℕ) → (count ≡ 0 → ⊥) → searched n (recordsIn count genes) (allowedBy all n (recordsIn count genes)) ≡ withGenes (recordsIn count genes) all n
+  pub with-some-genes :
+      (count : ℕ) → (count ≡ 0 → ⊥)
+      → searched n (recordsIn count genes) (allowedBy all n (recordsIn count genes)) ≡ withGenes (recordsIn count genes) all n
   unfolding pieces
   with-some-genes zero f = absurd (f refl)
   with-some-genes (suc count) f = refl

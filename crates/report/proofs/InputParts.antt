@@ -12,6 +12,8 @@ use Rattle.report.specs.Words.{allWord, genesWord}
 use Rattle.report.specs.Input.{lineLength, firstLine, behindLine, endsInFeed, modePlace, treesPlace, gather}
 use Rattle.report.specs.Program.{onMode, onSpecies, onTrees}
 use Rattle.report.specs.Program.Outcome.{refused}
+use Rattle.report.specs.Work.{told}
+use Rattle.report.specs.declared.print.Report.{Report}
 use Rattle.report.proofs.Bytewise.{line-within}
 
 -- what is lent from a place on
@@ -84,16 +86,21 @@ module _ (input : List ℕ) {end : ℕ} (first : end ≡ lineLength input) where
       trees-part : from (end + 1 + size + 1) input ≡ drop (treesPlace input) input
       trees-part = from-is (end + 1 + size + 1) input ∙ ap (λ (k : ℕ). drop k input) trees-place
 
-      module _ {n : ℕ} (named : n ≡ length (names (firstLine input))) where
+      -- the report of what the trees give in a mode
+      abbrev treesTold : ℕ → Bool → Report
+      treesTold n all =
+          told (names (take end input)) (onTrees (gather (take end input) (from (end + 1 + size + 1) input)) (end + 1 + size + 1) all n)
+
+      module _ {n : ℕ} (named : n ≡ length (names (firstLine input))) {r : Report} where
         pub all-mode :
-            same (take size (from (end + 1) input)) allWord ≡ true
-            → onTrees (gather (take end input) (from (end + 1 + size + 1) input)) (end + 1 + size + 1) true n ≡ onSpecies true input
-        all-mode a = rw (judged a refl, first-line, trees-part, trees-place, named)
+            same (take size (from (end + 1) input)) allWord ≡ true → r ≡ treesTold n true
+            → r ≡ told (names (firstLine input)) (onSpecies true input)
+        all-mode a is = is ∙ rw (judged a refl, first-line, trees-part, trees-place, named)
 
         pub genes-mode :
-            same (take size (from (end + 1) input)) allWord ≡ false → same (take size (from (end + 1) input)) genesWord ≡ true
-            → onTrees (gather (take end input) (from (end + 1 + size + 1) input)) (end + 1 + size + 1) false n ≡ onSpecies true input
-        genes-mode a g = rw (judged a g, first-line, trees-part, trees-place, named)
+            same (take size (from (end + 1) input)) allWord ≡ false → same (take size (from (end + 1) input)) genesWord ≡ true → r ≡ treesTold n false
+            → r ≡ told (names (firstLine input)) (onSpecies true input)
+        genes-mode a g is = is ∙ rw (judged a g, first-line, trees-part, trees-place, named)
 
       -- "Another mode word gives 3 at its first byte"
       pub other-mode :

@@ -59,9 +59,9 @@ module _ (n : ℕ) (genes : List (List ℕ)) (allowed : List ℕ) {r : Found} (i
       go zero z = absurd (number z)
       go (suc k) z = refl
 
-  pub searched-solved : r .number ≡ 0 → solved n (length genes) (r .score) (r .numbers) ≡ searched n genes allowed
+  pub searched-solved : {m : ℕ} → m ≡ length genes → r .number ≡ 0 → solved n m (r .score) (r .numbers) ≡ searched n genes allowed
   unfolding searched
-  searched-solved z = rw (← is, z)
+  searched-solved e z = rw (e, ← is, z)
 
   -- the record of what is found is valid
   pub found-valid : n ≤ 16 → r .number ≡ 0 → ValidOn (whole n) (r .numbers)

@@ -113,7 +113,9 @@ module _ (n : ℕ) (genes : List (List ℕ)) (allowed : List ℕ) (h : n ≤ 16)
 -- what the reply of an accepted call is: an answer, or 14 where no record competes
 pub data Replied (n : ℕ) (genes : List (List ℕ)) (allowed : List ℕ) (r : Found) : Type 0 where
   answered : r .number ≡ 0 → r .place ≡ 0 → Answer n genes allowed r → Replied n genes allowed r
-  nothing : r .number ≡ 14 → r .place ≡ 0 → r .score ≡ 0 → r .numbers ≡ replicate 32 0 → ((c : List ℕ) → Candidate n allowed c → ⊥) → Replied n genes allowed r
+  nothing :
+      r .number ≡ 14 → r .place ≡ 0 → r .score ≡ 0 → r .numbers ≡ replicate 32 0 → ((c : List ℕ) → Candidate n allowed c → ⊥)
+      → Replied n genes allowed r
 
 module _ {n : ℕ} {genes : List ℕ} {count : ℕ} {allowed scores splits : List ℕ} {r : Found} {scoresAfter splitsAfter : List ℕ}
     (f : Finds n genes count allowed scores splits r scoresAfter splitsAfter) where
@@ -131,14 +133,17 @@ module _ {n : ℕ} {genes : List ℕ} {count : ℕ} {allowed scores splits : Lis
   -- a test that finds a fault gives the reply its number
   refused-number : (k : ℕ) → verdict (searchTests n genes count allowed scores splits) .number ≡ suc k → r .number ≡ suc k
   refused-number k q =
-      ap (λ x. x .number) (f .reply)
-      ∙ ap (λ m. foundOr m (verdict (searchTests n genes count allowed scores splits) .place) (foundBy (bestFor n (recordsIn count genes) allowed (whole n)) (recordsIn count genes)) .number) q
+      let place = verdict (searchTests n genes count allowed scores splits) .place in
+      let found = foundBy (bestFor n (recordsIn count genes) allowed (whole n)) (recordsIn count genes) in
+      ap (λ x. x .number) (f .reply) ∙ ap (λ m. foundOr m place found .number) q
 
   -- 0 and 14 come from the search alone
   accepted-of : (r .number ≡ 0) ⊎ (r .number ≡ 14) → Accepted n genes count allowed scores splits
   accepted-of d = go (verdict (searchTests n genes count allowed scores splits) .number) refl d
     where
-      go : (k : ℕ) → verdict (searchTests n genes count allowed scores splits) .number ≡ k → (r .number ≡ 0) ⊎ (r .number ≡ 14) → Accepted n genes count allowed scores splits
+      go :
+          (k : ℕ) → verdict (searchTests n genes count allowed scores splits) .number ≡ k → (r .number ≡ 0) ⊎ (r .number ≡ 14)
+          → Accepted n genes count allowed scores splits
       go zero q d = accepted n genes count allowed scores splits q
       go (suc k) q (inl z) = absurd (omega (arith, refused-number k q))
       go (suc k) q (inr z) = absurd (no-fourteen n genes count allowed scores splits (omega (arith, refused-number k q)))
@@ -278,32 +283,36 @@ module _ (n count : ℕ) (genes genes′ allowed allowed′ scores scores′ spl
       best-local (weight (recordsIn count genes)) (allowedIn n allowed) (allowedIn n allowed′) a (λ x m. same-allowed-in x (let k = within-le m in omega arith))
       ∙ ap (λ g. best (weight g) (allowedIn n allowed′) a) same-records
 
-  module _ {r q : Found} {s p s′ p′ : List ℕ} (f : Finds n genes count allowed scores splits r s p) (f′ : Finds n genes′ count allowed′ scores′ splits′ q s′ p′) where
-    -- their replies are equal
-    pub same-reply : r ≡ q
-    same-reply = f .reply ∙ rw (same-verdict, same-best (whole n) (whole-below n), same-records) (sym (f′ .reply))
+  module _
+      {r q : Found} {s p s′ p′ : List ℕ}
+      (f : Finds n genes count allowed scores splits r s p)
+      (f′ : Finds n genes′ count allowed′ scores′ splits′ q s′ p′)
+    where
+      -- their replies are equal
+      pub same-reply : r ≡ q
+      same-reply = f .reply ∙ rw (same-verdict, same-best (whole n) (whole-below n), same-records) (sym (f′ .reply))
 
-    -- and so are the first 2^n entries of both tables, where the tables are filled
-    pub same-scores : verdict (searchTests n genes count allowed scores splits) .number ≡ 0 → take (2 ^ n) s ≡ take (2 ^ n) s′
-    same-scores z =
-        filled-first n (verdict (searchTests n genes count allowed scores splits) .number)
-        (λ a. scoreEntry (weight (recordsIn count genes)) (bestFor n (recordsIn count genes) allowed a)) scores s (f .scoreTable) z
-        ∙ map-same (λ a. scoreEntry (weight (recordsIn count genes)) (bestFor n (recordsIn count genes) allowed a))
-        (λ a. scoreEntry (weight (recordsIn count genes′)) (bestFor n (recordsIn count genes′) allowed′ a)) (upTo (2 ^ n))
-        (λ a m. ap₂ (λ g o. scoreEntry (weight g) o) same-records (same-best a (among-upTo (2 ^ n) m)))
-        ∙ sym (filled-first n (verdict (searchTests n genes′ count allowed′ scores′ splits′) .number)
-        (λ a. scoreEntry (weight (recordsIn count genes′)) (bestFor n (recordsIn count genes′) allowed′ a)) scores′ s′ (f′ .scoreTable)
-        (sym (ap (λ v. v .number) same-verdict) ∙ z))
+      -- and so are the first 2^n entries of both tables, where the tables are filled
+      pub same-scores : verdict (searchTests n genes count allowed scores splits) .number ≡ 0 → take (2 ^ n) s ≡ take (2 ^ n) s′
+      same-scores z =
+          filled-first n (verdict (searchTests n genes count allowed scores splits) .number)
+          (λ a. scoreEntry (weight (recordsIn count genes)) (bestFor n (recordsIn count genes) allowed a)) scores s (f .scoreTable) z
+          ∙ map-same (λ a. scoreEntry (weight (recordsIn count genes)) (bestFor n (recordsIn count genes) allowed a))
+          (λ a. scoreEntry (weight (recordsIn count genes′)) (bestFor n (recordsIn count genes′) allowed′ a)) (upTo (2 ^ n))
+          (λ a m. ap₂ (λ g o. scoreEntry (weight g) o) same-records (same-best a (among-upTo (2 ^ n) m)))
+          ∙ sym (filled-first n (verdict (searchTests n genes′ count allowed′ scores′ splits′) .number)
+          (λ a. scoreEntry (weight (recordsIn count genes′)) (bestFor n (recordsIn count genes′) allowed′ a)) scores′ s′ (f′ .scoreTable)
+          (sym (ap (λ v. v .number) same-verdict) ∙ z))
 
-    pub same-splits : verdict (searchTests n genes count allowed scores splits) .number ≡ 0 → take (2 ^ n) p ≡ take (2 ^ n) p′
-    same-splits z =
-        filled-first n (verdict (searchTests n genes count allowed scores splits) .number)
-        (λ a. splitEntry (bestFor n (recordsIn count genes) allowed a)) splits p (f .splitTable) z
-        ∙ map-same (λ a. splitEntry (bestFor n (recordsIn count genes) allowed a)) (λ a. splitEntry (bestFor n (recordsIn count genes′) allowed′ a)) (upTo (2 ^ n))
-        (λ a m. ap splitEntry (same-best a (among-upTo (2 ^ n) m)))
-        ∙ sym (filled-first n (verdict (searchTests n genes′ count allowed′ scores′ splits′) .number)
-        (λ a. splitEntry (bestFor n (recordsIn count genes′) allowed′ a)) splits′ p′ (f′ .splitTable)
-        (sym (ap (λ v. v .number) same-verdict) ∙ z))
+      pub same-splits : verdict (searchTests n genes count allowed scores splits) .number ≡ 0 → take (2 ^ n) p ≡ take (2 ^ n) p′
+      same-splits z =
+          filled-first n (verdict (searchTests n genes count allowed scores splits) .number)
+          (λ a. splitEntry (bestFor n (recordsIn count genes) allowed a)) splits p (f .splitTable) z
+          ∙ map-same (λ a. splitEntry (bestFor n (recordsIn count genes) allowed a)) (λ a. splitEntry (bestFor n (recordsIn count genes′) allowed′ a)) (upTo (2 ^ n))
+          (λ a m. ap splitEntry (same-best a (among-upTo (2 ^ n) m)))
+          ∙ sym (filled-first n (verdict (searchTests n genes′ count allowed′ scores′ splits′) .number)
+          (λ a. splitEntry (bestFor n (recordsIn count genes′) allowed′ a)) splits′ p′ (f′ .splitTable)
+          (sym (ap (λ v. v .number) same-verdict) ∙ z))
 
 -- ---- source document 001, Lemma 2, for the tables of a call
 

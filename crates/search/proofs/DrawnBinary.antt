@@ -181,7 +181,9 @@ lowest-part c d p q w l h =
     held (inr k) =
         absurd (lowest-apart c-below d-below p q w (omega (arith, h, lowest-least d-below k, lowest-within c-below l p (within-union-left c d))))
 
-fork-on : (c d : ℕ) (t u : Binary) → 1 ≤ c → 1 ≤ d → Apart c d → union c d < 2 ^ 32 → lowest c ≤ lowest d → TreeOn c t → TreeOn d u → TreeOn (union c d) (fork (union c d) t u)
+fork-on :
+    (c d : ℕ) (t u : Binary) → 1 ≤ c → 1 ≤ d → Apart c d → union c d < 2 ^ 32 → lowest c ≤ lowest d → TreeOn c t → TreeOn d u
+    → TreeOn (union c d) (fork (union c d) t u)
 fork-on c d t u p q w l h v x =
     let e = sym (tree-root v) in
     two (subst (LowPart (union c d)) e (lowest-part c d p q w l h)) (subst (λ b. TreeOn b t) e v)

@@ -33,7 +33,9 @@ searchRest n genes count allowed scores splits =
 -- ---- 12
 
 module _ (n : ℕ) (genes : List ℕ) (count : ℕ) (allowed scores splits : List ℕ) where
-  long-passed : LongEnough (2 ^ n) allowed scores splits → verdict (searchRest n genes count allowed scores splits) ≡ verdict (recordsTest n (recordsIn count genes) ∷ allowedTest n allowed ∷ [])
+  long-passed :
+      LongEnough (2 ^ n) allowed scores splits
+      → verdict (searchRest n genes count allowed scores splits) ≡ verdict (recordsTest n (recordsIn count genes) ∷ allowedTest n allowed ∷ [])
   unfolding searchRest verdict lengthTest
   long-passed l =
       rw (
@@ -46,7 +48,9 @@ module _ (n : ℕ) (genes : List ℕ) (count : ℕ) (allowed scores splits : Lis
   unfolding searchRest verdict lengthTest
   short-refused f = go (decLe (2 ^ n) (length allowed)) (decLe (2 ^ n) (length scores)) (decLe (2 ^ n) (length splits))
     where
-      go : Dec (2 ^ n ≤ length allowed) → Dec (2 ^ n ≤ length scores) → Dec (2 ^ n ≤ length splits) → verdict (searchRest n genes count allowed scores splits) ≡ said 12 0
+      go :
+          Dec (2 ^ n ≤ length allowed) → Dec (2 ^ n ≤ length scores) → Dec (2 ^ n ≤ length splits)
+          → verdict (searchRest n genes count allowed scores splits) ≡ said 12 0
       go (no a) b c = rw (lt-ltb (length allowed) (2 ^ n) (omega arith))
       go (yes a) (no b) c = rw (le-ltb (length allowed) (2 ^ n) a, lt-ltb (length scores) (2 ^ n) (omega arith))
       go (yes a) (yes b) (no c) = rw (le-ltb (length allowed) (2 ^ n) a, le-ltb (length scores) (2 ^ n) b, lt-ltb (length splits) (2 ^ n) (omega arith))
@@ -64,7 +68,9 @@ module _ (n : ℕ) (allowed : List ℕ) {strange : ℕ} (found : strange ≡ fir
   bytes-passed l = rw (le-ltb (firstStrange n allowed) (2 ^ n) (omega arith))
 
 -- what the code looks for is the definition's first strange byte
-pub strange-is : (n : ℕ) (allowed : List ℕ) {entries strange : ℕ} → entries ≡ 2 ^ n → strange ≡ least (λ a. not (leb (getD allowed a 0) 1)) 0 entries → strange ≡ firstStrange n allowed
+pub strange-is :
+    (n : ℕ) (allowed : List ℕ) {entries strange : ℕ} → entries ≡ 2 ^ n → strange ≡ least (λ a. not (leb (getD allowed a 0) 1)) 0 entries
+    → strange ≡ firstStrange n allowed
 unfolding firstStrange
 strange-is n allowed p e = e ∙ ap (least (λ a. not (leb (getD allowed a 0) 1)) 0) p
 
@@ -113,7 +119,9 @@ module _ (n : ℕ) (genes : List ℕ) (count : ℕ) (allowed scores splits : Lis
       kept zero f entry lent = absurd (f refl)
       kept (suc k) f entry lent = refl
 
-  pub finds-shape : {number : ℕ} → verdict (shapeTests n genes count) ≡ said number 0 → (number ≡ 0 → ⊥) → r ≡ without number 0 → scoresAfter ≡ scores → splitsAfter ≡ splits
+  pub finds-shape :
+      {number : ℕ} → verdict (shapeTests n genes count) ≡ said number 0 → (number ≡ 0 → ⊥)
+      → r ≡ without number 0 → scoresAfter ≡ scores → splitsAfter ≡ splits
       → Finds n genes count allowed scores splits r scoresAfter splitsAfter
   unfolding searchTests shapeTests searchRest
   finds-shape e f p q s = finds-refused (verdict-first (shapeTests n genes count) (searchRest n genes count allowed scores splits) e f) f p q s
@@ -128,18 +136,28 @@ module _ (n : ℕ) (genes : List ℕ) (count : ℕ) (allowed scores splits : Lis
       pub finds-bad : bad < count → r ≡ without 15 bad → scoresAfter ≡ scores → splitsAfter ≡ splits
           → Finds n genes count allowed scores splits r scoresAfter splitsAfter
       finds-bad l p q s =
-          finds-refused (long-told n genes count allowed scores splits shaped long ∙ record-refused n genes count (allowedTest n allowed ∷ []) found l) (λ z. omega arith) p q s
+          finds-refused
+          (long-told n genes count allowed scores splits shaped long ∙ record-refused n genes count (allowedTest n allowed ∷ []) found l)
+          (λ z. omega arith) p q s
 
-      pub finds-strange : {strange : ℕ} → count ≤ bad → strange ≡ firstStrange n allowed → strange < 2 ^ n → r ≡ without 13 strange → scoresAfter ≡ scores → splitsAfter ≡ splits
+      pub finds-strange :
+          {strange : ℕ} → count ≤ bad → strange ≡ firstStrange n allowed → strange < 2 ^ n
+          → r ≡ without 13 strange → scoresAfter ≡ scores → splitsAfter ≡ splits
           → Finds n genes count allowed scores splits r scoresAfter splitsAfter
       finds-strange l e m p q s =
           finds-refused
-          (long-told n genes count allowed scores splits shaped long ∙ records-passed n genes count (allowedTest n allowed ∷ []) found l ∙ byte-refused n allowed e m)
+          (long-told n genes count allowed scores splits shaped long
+          ∙ records-passed n genes count (allowedTest n allowed ∷ []) found l
+          ∙ byte-refused n allowed e m)
           (λ z. omega arith) p q s
 
       pub finds-solved : {strange : ℕ} → count ≤ bad → strange ≡ firstStrange n allowed → 2 ^ n ≤ strange
           → Solves n (recordsIn count genes) allowed scores splits r scoresAfter splitsAfter
           → Finds n genes count allowed scores splits r scoresAfter splitsAfter
       finds-solved l e m s =
-          let told = long-told n genes count allowed scores splits shaped long ∙ records-passed n genes count (allowedTest n allowed ∷ []) found l ∙ bytes-passed n allowed e m in
+          let told =
+          long-told n genes count allowed scores splits shaped long
+          ∙ records-passed n genes count (allowedTest n allowed ∷ []) found l
+          ∙ bytes-passed n allowed e m
+          in
           record { reply = s .reply ∙ rw told; scoreTable = s .scoreTable ∙ rw told; splitTable = s .splitTable ∙ rw told }

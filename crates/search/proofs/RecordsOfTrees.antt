@@ -45,26 +45,34 @@ tree-binary {a} {t} v = ap (λ n. n + 1) (count-record (clustersIn t)) ∙ tree-
 -- ---- the clusters of a binary tree determine it
 
 -- a cluster of a fork, within its low child and not empty, is one of the low child's
-low-only : {a x : ℕ} {t u : Binary} → LowPart a (root t) → TreeOn (root t) t → TreeOn (a - root t) u → 1 ≤ x → Within x (root t) → Among x (clustersIn (fork a t u)) → Among x (clustersIn t)
+low-only :
+    {a x : ℕ} {t u : Binary} → LowPart a (root t) → TreeOn (root t) t → TreeOn (a - root t) u
+    → 1 ≤ x → Within x (root t) → Among x (clustersIn (fork a t u)) → Among x (clustersIn t)
 low-only {a} {x} {t} {u} p v w s h m = go (among-fork {t = t} {u = u} m)
   where
     go : InFork a t u x → Among x (clustersIn t)
     go (at-root e) = absurd (let l = p .less in omega (arith, within-le h))
     go (in-low k) = k
     go (in-other k) =
-        absurd (let e = within-apart (a - root t) (tree-inside w x k .1) (apart-within x (root t) (a - root t) h (minus-apart a (root t) (p .inside))) in omega arith)
+        let apart = apart-within x (root t) (a - root t) h (minus-apart a (root t) (p .inside)) in
+        absurd (let e = within-apart (a - root t) (tree-inside w x k .1) apart in omega arith)
 
-other-only : {a x : ℕ} {t u : Binary} → LowPart a (root t) → TreeOn (root t) t → TreeOn (a - root t) u → 1 ≤ x → Within x (a - root t) → Among x (clustersIn (fork a t u)) → Among x (clustersIn u)
+other-only :
+    {a x : ℕ} {t u : Binary} → LowPart a (root t) → TreeOn (root t) t → TreeOn (a - root t) u
+    → 1 ≤ x → Within x (a - root t) → Among x (clustersIn (fork a t u)) → Among x (clustersIn u)
 other-only {a} {x} {t} {u} p v w s h m = go (among-fork {t = t} {u = u} m)
   where
     go : InFork a t u x → Among x (clustersIn u)
     go (at-root e) = absurd (omega (arith, low-some p, p .less, within-le h))
     go (in-low k) =
-        absurd (let e = within-apart (a - root t) h (apart-within x (root t) (a - root t) (tree-inside v x k .1) (minus-apart a (root t) (p .inside))) in omega arith)
+        let apart = apart-within x (root t) (a - root t) (tree-inside v x k .1) (minus-apart a (root t) (p .inside)) in
+        absurd (let e = within-apart (a - root t) h apart in omega arith)
     go (in-other k) = k
 
 -- a low part among the clusters of a fork lies within its low child
-low-within-low : {a l : ℕ} {t u : Binary} → LowPart a l → LowPart a (root t) → TreeOn (root t) t → TreeOn (a - root t) u → Among l (clustersIn (fork a t u)) → Within l (root t)
+low-within-low :
+    {a l : ℕ} {t u : Binary} → LowPart a l → LowPart a (root t) → TreeOn (root t) t → TreeOn (a - root t) u
+    → Among l (clustersIn (fork a t u)) → Within l (root t)
 low-within-low {a} {l} {t} {u} q p v w m = go (among-fork {t = t} {u = u} m)
   where
     go : InFork a t u l → Within l (root t)
@@ -94,8 +102,11 @@ same-clusters-same-tree {a} (two {t = t} {u = u} p v w) (two {t = t′} {u = u�
     roots =
         within-antisym (low-within-low p p′ v′ w′ (g (root t) (low-among a u v))) (low-within-low p′ p v w (h (root t′) (low-among a u′ v′)))
 
-    go : (TreeOn (root t) t′ → ((x : ℕ) → Among x (clustersIn t) → Among x (clustersIn t′)) → ((x : ℕ) → Among x (clustersIn t′) → Among x (clustersIn t)) → t ≡ t′)
-        → (TreeOn (a - root t) u′ → ((x : ℕ) → Among x (clustersIn u) → Among x (clustersIn u′)) → ((x : ℕ) → Among x (clustersIn u′) → Among x (clustersIn u)) → u ≡ u′)
+    go :
+        (TreeOn (root t) t′ → ((x : ℕ) → Among x (clustersIn t) → Among x (clustersIn t′))
+        → ((x : ℕ) → Among x (clustersIn t′) → Among x (clustersIn t)) → t ≡ t′)
+        → (TreeOn (a - root t) u′ → ((x : ℕ) → Among x (clustersIn u) → Among x (clustersIn u′))
+        → ((x : ℕ) → Among x (clustersIn u′) → Among x (clustersIn u)) → u ≡ u′)
         → fork a t u ≡ fork a t′ u′
     go low other =
         ap₂ (fork a)

@@ -102,7 +102,9 @@ module _ {n : ℕ} {genes : List ℕ} {count : ℕ} {allowed scores splits : Lis
           light = λ b l. omega (arith, holds-weights b l, weights-light b);
         }
 
-    pub tabled : {scores′ splits′ : List ℕ} → Fills n allowed weights splits scores′ splits′ → Tabled n (recordsIn count genes) allowed scores splits scores′ splits′
+    pub tabled :
+        {scores′ splits′ : List ℕ} → Fills n allowed weights splits scores′ splits′
+        → Tabled n (recordsIn count genes) allowed scores splits scores′ splits′
     unfolding bestFor
     tabled {scores′} {splits′} fills =
         let both = fills (weight (recordsIn count genes)) weights-light holds-weights in
@@ -119,86 +121,89 @@ module _ {n : ℕ} {genes : List ℕ} {count : ℕ} {allowed scores splits : Lis
 
 -- ---- the answer
 
-module _ {n : ℕ} {genes : List (List ℕ)} {allowed lentScores lentSplits scores splits : List ℕ} (h : Tabled n genes allowed lentScores lentSplits scores splits) where
-  score-at : (b : ℕ) → b < 2 ^ n → getD scores b 0 ≡ scoreEntry (weight genes) (best (weight genes) (allowedIn n allowed) b)
-  unfolding bestFor
-  score-at b l =
-      let entry : ℕ → ℕ = λ a. scoreEntry (weight genes) (best (weight genes) (allowedIn n allowed) a) in
-      ap (λ t. getD t b 0) (h .scoreTable ∙ sym (written-entries entry (2 ^ n) lentScores)) ∙ written-at entry (2 ^ n) lentScores b l
-
-  split-at : (b : ℕ) → b < 2 ^ n → getD splits b 0 ≡ splitEntry (best (weight genes) (allowedIn n allowed) b)
-  unfolding bestFor
-  split-at b l =
-      let entry : ℕ → ℕ = λ a. splitEntry (best (weight genes) (allowedIn n allowed) a) in
-      ap (λ t. getD t b 0) (h .splitTable ∙ sym (written-entries entry (2 ^ n) lentSplits)) ∙ written-at entry (2 ^ n) lentSplits b l
-
-  module _ (few : n ≤ 16) {all : ℕ} (is : all ≡ whole n) where
-    score-all : getD scores all 0 ≡ scoreEntry (weight genes) (best (weight genes) (allowedIn n allowed) (whole n))
-    score-all = ap (λ b. getD scores b 0) is ∙ score-at (whole n) (whole-below n)
-
-    not-marked : (t : Binary) → best (weight genes) (allowedIn n allowed) (whole n) ≡ some t → getD scores all 0 ≡ noTree → ⊥
-    not-marked t e m =
-        omega (arith, score-all, ap (scoreEntry (weight genes)) e, score-bound (h .light) (best-on (weight genes) (allowedIn n allowed) (whole n) t e), size-whole n)
-
-    -- the mark stands there where there is no tree
-    no-best : getD scores all 0 ≡ noTree → best (weight genes) (allowedIn n allowed) (whole n) ≡ none
-    no-best m = go (best (weight genes) (allowedIn n allowed) (whole n)) refl
-      where
-        go : (o : Option Binary) → best (weight genes) (allowedIn n allowed) (whole n) ≡ o → o ≡ none
-        go none e = refl
-        go (some t) e = absurd (not-marked t e m)
-
-    pub solves-none : {r : Found} → getD scores all 0 ≡ noTree → r ≡ without 14 0 → Solves n genes allowed lentScores lentSplits r scores splits
+module _
+    {n : ℕ} {genes : List (List ℕ)} {allowed lentScores lentSplits scores splits : List ℕ}
+    (h : Tabled n genes allowed lentScores lentSplits scores splits)
+  where
+    score-at : (b : ℕ) → b < 2 ^ n → getD scores b 0 ≡ scoreEntry (weight genes) (best (weight genes) (allowedIn n allowed) b)
     unfolding bestFor
-    solves-none m e =
-        record {
-          reply = e ∙ sym (ap (λ o. foundBy o genes) (no-best m));
-          scoreTable = h .scoreTable;
-          splitTable = h .splitTable;
-        }
+    score-at b l =
+        let entry : ℕ → ℕ = λ a. scoreEntry (weight genes) (best (weight genes) (allowedIn n allowed) a) in
+        ap (λ t. getD t b 0) (h .scoreTable ∙ sym (written-entries entry (2 ^ n) lentScores)) ∙ written-at entry (2 ^ n) lentScores b l
 
-    -- a tree on all species, where there is one
-    record Best : Type 0 where
-      tree : Binary
-      chosen-best : best (weight genes) (allowedIn n allowed) (whole n) ≡ some tree
-
-    a-best : (getD scores all 0 ≡ noTree → ⊥) → Best
-    a-best f = go (best (weight genes) (allowedIn n allowed) (whole n)) refl
-      where
-        go : (o : Option Binary) → best (weight genes) (allowedIn n allowed) (whole n) ≡ o → Best
-        go none e = absurd (f (score-all ∙ ap (scoreEntry (weight genes)) e))
-        go (some t) e = record { tree = t; chosen-best = e }
-
-    led-down : (b : Best) → (root (b .tree) ≡ all) × Chosen splits (b .tree)
-    led-down b = (
-      tree-root (best-on (weight genes) (allowedIn n allowed) (whole n) (b .tree) (b .chosen-best)) ∙ sym is,
-      best-chosen (weight genes) (allowedIn n allowed) splits (2 ^ n) split-at (b .tree) (whole n) (whole-below n) (b .chosen-best),
-    )
-
-    pub solves-chooses : (getD scores all 0 ≡ noTree → ⊥) → Chooses splits all 31
-    solves-chooses f =
-        let b = a-best f in
-        let led = led-down b in
-        record {
-          tree = b .tree;
-          rooted = led .0;
-          chosen = led .1;
-          fits = omega (arith, tree-clusters (best-on (weight genes) (allowedIn n allowed) (whole n) (b .tree) (b .chosen-best)), size-whole n);
-        }
-
-    pub solves-found : {r : Found} {score : ℕ} → (getD scores all 0 ≡ noTree → ⊥) → score ≡ getD scores all 0
-        → ((t : Binary) → root t ≡ all → Chosen splits t → r ≡ record { number = 0; place = 0; score = score; numbers = recordOf (clustersIn t) })
-        → Solves n genes allowed lentScores lentSplits r scores splits
+    split-at : (b : ℕ) → b < 2 ^ n → getD splits b 0 ≡ splitEntry (best (weight genes) (allowedIn n allowed) b)
     unfolding bestFor
-    solves-found {r} {score} f e g =
-        let b = a-best f in
-        let led = led-down b in
-        let points : score ≡ scoreOf (weight genes) (b .tree) = e ∙ score-all ∙ ap (scoreEntry (weight genes)) (b .chosen-best) in
-        record {
-          reply =
-              g (b .tree) (led .0) (led .1)
-              ∙ ap (λ k. record { number = 0; place = 0; score = k; numbers = recordOf (clustersIn (b .tree)) }) points
-              ∙ sym (ap (λ o. foundBy o genes) (b .chosen-best));
-          scoreTable = h .scoreTable;
-          splitTable = h .splitTable;
-        }
+    split-at b l =
+        let entry : ℕ → ℕ = λ a. splitEntry (best (weight genes) (allowedIn n allowed) a) in
+        ap (λ t. getD t b 0) (h .splitTable ∙ sym (written-entries entry (2 ^ n) lentSplits)) ∙ written-at entry (2 ^ n) lentSplits b l
+
+    module _ (few : n ≤ 16) {all : ℕ} (is : all ≡ whole n) where
+      score-all : getD scores all 0 ≡ scoreEntry (weight genes) (best (weight genes) (allowedIn n allowed) (whole n))
+      score-all = ap (λ b. getD scores b 0) is ∙ score-at (whole n) (whole-below n)
+
+      not-marked : (t : Binary) → best (weight genes) (allowedIn n allowed) (whole n) ≡ some t → getD scores all 0 ≡ noTree → ⊥
+      not-marked t e m =
+          omega (arith, score-all, ap (scoreEntry (weight genes)) e, score-bound (h .light) (best-on (weight genes) (allowedIn n allowed) (whole n) t e), size-whole n)
+
+      -- the mark stands there where there is no tree
+      no-best : getD scores all 0 ≡ noTree → best (weight genes) (allowedIn n allowed) (whole n) ≡ none
+      no-best m = go (best (weight genes) (allowedIn n allowed) (whole n)) refl
+        where
+          go : (o : Option Binary) → best (weight genes) (allowedIn n allowed) (whole n) ≡ o → o ≡ none
+          go none e = refl
+          go (some t) e = absurd (not-marked t e m)
+
+      pub solves-none : {r : Found} → getD scores all 0 ≡ noTree → r ≡ without 14 0 → Solves n genes allowed lentScores lentSplits r scores splits
+      unfolding bestFor
+      solves-none m e =
+          record {
+            reply = e ∙ sym (ap (λ o. foundBy o genes) (no-best m));
+            scoreTable = h .scoreTable;
+            splitTable = h .splitTable;
+          }
+
+      -- a tree on all species, where there is one
+      record Best : Type 0 where
+        tree : Binary
+        chosen-best : best (weight genes) (allowedIn n allowed) (whole n) ≡ some tree
+
+      a-best : (getD scores all 0 ≡ noTree → ⊥) → Best
+      a-best f = go (best (weight genes) (allowedIn n allowed) (whole n)) refl
+        where
+          go : (o : Option Binary) → best (weight genes) (allowedIn n allowed) (whole n) ≡ o → Best
+          go none e = absurd (f (score-all ∙ ap (scoreEntry (weight genes)) e))
+          go (some t) e = record { tree = t; chosen-best = e }
+
+      led-down : (b : Best) → (root (b .tree) ≡ all) × Chosen splits (b .tree)
+      led-down b = (
+        tree-root (best-on (weight genes) (allowedIn n allowed) (whole n) (b .tree) (b .chosen-best)) ∙ sym is,
+        best-chosen (weight genes) (allowedIn n allowed) splits (2 ^ n) split-at (b .tree) (whole n) (whole-below n) (b .chosen-best),
+      )
+
+      pub solves-chooses : (getD scores all 0 ≡ noTree → ⊥) → Chooses splits all 31
+      solves-chooses f =
+          let b = a-best f in
+          let led = led-down b in
+          record {
+            tree = b .tree;
+            rooted = led .0;
+            chosen = led .1;
+            fits = omega (arith, tree-clusters (best-on (weight genes) (allowedIn n allowed) (whole n) (b .tree) (b .chosen-best)), size-whole n);
+          }
+
+      pub solves-found : {r : Found} {score : ℕ} → (getD scores all 0 ≡ noTree → ⊥) → score ≡ getD scores all 0
+          → ((t : Binary) → root t ≡ all → Chosen splits t → r ≡ record { number = 0; place = 0; score = score; numbers = recordOf (clustersIn t) })
+          → Solves n genes allowed lentScores lentSplits r scores splits
+      unfolding bestFor
+      solves-found {r} {score} f e g =
+          let b = a-best f in
+          let led = led-down b in
+          let points : score ≡ scoreOf (weight genes) (b .tree) = e ∙ score-all ∙ ap (scoreEntry (weight genes)) (b .chosen-best) in
+          record {
+            reply =
+                g (b .tree) (led .0) (led .1)
+                ∙ ap (λ k. record { number = 0; place = 0; score = k; numbers = recordOf (clustersIn (b .tree)) }) points
+                ∙ sym (ap (λ o. foundBy o genes) (b .chosen-best));
+            scoreTable = h .scoreTable;
+            splitTable = h .splitTable;
+          }

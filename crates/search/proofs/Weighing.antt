@@ -55,12 +55,17 @@ weight-more (suc i) genes a =
     let places : 32 + 32 * i ≡ 32 * suc i = omega arith in
     let further : extra (take 32 (drop (32 * i) (drop 32 genes))) a ≡ extra (take 32 (drop (32 * suc i) genes)) a =
     ap (λ l. extra (take 32 l) a) (drop-drop (32 * i) 32 genes ∙ ap (λ k. drop k genes) places) in
-    omega (arith, weight-cons (take 32 genes) (recordsIn (suc i) (drop 32 genes)) a, weight-cons (take 32 genes) (recordsIn i (drop 32 genes)) a, weight-more i (drop 32 genes) a)
+    let g = take 32 genes in
+    let rest = drop 32 genes in
+    omega (arith, weight-cons g (recordsIn (suc i) rest) a, weight-cons g (recordsIn i rest) a, weight-more i rest a)
 
 zeros : (n : ℕ) → replicate {A = ℕ} n 0 ≡ map (λ b. 0) (upTo n)
 unfolding upTo
 zeros zero = refl
-zeros (suc n) = ap (λ k. replicate {A = ℕ} k 0) (sym (add-one n)) ∙ sym (replicate-append-replicate {A = ℕ} n 1 0) ∙ ap (λ l. l ++ (0 ∷ [])) (zeros n) ∙ sym (map-append (λ b. 0) (upTo n) (n ∷ []))
+zeros (suc n) =
+    ap (λ k. replicate {A = ℕ} k 0) (sym (add-one n)) ∙ sym (replicate-append-replicate {A = ℕ} n 1 0)
+    ∙ ap (λ l. l ++ (0 ∷ [])) (zeros n)
+    ∙ sym (map-append (λ b. 0) (upTo n) (n ∷ []))
 
 -- ---- the weights of the first i gene trees
 
@@ -69,7 +74,9 @@ pub record WeighedBy (genes : List ℕ) (count entries : ℕ) (cleared weights :
   pub done : weights ≡ written (λ b. weight (recordsIn i genes) b) entries cleared
   pub small : (b : ℕ) → weight (recordsIn i genes) b ≤ 31 * i
 
-pub weighed-start : (genes : List ℕ) (count entries : ℕ) (lent : List ℕ) {cleared : List ℕ} → cleared ≡ replicate entries 0 ++ drop entries lent → WeighedBy genes count entries cleared cleared 0
+pub weighed-start :
+    (genes : List ℕ) (count entries : ℕ) (lent : List ℕ) {cleared : List ℕ} → cleared ≡ replicate entries 0 ++ drop entries lent
+    → WeighedBy genes count entries cleared cleared 0
 unfolding pieces
 weighed-start genes count entries lent {cleared} e =
     record {
@@ -101,7 +108,8 @@ module _ {genes : List ℕ} {count entries : ℕ} {cleared weights : List ℕ} {
         place = omega arith;
         done =
             e ∙ sym (written-entries (λ a. getD weights a 0 + extra g a) entries weights)
-            ∙ written-same (λ a. getD weights a 0 + extra g a) (λ b. weight (recordsIn (i + 1) genes) b) entries weights (λ b k. ap (λ n. n + extra g b) (entry-is b k) ∙ sym (more b))
+            ∙ written-same (λ a. getD weights a 0 + extra g a) (λ b. weight (recordsIn (i + 1) genes) b) entries weights
+            (λ b k. ap (λ n. n + extra g b) (entry-is b k) ∙ sym (more b))
             ∙ ap (written (λ b. weight (recordsIn (i + 1) genes) b) entries) (h .done)
             ∙ written-again (λ b. weight (recordsIn (i + 1) genes) b) (λ b. weight (recordsIn i genes) b) entries cleared;
         small = λ b. omega (arith, more b, h .small b, extra-le b can);

@@ -130,7 +130,10 @@ module _ (splits clusters : List ℕ) (a place : ℕ) where
             other .1 ∙ ap₂ (λ l i. sets l i (clustersIn (k .other-tree))) (low .1) (low .0) ∙ together (k .low-tree) (k .other-tree),
           )
         where
-          together : (v u : Binary) → sets (sets (set clusters place a) (place + 1) (clustersIn v)) (place + 1 + length (clustersIn v)) (clustersIn u) ≡ sets clusters place (clustersIn (fork a v u))
+          together :
+              (v u : Binary)
+              → sets (sets (set clusters place a) (place + 1) (clustersIn v)) (place + 1 + length (clustersIn v)) (clustersIn u)
+              ≡ sets clusters place (clustersIn (fork a v u))
           together v u =
               sets-append (set clusters place a) (place + 1) (clustersIn v) (clustersIn u)
               ∙ ap (λ i. sets (set clusters place a) i (clustersIn v ++ clustersIn u)) (add-one place)

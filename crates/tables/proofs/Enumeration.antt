@@ -62,7 +62,9 @@ other-compared a t (inl e) = inl (ap (fork a t) e)
 other-compared a t (inr (inl h)) = inr (inl (by-other-child h))
 other-compared a t (inr (inr h)) = inr (inr (by-other-child h))
 
-low-compared : (a : ℕ) {t t′ : Binary} (u u′ : Binary) → root t ≡ root t′ → Compared t t′ → (t ≡ t′ → Compared u u′) → Compared (fork a t u) (fork a t′ u′)
+low-compared :
+    (a : ℕ) {t t′ : Binary} (u u′ : Binary) → root t ≡ root t′ → Compared t t′ → (t ≡ t′ → Compared u u′)
+    → Compared (fork a t u) (fork a t′ u′)
 low-compared a {t} {t′} u u′ r (inl e) f = subst (λ v. Compared (fork a t u) (fork a v u′)) e (other-compared a t (f e))
 low-compared a u u′ r (inr (inl h)) f = inr (inl (by-low-child r h))
 low-compared a u u′ r (inr (inr h)) f = inr (inr (by-low-child (sym r) h))

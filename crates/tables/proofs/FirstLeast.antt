@@ -159,7 +159,9 @@ module _ {A : Type 0} (s : Binary → ℕ) (f : A → Option Binary) where
   pickAll-least [] t e x m u p = absurd (List·Memᴰ·not-nil m)
   pickAll-least (y ∷ l) t e x m u p = go (List·Memᴰ·cases-cons m) (pickAll s f l) refl (λ v q k. pickAll-least l v q x k u p)
     where
-      go : (x ≡ y) ⊎ List·Memᴰ x l → (o : Option Binary) → pickAll s f l ≡ o → ((v : Binary) → pickAll s f l ≡ some v → List·Memᴰ x l → s v ≤ s u) → s t ≤ s u
+      go :
+          (x ≡ y) ⊎ List·Memᴰ x l → (o : Option Binary) → pickAll s f l ≡ o
+          → ((v : Binary) → pickAll s f l ≡ some v → List·Memᴰ x l → s v ≤ s u) → s t ≤ s u
       go (inl q) o r ih = pick-least s (f y) (pickAll s f l) t u e (inl (sym (ap f q) ∙ p))
       go (inr k) none r ih = absurd (let n = pickAll-missed l r x k in let z : _≡_ {A = ℕ} 0 1 = cc in omega arith)
       go (inr k) (some v) r ih = let h = pick-least s (f y) (pickAll s f l) t v e (inr r) in let j = ih v r k in omega arith

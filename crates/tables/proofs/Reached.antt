@@ -34,7 +34,9 @@ past-whole n a l = omega arith
 
 -- ---- an entry of the score table is the mark, or far below it
 
-entry-small : (w : ℕ → ℕ) (ok : ℕ → Bool) (b : ℕ) → Light w → b < 65536 → (o : Option Binary) → best w ok b ≡ o → (scoreEntry w o ≡ noTree) ⊎ (scoreEntry w o < 8388608)
+entry-small :
+    (w : ℕ → ℕ) (ok : ℕ → Bool) (b : ℕ) → Light w → b < 65536 → (o : Option Binary) → best w ok b ≡ o
+    → (scoreEntry w o ≡ noTree) ⊎ (scoreEntry w o < 8388608)
 entry-small w ok b light l none e = inl refl
 entry-small w ok b light l (some t) e = inr (omega (arith, score-bound light (best-on w ok b t e), size-le 16 l))
 

@@ -427,7 +427,9 @@ module _ (w : ℕ → ℕ) (ok : ℕ → Bool) where
       go true p = refl
       go false p = absurd (let k = best-refused w ok a p in let z : _≡_ {A = ℕ} 0 1 = cc in omega arith)
 
-  fork-parts : (a l : ℕ) (t : Binary) → LowPart a l → best w ok a ≡ some t → (x y : Option Binary) → best w ok l ≡ x → best w ok (a - l) ≡ y → joined a x y ≡ some t
+  fork-parts :
+      (a l : ℕ) (t : Binary) → LowPart a l → best w ok a ≡ some t
+      → (x y : Option Binary) → best w ok l ≡ x → best w ok (a - l) ≡ y → joined a x y ≡ some t
       → BestFork a (splitEntry (best w ok a))
   fork-parts a l t p e none y q r k = absurd (let z : _≡_ {A = ℕ} 0 1 = cc in omega arith)
   fork-parts a l t p e (some v) none q r k = absurd (let z : _≡_ {A = ℕ} 0 1 = cc in omega arith)

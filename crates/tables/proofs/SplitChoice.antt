@@ -59,7 +59,9 @@ pub record Same (s : Split) (c : Choice) : Type 0 where
 
 same-better : (e : ℕ → ℕ) (a l : ℕ) {s : Split} {c : Choice} → Same s c → Same (betterSplit (e l) (e (a - l)) l s) (consider e a l c)
 unfolding betterSplit consider
-same-better e a l {s} {c} h = go (eqb (e l) noTree || eqb (e (a - l)) noTree) (leb (e l + e (a - l)) (s .score)) (leb (e l + e (a - l)) (c .score)) (ap (leb (e l + e (a - l))) (h .score))
+same-better e a l {s} {c} h =
+    go (eqb (e l) noTree || eqb (e (a - l)) noTree) (leb (e l + e (a - l)) (s .score)) (leb (e l + e (a - l)) (c .score))
+    (ap (leb (e l + e (a - l))) (h .score))
   where
     go : (b d f : Bool) → d ≡ f → Same (splitUnless b s (lesserSplit d (e l + e (a - l)) l s)) (unless b c (lesser f (e l + e (a - l)) l c))
     go true d f p = h
@@ -68,7 +70,9 @@ same-better e a l {s} {c} h = go (eqb (e l) noTree || eqb (e (a - l)) noTree) (l
     go false false true p = absurd (let z : _≡_ {A = ℕ} 0 1 = cc in omega arith)
     go false false false p = h
 
-small-better : (x y a low : ℕ) {s : Split} → low ≤ a → (x ≡ noTree) ⊎ (x < 8388608) → (y ≡ noTree) ⊎ (y < 8388608) → Small a s → Small a (betterSplit x y low s)
+small-better :
+    (x y a low : ℕ) {s : Split} → low ≤ a → (x ≡ noTree) ⊎ (x < 8388608) → (y ≡ noTree) ⊎ (y < 8388608) → Small a s
+    → Small a (betterSplit x y low s)
 small-better x y a low {s} l (inl e) q h = subst (Small a) (sym (better-no-low x y low s e)) h
 small-better x y a low {s} l (inr m) (inl e) h = subst (Small a) (sym (better-no-rest x y low s e)) h
 small-better x y a low {s} l (inr m) (inr k) h = go (decLe (x + y) (s .score))
@@ -128,7 +132,11 @@ visited-next {scores} {a} {low} {rest} {s} {s′} {held} {held′} v below two s
       others = v .others;
       part = rw p (part-and (s - 1) rest);
       same = rw (q, v .lowest-alone, stepped) (same-better e a (single (lowest a) + s′) (v .same));
-      small = rw q (small-better (e (low + s′)) (e (a - (low + s′))) a (low + s′) (omega (arith, less)) (scored (low + s′) less) (scored (a - (low + s′)) (omega (arith, less, low-some part))) (v .small));
+      small =
+          rw q
+          (small-better (e (low + s′)) (e (a - (low + s′))) a (low + s′) (omega (arith, less)) (scored (low + s′) less)
+          (scored (a - (low + s′)) (omega (arith, less, low-some part)))
+          (v .small));
     }
   where
     e : ℕ → ℕ

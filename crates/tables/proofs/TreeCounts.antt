@@ -313,8 +313,12 @@ unfolding treesTo countTo
 length-treesTo zero a h = refl
 length-treesTo (suc k) a h = go (eq-zero-or-pos a) (ℕ-discrete (size a) 1) (λ b l. length-treesTo k b l)
   where
-    go : (a ≡ 0) ⊎ (0 < a) → Dec (size a ≡ 1) → ((b : ℕ) → b < 2 ^ 32 → length (treesTo k b) ≡ countTo k (size b)) → length (treesTo (suc k) a) ≡ countTo (suc k) (size a)
-    go (inl e) d ih = ap (λ b. length (treesTo (suc k) b)) e ∙ ap length (treesTo-zero (suc k)) ∙ sym (ap (λ b. countTo (suc k) (size b)) e ∙ ap (countTo (suc k)) size-zero ∙ countTo-zero (suc k))
+    go :
+        (a ≡ 0) ⊎ (0 < a) → Dec (size a ≡ 1) → ((b : ℕ) → b < 2 ^ 32 → length (treesTo k b) ≡ countTo k (size b))
+        → length (treesTo (suc k) a) ≡ countTo (suc k) (size a)
+    go (inl e) d ih =
+        ap (λ b. length (treesTo (suc k) b)) e ∙ ap length (treesTo-zero (suc k))
+        ∙ sym (ap (λ b. countTo (suc k) (size b)) e ∙ ap (countTo (suc k)) size-zero ∙ countTo-zero (suc k))
     go (inr l) (yes e) ih = ap length (treesTo-single k a e) ∙ sym (countTo-single k (size a) e)
     go (inr l) (no f) ih = length-splits k a l h f ih
 

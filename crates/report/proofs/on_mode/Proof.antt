@@ -1,15 +1,13 @@
 -- The two lines and the trees stand where the program says, and each way gives its outcome.
-use Prim.Native.Nat.{ℕ, _+_, _≤_}
-use mathlib.Core.Path.{sym, ap, _∙_}
-use mathlib.Core.Bool.{true, false}
-use mathlib.Core.List.{List}
+use Prim.Native.Nat.{_+_, _≤_}
+use mathlib.Core.Path.{sym, _∙_}
 use native.Mathlib.Omega.{arith}
 use lib.ListN.{length, take}
 use lib.Seq.{length-take-le}
 use Rattle.roster.specs.Roster.{names}
-use Rattle.report.specs.Input.{firstLine, gather as Input·gather}
-use Rattle.report.specs.Program.{Outcome, onTrees}
-use Rattle.report.specs.Work.{told, Roster}
+use Rattle.report.specs.Input.{firstLine}
+use Rattle.report.specs.Work.{Roster}
+use Rattle.report.proofs.Checks.{retold}
 use Rattle.report.proofs.InputParts.{from, from-length, first-line, first-within, second-within, trees-within, no-first-feed, no-second-feed, all-mode, genes-mode, other-mode}
 use borrow.Author.Needs.{needs}
 use Rattle.report.proofs.on_mode.Statement.{statement}
@@ -21,16 +19,19 @@ fits c = omega (arith, first-within (c .before .before .args .input .now) (c .be
 
 trees-fit :
     (c : tie.Else2)
-    → c .before .before .before .before .before .args .end + 1 + c .before .line-length .result + 1 ≤ length (c .before .before .before .before .before .args .input .now)
-trees-fit c = trees-within (c .before .before .before .before .before .args .input .now) (c .before .before .before .before .before .pre .1 .0) (c .before .before .before .if1 .left) (c .before .line-length .ensures) (c .if2 .left)
+    → c .before .before .before .before .before .args .end + 1 + c .before .line-length .result + 1
+    ≤ length (c .before .before .before .before .before .args .input .now)
+trees-fit c =
+    let start = c .before .before .before .before .before in
+    trees-within (start .args .input .now) (start .pre .1 .0) (c .before .before .before .if1 .left) (c .before .line-length .ensures) (c .if2 .left)
 
 -- what the trees are asked with
 asked :
     (c : tie.Else2)
-    → Roster (take (c .before .before .before .before .before .args .end) (c .before .before .before .before .before .args .input .now)) (c .before .before .before .before .before .args .n)
-    × (c .before .before .before .before .before .args .end + 1 + c .before .line-length .result + 1
-    + length (from (c .before .before .before .before .before .args .end + 1 + c .before .line-length .result + 1) (c .before .before .before .before .before .args .input .now))
-    ≤ 65536)
+    → let start = c .before .before .before .before .before in
+    let place = start .args .end + 1 + c .before .line-length .result + 1 in
+    Roster (take (start .args .end) (start .args .input .now)) (start .args .n)
+    × (place + length (from place (start .args .input .now)) ≤ 65536)
 asked c =
     let start = c .before .before .before .before .before in
     let place = start .args .end + 1 + c .before .line-length .result + 1 in (
@@ -45,7 +46,7 @@ returns : tie.Need-returns
 returns c =
     let start = c .before .before .before in
     let ns = names (firstLine (start .args .input .now)) in
-    c .refusal .ensures ns ∙ ap (λ (o : Outcome). told ns o) (no-first-feed (start .args .input .now) (start .pre .1 .0) (c .before .if1 .taken))
+    retold ns (no-first-feed (start .args .input .now) (start .pre .1 .0) (c .before .if1 .taken)) (c .refusal .ensures ns)
 
 add-mode : tie.Need-add-mode
 add-mode c = omega (arith, fits c)
@@ -67,12 +68,17 @@ refusal-requires-2 c κs = search needs
 
 returns-2 : tie.Need-returns-2
 returns-2 c =
-    let start = c .before .before .before .before .before .before in
+    let read = c .before .before in
+    let start = read .before .before .before .before in
     let ns = names (firstLine (start .args .input .now)) in
-    c .refusal2 .ensures ns ∙ ap (λ (o : Outcome). told ns o) (no-second-feed (start .args .input .now) (start .pre .1 .0) (c .before .before .before .before .if1 .left) (c .before .before .line-length .ensures) (c .before .if2 .taken))
+    retold ns
+    (no-second-feed (start .args .input .now) (start .pre .1 .0) (read .before .before .if1 .left) (read .line-length .ensures) (c .before .if2 .taken))
+    (c .refusal2 .ensures ns)
 
 slice-aggregate-line : tie.Need-slice-aggregate-line
-slice-aggregate-line c = sym (length-take-le (c .before .before .before .before .before .before .args .end) (c .before .before .before .before .before .before .args .input .now) (first-within (c .before .before .before .before .before .before .args .input .now) (c .before .before .before .before .before .before .pre .1 .0)))
+slice-aggregate-line c =
+    let start = c .before .before .before .before .before .before in
+    sym (length-take-le (start .args .end) (start .args .input .now) (first-within (start .args .input .now) (start .pre .1 .0)))
 
 add-trees : tie.Need-add-trees
 add-trees c = omega (arith, trees-fit (c .before))
@@ -82,10 +88,11 @@ add-trees-2 c = omega (arith, trees-fit (c .before))
 
 slice-aggregate-word : tie.Need-slice-aggregate-word
 slice-aggregate-word c =
-    let start = c .before .before .before .before .before .before .before in
+    let read = c .before .before .before in
+    let start = read .before .before .before .before in
     let rest = from (start .args .end + 1) (start .args .input .now) in
-    sym (length-take-le (c .before .before .before .line-length .result) rest
-    (omega (arith, second-within (start .args .input .now) (start .pre .1 .0) (c .before .before .before .before .before .if1 .left) (c .before .before .before .line-length .ensures), from-length (start .args .end + 1) (start .args .input .now))))
+    let within = second-within (start .args .input .now) (start .pre .1 .0) (read .before .before .if1 .left) (read .line-length .ensures) in
+    sym (length-take-le (read .line-length .result) rest (omega (arith, within, from-length (start .args .end + 1) (start .args .input .now))))
 
 slice-aggregate-is-word : tie.Need-slice-aggregate-is-word
 slice-aggregate-is-word c = search needs
@@ -107,9 +114,13 @@ on-trees-requires c κs = asked (c .before .before .before .before .before .befo
 
 returns-3 : tie.Need-returns-3
 returns-3 c =
-    let start = c .before .before .before .before .before .before .before .before .before .before .before .before in
-    let ns = names (firstLine (start .args .input .now)) in
-    (c .on-trees .ensures ∙ ap (λ (line : List ℕ). told (names line) (onTrees (Input·gather (take (start .args .end) (start .args .input .now)) (from (start .args .end + 1 + c .before .before .before .before .before .before .before .before .line-length .result + 1) (start .args .input .now))) (start .args .end + 1 + c .before .before .before .before .before .before .before .before .line-length .result + 1) true (start .args .n))) (first-line (start .args .input .now) (start .pre .1 .0))) ∙ ap (λ (o : Outcome). told ns o) (all-mode (start .args .input .now) (start .pre .1 .0) (c .before .before .before .before .before .before .before .before .before .before .if1 .left) (c .before .before .before .before .before .before .before .before .line-length .ensures) (c .before .before .before .before .before .before .before .if2 .left) (start .pre .1 .1 .named) (sym (c .before .before .before .is-word .ensures) ∙ c .before .before .if3 .taken))
+    let trees = c .before .before .before .before .before .before .before in
+    let read = trees .before in
+    let start = read .before .before .before .before in
+    all-mode (start .args .input .now) (start .pre .1 .0) (read .before .before .if1 .left) (read .line-length .ensures) (trees .if2 .left)
+    (start .pre .1 .1 .named)
+    (sym (c .before .before .before .is-word .ensures) ∙ c .before .before .if3 .taken)
+    (c .on-trees .ensures)
 
 slice-aggregate-is-word-2 : tie.Need-slice-aggregate-is-word-2
 slice-aggregate-is-word-2 c = search needs
@@ -131,18 +142,31 @@ on-trees-requires-2 c κs = asked (c .before .before .before .before .before .be
 
 returns-4 : tie.Need-returns-4
 returns-4 c =
-    let start = c .before .before .before .before .before .before .before .before .before .before .before .before .before .before .before in
-    let ns = names (firstLine (start .args .input .now)) in
-    (c .on-trees2 .ensures ∙ ap (λ (line : List ℕ). told (names line) (onTrees (Input·gather (take (start .args .end) (start .args .input .now)) (from (start .args .end + 1 + c .before .before .before .before .before .before .before .before .before .before .before .line-length .result + 1) (start .args .input .now))) (start .args .end + 1 + c .before .before .before .before .before .before .before .before .before .before .before .line-length .result + 1) false (start .args .n))) (first-line (start .args .input .now) (start .pre .1 .0))) ∙ ap (λ (o : Outcome). told ns o) (genes-mode (start .args .input .now) (start .pre .1 .0) (c .before .before .before .before .before .before .before .before .before .before .before .before .before .if1 .left) (c .before .before .before .before .before .before .before .before .before .before .before .line-length .ensures) (c .before .before .before .before .before .before .before .before .before .before .if2 .left) (start .pre .1 .1 .named) (sym (c .before .before .before .before .before .before .is-word .ensures) ∙ c .before .before .before .before .before .if3 .left) (sym (c .before .before .before .is-word2 .ensures) ∙ c .before .before .if4 .taken))
+    let all = c .before .before .before .before .before in
+    let trees = all .before .before .before .before .before in
+    let read = trees .before in
+    let start = read .before .before .before .before in
+    genes-mode (start .args .input .now) (start .pre .1 .0) (read .before .before .if1 .left) (read .line-length .ensures) (trees .if2 .left)
+    (start .pre .1 .1 .named)
+    (sym (all .before .is-word .ensures) ∙ all .if3 .left)
+    (sym (c .before .before .before .is-word2 .ensures) ∙ c .before .before .if4 .taken)
+    (c .on-trees2 .ensures)
 
 refusal-requires-3 : tie.Need-refusal-requires-3
 refusal-requires-3 c κs = search needs
 
 returns-5 : tie.Need-returns-5
 returns-5 c =
-    let start = c .before .before .before .before .before .before .before .before .before .before .before .before .before .before in
+    let all = c .before .before .before .before in
+    let trees = all .before .before .before .before .before in
+    let read = trees .before in
+    let start = read .before .before .before .before in
     let ns = names (firstLine (start .args .input .now)) in
-    c .refusal3 .ensures ns ∙ ap (λ (o : Outcome). told ns o) (other-mode (start .args .input .now) (start .pre .1 .0) (c .before .before .before .before .before .before .before .before .before .before .before .before .if1 .left) (c .before .before .before .before .before .before .before .before .before .before .line-length .ensures) (c .before .before .before .before .before .before .before .before .before .if2 .left) (sym (c .before .before .before .before .before .is-word .ensures) ∙ c .before .before .before .before .if3 .left) (sym (c .before .before .is-word2 .ensures) ∙ c .before .if4 .left))
+    retold ns
+    (other-mode (start .args .input .now) (start .pre .1 .0) (read .before .before .if1 .left) (read .line-length .ensures) (trees .if2 .left)
+    (sym (all .before .is-word .ensures) ∙ all .if3 .left)
+    (sym (c .before .before .is-word2 .ensures) ∙ c .before .if4 .left))
+    (c .refusal3 .ensures ns)
 
 pub on-mode-spec : {M : Type 1} → statement M
 on-mode-spec =

@@ -14,13 +14,17 @@ use Rattle.report.proofs.report.Tie as tie
 
 judged : (c : tie.After-judge) → Judged (firstLine (c .before .before .before .before .before .args .input .now)) (c .judge .result)
 judged c =
-    subst (λ (line : List ℕ). Judged line (c .judge .result)) (first-line (c .before .before .before .before .before .args .input .now) (c .before .before .line-length .ensures)) (c .judge .ensures)
+    let read = c .before .before in
+    let input = read .before .before .before .args .input .now in
+    subst (λ (line : List ℕ). Judged line (c .judge .result)) (first-line input (read .line-length .ensures)) (c .judge .ensures)
 
 refusal-requires : tie.Need-refusal-requires
 refusal-requires c κs = search needs
 
 returns : tie.Need-returns
-returns c = let input = c .before .before .before .args .input .now in reports input (c .refusal .ensures (names (firstLine input))) (too-long input (c .before .if1 .taken))
+returns c =
+    let input = c .before .before .before .args .input .now in
+    reports input (c .refusal .ensures (names (firstLine input))) (too-long input (c .before .if1 .taken))
 
 line-length-requires : tie.Need-line-length-requires
 line-length-requires c κs = search needs
@@ -39,9 +43,10 @@ refusal-requires-2 c κs = search needs
 returns-2 : tie.Need-returns-2
 returns-2 c =
     let judge = c .before .before .before in
-    let input = c .before .before .before .before .before .before .before .before .args .input .now in
+    let short = judge .before .before .before in
+    let input = short .before .before .args .input .now in
     reports input (c .refusal2 .ensures (names (firstLine input)))
-    (roster-faulty input (c .before .before .before .before .before .before .if1 .left) (judge .judge .result) (judged judge) (c .before .if2 .taken))
+    (roster-faulty input (short .if1 .left) (judge .judge .result) (judged judge) (c .before .if2 .taken))
 
 refusal-requires-3 : tie.Need-refusal-requires-3
 refusal-requires-3 c κs = search needs
@@ -49,9 +54,10 @@ refusal-requires-3 c κs = search needs
 returns-3 : tie.Need-returns-3
 returns-3 c =
     let judge = c .before .before .before .before in
-    let input = c .before .before .before .before .before .before .before .before .before .args .input .now in
+    let short = judge .before .before .before in
+    let input = short .before .before .args .input .now in
     reports input (c .refusal3 .ensures (names (firstLine input)))
-    (many-species input (c .before .before .before .before .before .before .before .if1 .left) (judge .judge .result) (judged judge) (c .before .before .if2 .left) (c .before .if3 .taken))
+    (many-species input (short .if1 .left) (judge .judge .result) (judged judge) (c .before .before .if2 .left) (c .before .if3 .taken))
 
 on-mode-requires : tie.Need-on-mode-requires
 on-mode-requires c κs =
@@ -68,9 +74,10 @@ on-mode-requires c κs =
 returns-4 : tie.Need-returns-4
 returns-4 c =
     let judge = c .before .before .before .before in
-    let input = c .before .before .before .before .before .before .before .before .before .args .input .now in
+    let short = judge .before .before .before in
+    let input = short .before .before .args .input .now in
     reports input (c .on-mode .ensures)
-    (mode-next input (c .before .before .before .before .before .before .before .if1 .left) (judge .judge .result) (judged judge) (c .before .before .if2 .left) (c .before .if3 .left))
+    (mode-next input (short .if1 .left) (judge .judge .result) (judged judge) (c .before .before .if2 .left) (c .before .if3 .left))
 
 pub report-spec : {M : Type 1} → statement M
 report-spec =

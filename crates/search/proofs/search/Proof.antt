@@ -12,7 +12,9 @@ use Rattle.search.proofs.search.Statement.{statement}
 use Rattle.search.proofs.search.Tie as tie
 
 -- behind the first check
-passed : (c : tie.Else1) → Shaped (c .before .before .before .before .before .before .args .n) (c .before .before .before .before .before .before .args .genes .now) (c .before .before .before .before .before .before .args .count)
+passed :
+    (c : tie.Else1) → let args = c .before .before .before .before .before .before .args in
+    Shaped (args .n) (args .genes .now) (args .count)
 passed c = shaped-at _ _ _ (c .before .shape .ensures) (omega arith)
 
 -- so many entries are needed
@@ -21,8 +23,20 @@ unfolding single
 power c = c .single .ensures
 
 -- behind the second check
-long : (c : tie.Else2) → LongEnough (2 ^ c .before .before .before .before .before .before .before .before .before .before .before .args .n) (c .before .before .before .before .before .before .before .before .before .before .before .args .allowed .now) (c .before .before .before .before .before .before .before .before .before .before .before .args .scores .now) (c .before .before .before .before .before .before .before .before .before .before .before .args .splits .now)
-long c = rw (power (c .before .before .before .before)) at (rw (not-false (c .before .long-enough .result) (c .if2 .left)) at (c .before .long-enough .ensures))
+long :
+    (c : tie.Else2) → let args = c .before .before .before .before .before .before .before .before .before .before .before .args in
+    LongEnough (2 ^ args .n) (args .allowed .now) (args .scores .now) (args .splits .now)
+long c =
+    rw (power (c .before .before .before .before)) at
+    (rw (not-false (c .before .long-enough .result) (c .if2 .left)) at (c .before .long-enough .ensures))
+
+-- or not
+short :
+    (c : tie.Then2) → let args = c .before .before .before .before .before .before .before .before .before .before .before .args in
+    LongEnough (2 ^ args .n) (args .allowed .now) (args .scores .now) (args .splits .now) → ⊥
+short c =
+    rw (power (c .before .before .before .before)) at
+    (rw (not-true (c .before .long-enough .result) (c .if2 .taken)) at (c .before .long-enough .ensures))
 
 returns : tie.Need-returns
 returns c =
@@ -33,32 +47,42 @@ single-requires c κs = let few = passed c .few-species in omega arith
 
 returns-2 : tie.Need-returns-2
 returns-2 c =
-    finds-short _ _ _ _ _ _ (passed (c .before .before .before .before .before .before)) (rw (power (c .before .before .before .before .before)) at (rw (not-true (c .before .before .long-enough .result) (c .before .if2 .taken)) at (c .before .before .long-enough .ensures))) (c .refused2 .ensures) refl refl
+    finds-short _ _ _ _ _ _ (passed (c .before .before .before .before .before .before)) (short (c .before)) (c .refused2 .ensures) refl refl
 
 first-bad-requires : tie.Need-first-bad-requires
 first-bad-requires c κs = let s = passed (c .before .before .before .before .before) in (s .few-species, s .fits)
 
 returns-3 : tie.Need-returns-3
 returns-3 c =
-    finds-bad _ _ _ _ _ _ (passed (c .before .before .before .before .before .before .before .before)) (long (c .before .before .before)) (c .before .before .first-bad .ensures) (search needs) (c .refused3 .ensures) refl refl
+    let tables = c .before .before .before in
+    finds-bad _ _ _ _ _ _ (passed (tables .before .before .before .before .before)) (long tables) (c .before .before .first-bad .ensures) (search needs)
+    (c .refused3 .ensures) refl refl
 
 first-strange-requires : tie.Need-first-strange-requires
-first-strange-requires c κs = let enough = long (c .before .before) .allowed-long in omega (arith, power (c .before .before .before .before .before .before))
+first-strange-requires c κs =
+    let enough = long (c .before .before) .allowed-long in
+    omega (arith, power (c .before .before .before .before .before .before))
 
 returns-4 : tie.Need-returns-4
 returns-4 c =
-    let entries = power (c .before .before .before .before .before .before .before .before .before) in
-    finds-strange _ _ _ _ _ _ (passed (c .before .before .before .before .before .before .before .before .before .before)) (long (c .before .before .before .before .before)) (c .before .before .before .before .first-bad .ensures) (search needs) (strange-is _ _ entries (c .before .before .first-strange .ensures)) (omega arith)
+    let tables = c .before .before .before .before .before in
+    let entries = power (tables .before .before .before .before) in
+    finds-strange _ _ _ _ _ _ (passed (tables .before .before .before .before .before)) (long tables) (c .before .before .before .before .first-bad .ensures) (search needs)
+    (strange-is _ _ entries (c .before .before .first-strange .ensures)) (omega arith)
     (c .refused4 .ensures) refl refl
 
 solve-requires : tie.Need-solve-requires
 solve-requires c κs =
-    checked _ _ _ _ _ _ (passed (c .before .before .before .before .before .before .before .before .before .before .before)) (long (c .before .before .before .before .before .before)) (c .before .before .before .before .before .first-bad .ensures) (search needs)
+    let tables = c .before .before .before .before .before .before in
+    checked _ _ _ _ _ _ (passed (tables .before .before .before .before .before)) (long tables) (c .before .before .before .before .before .first-bad .ensures) (search needs)
 
 returns-5 : tie.Need-returns-5
 returns-5 c =
-    let entries = power (c .before .before .before .before .before .before .before .before .before .before .before .before .before .before .before) in
-    finds-solved _ _ _ _ _ _ (passed (c .before .before .before .before .before .before .before .before .before .before .before .before .before .before .before .before)) (long (c .before .before .before .before .before .before .before .before .before .before .before)) (c .before .before .before .before .before .before .before .before .before .before .first-bad .ensures) (search needs) (strange-is _ _ entries (c .before .before .before .before .before .before .before .before .first-strange .ensures)) (omega arith)
+    let strange = c .before .before .before .before .before .before .before .before in
+    let tables = strange .before .before .before in
+    let entries = power (tables .before .before .before .before) in
+    finds-solved _ _ _ _ _ _ (passed (tables .before .before .before .before .before)) (long tables) (strange .before .before .first-bad .ensures) (search needs)
+    (strange-is _ _ entries (strange .first-strange .ensures)) (omega arith)
     (c .before .before .before .before .solve .ensures)
 
 pub search-spec : {M : Type 1} → statement M

@@ -9,11 +9,20 @@ use Rattle.search.proofs.solve.Statement.{statement}
 use Rattle.search.proofs.solve.Tie as tie
 
 -- behind the second call both tables are there
-both-tables : (c : tie.After-fill2) → Tabled (c .before .before .before .before .before .before .before .before .before .before .before .before .args .n) (recordsIn (c .before .before .before .before .before .before .before .before .before .before .before .before .args .count) (c .before .before .before .before .before .before .before .before .before .before .before .before .args .genes .now)) (c .before .before .before .before .before .before .before .before .before .before .before .before .args .allowed .now) (c .before .before .before .before .before .before .before .before .before .before .before .before .args .scores .now) (c .before .before .before .before .before .before .before .before .before .before .before .before .args .splits .now) (c .fill2 .last .1 .1 .0) (c .fill2 .last .1 .1 .1 .0)
-both-tables c = tabled (c .before .before .before .before .before .before .before .before .before .before .before .before .pre) (c .before .before .before .before .before .before .before .whole .ensures) (c .before .before .before .before .before .fill .ensures) (c .fill2 .ensures)
+both-tables :
+    (c : tie.After-fill2)
+    → let args = c .before .before .before .before .before .before .before .before .before .before .before .before .args in
+    Tabled (args .n) (recordsIn (args .count) (args .genes .now)) (args .allowed .now) (args .scores .now) (args .splits .now)
+    (c .fill2 .last .1 .1 .0)
+    (c .fill2 .last .1 .1 .1 .0)
+both-tables c =
+    let all = c .before .before .before .before .before .before .before in
+    tabled (all .before .before .before .before .before .pre) (all .whole .ensures) (c .before .before .before .before .before .fill .ensures) (c .fill2 .ensures)
 
 -- and as long as they were
-same-scores : (c : tie.After-fill2) → length (c .fill2 .last .1 .1 .0) ≡ length (c .before .before .before .before .before .before .before .before .before .before .before .before .args .scores .now)
+same-scores :
+    (c : tie.After-fill2)
+    → length (c .fill2 .last .1 .1 .0) ≡ length (c .before .before .before .before .before .before .before .before .before .before .before .before .args .scores .now)
 same-scores c = c .fill2 .kept .1 .1 .0 ∙ c .before .before .before .before .before .fill .kept .1 .1 .1 .0
 
 whole-requires : tie.Need-whole-requires
@@ -26,11 +35,14 @@ fill-requires c κs =
     (h .few-genes, (h .genes-long, (h .countable, (all-few h is, all-fits h is))))
 
 fill-requires-2 : tie.Need-fill-requires-2
-fill-requires-2 c κs = weights-fillable (c .before .before .before .before .before .before .before .before .before .before .before .pre) (c .before .before .before .before .before .before .whole .ensures) (c .before .before .before .before .fill .ensures)
+fill-requires-2 c κs =
+    let all = c .before .before .before .before .before .before in
+    weights-fillable (all .before .before .before .before .before .pre) (all .whole .ensures) (c .before .before .before .before .fill .ensures)
 
 slice-read-score : tie.Need-slice-read-score
 slice-read-score c =
-    let long = all-fits (c .before .before .before .before .before .before .before .before .before .before .before .before .before .before .before .before .before .pre) (c .before .before .before .before .before .before .before .before .before .before .before .before .whole .ensures) in
+    let all = c .before .before .before .before .before .before .before .before .before .before .before .before in
+    let long = all-fits (all .before .before .before .before .before .pre) (all .whole .ensures) in
     let same = same-scores (c .before .before .before .before .before) in
     omega arith
 
@@ -42,15 +54,19 @@ same-length-2 c = c .before .before .before .before .before .before .before .fil
 
 returns : tie.Need-returns
 returns c =
-    solves-none (both-tables (c .before .before .before .before .before .before .before)) (c .before .before .before .before .before .before .before .before .before .before .before .before .before .before .before .before .before .before .before .pre .few-species) (c .before .before .before .before .before .before .before .before .before .before .before .before .before .before .whole .ensures) (omega arith) (c .refused .ensures)
+    let tables = c .before .before .before .before .before .before .before in
+    let all = tables .before .before .before .before .before .before .before in
+    solves-none (both-tables tables) (all .before .before .before .before .before .pre .few-species) (all .whole .ensures) (omega arith) (c .refused .ensures)
 
 found-requires : tie.Need-found-requires
 found-requires c κs =
-    let h = c .before .before .before .before .before .before .before .before .before .before .before .before .before .before .before .before .before .before .before .pre in
-    let few = all-few h (c .before .before .before .before .before .before .before .before .before .before .before .before .before .before .whole .ensures) in
-    let long = all-splits h (c .before .before .before .before .before .before .before .before .before .before .before .before .before .before .whole .ensures) in
-    let same = c .before .before .before .before .before .before .before .fill2 .kept .1 .1 .1 .0 in
-    (omega arith, (omega arith, solves-chooses (both-tables (c .before .before .before .before .before .before .before)) (h .few-species) (c .before .before .before .before .before .before .before .before .before .before .before .before .before .before .whole .ensures) (c .before .if1 .left)))
+    let tables = c .before .before .before .before .before .before .before in
+    let all = tables .before .before .before .before .before .before .before in
+    let h = all .before .before .before .before .before .pre in
+    let few = all-few h (all .whole .ensures) in
+    let long = all-splits h (all .whole .ensures) in
+    let same = tables .fill2 .kept .1 .1 .1 .0 in
+    (omega arith, (omega arith, solves-chooses (both-tables tables) (h .few-species) (all .whole .ensures) (c .before .if1 .left)))
 
 same-length-3 : tie.Need-same-length-3
 same-length-3 c = same-scores (c .before .before .before .before .before .before .before .before)
@@ -60,7 +76,10 @@ same-length-4 c = c .before .before .before .before .before .before .before .bef
 
 returns-2 : tie.Need-returns-2
 returns-2 c =
-    solves-found (both-tables (c .before .before .before .before .before .before .before .before)) (c .before .before .before .before .before .before .before .before .before .before .before .before .before .before .before .before .before .before .before .before .pre .few-species) (c .before .before .before .before .before .before .before .before .before .before .before .before .before .before .before .whole .ensures) (c .before .before .if1 .left) refl (c .found .ensures)
+    let tables = c .before .before .before .before .before .before .before .before in
+    let all = tables .before .before .before .before .before .before .before in
+    solves-found (both-tables tables) (all .before .before .before .before .before .pre .few-species) (all .whole .ensures) (c .before .before .if1 .left) refl
+    (c .found .ensures)
 
 pub solve-spec : {M : Type 1} → statement M
 solve-spec =

@@ -16,10 +16,16 @@ abbrev μ-loop : tie.MeasureT-loop
 μ-loop n allowed scores₀ splits₀ all a₀ scores splits a = all + 1 - a
 
 slice-write-scores : tie.Need-slice-write-scores Inv-loop μ-loop
-slice-write-scores c = let long = c .before .before .before .pre .scores-long in omega (arith, pow-pos (c .before .before .before .args .n))
+slice-write-scores c =
+    let start = c .before .before .before in
+    let long = start .pre .scores-long in
+    omega (arith, pow-pos (start .args .n))
 
 slice-write-splits : tie.Need-slice-write-splits Inv-loop μ-loop
-slice-write-splits c = let long = c .before .before .before .pre .splits-long in omega (arith, pow-pos (c .before .before .before .args .n))
+slice-write-splits c =
+    let start = c .before .before .before in
+    let long = start .pre .splits-long in
+    omega (arith, pow-pos (start .args .n))
 
 whole-requires : tie.Need-whole-requires Inv-loop μ-loop
 whole-requires c κs = let few = c .before .before .before .pre .few in omega arith
@@ -29,16 +35,19 @@ loop-holds c = reached-start (c .before .before .before .before .pre)
 
 settle-requires : tie.Need-settle-requires Inv-loop μ-loop
 settle-requires c κs =
-    let reached = c .before .before .before .loop .inv in
-    let below = below-of-whole (c .before .before .before .before .before .before .before .before .args .n) (c .before .before .before .loop .a) (omega (arith, c .before .before .before .before .whole .ensures)) in
+    let at-loop = c .before .before .before in
+    let reached = at-loop .loop .inv in
+    let all = at-loop .before in
+    let below = below-of-whole (all .before .before .before .before .args .n) (at-loop .loop .a) (omega (arith, all .whole .ensures)) in
     let long = reached .allowed-long in
     (reached-next-cluster reached below, (reached .few, omega arith))
 
 loop-again : tie.Need-loop-again Inv-loop μ-loop
 loop-again c =
-    let reached = c .before .before .before .before .before .before .before .before .loop .inv in
-    let below = below-of-whole (c .before .before .before .before .before .before .before .before .before .before .before .before .before .args .n) (c .before .before .before .before .before .before .before .before .loop .a) (omega (arith, c .before .before .before .before .before .before .before .before .before .whole .ensures)) in
-    reached-next reached below (c .before .before .before .before .settle .ensures)
+    let at-loop = c .before .before .before .before .before .before .before .before in
+    let all = at-loop .before in
+    let below = below-of-whole (all .before .before .before .before .args .n) (at-loop .loop .a) (omega (arith, all .whole .ensures)) in
+    reached-next (at-loop .loop .inv) below (c .before .before .before .before .settle .ensures)
 
 same-length : tie.Need-same-length Inv-loop μ-loop
 same-length c = reached-lengths (c .before .loop .inv) .0 ∙ simp length-set
@@ -49,7 +58,8 @@ same-length-2 c = reached-lengths (c .before .loop .inv) .1 ∙ simp length-set
 returns : tie.Need-returns Inv-loop μ-loop
 returns c =
     let start = c .before .before .before .before .before .before in
-    reached-end (start .args .scores .now) (start .args .splits .now) (c .before .loop .inv) (past-whole _ _ (omega (arith, c .before .before .whole .ensures)))
+    reached-end (start .args .scores .now) (start .args .splits .now) (c .before .loop .inv)
+    (past-whole _ _ (omega (arith, c .before .before .whole .ensures)))
 
 pub fill-spec : {M : Type 1} → statement M
 fill-spec =

@@ -5,7 +5,9 @@ use Rattle.tables.proofs.join.Statement.{statement}
 use Rattle.tables.proofs.join.Tie as tie
 
 with-own-requires : tie.Need-with-own-requires
-with-own-requires c κs = (c .before .before .before .before .before .before .before .before .pre .0 .light, sum-below (c .before .before .before .before .best-split .ensures .small .score) (c .before .if1 .left))
+with-own-requires c κs =
+    let split = c .before .before .before .before in
+    (split .before .before .before .before .pre .0 .light, sum-below (split .best-split .ensures .small .score) (c .before .if1 .left))
 
 returns : tie.Need-returns
 returns c ok allow =
@@ -14,8 +16,10 @@ returns c ok allow =
 
 returns-2 : tie.Need-returns-2
 returns-2 c ok allow =
-    let lent = c .before .before .before .before .before .before .before .before .before .args in
-    settles-split ok (lent .a) (lent .scores .now) (lent .splits .now) (c .before .before .before .before .before .best-split .ensures) allow (c .before .before .if1 .left) (c .with-own .ensures)
+    let split = c .before .before .before .before .before in
+    let lent = split .before .before .before .before .args in
+    settles-split ok (lent .a) (lent .scores .now) (lent .splits .now) (split .best-split .ensures) allow (c .before .before .if1 .left)
+    (c .with-own .ensures)
 
 pub join-spec : {M : Type 1} → statement M
 join-spec =

@@ -10,19 +10,28 @@ after-taxa : (c : tie.After-word) → Room 5 (c .word .result) (c .word .last .0
 after-taxa c = room-first (c .before .before .before .before .pre) (c .word .ensures)
 
 after-species : (c : tie.After-decimal) → Room 25 (c .decimal .result) (c .decimal .last .0)
-after-species c = room-number (c .before .before .before .before .before .before .before .before .args .n) (after-taxa (c .before .before .before .before)) (c .decimal .ensures)
+after-species c =
+    let taxa = c .before .before .before .before in
+    room-number (taxa .before .before .before .before .args .n) (after-taxa taxa) (c .decimal .ensures)
 
 after-genes : (c : tie.After-word2) → Room 32 (c .word2 .result) (c .word2 .last .0)
 after-genes c = room-text (after-species (c .before .before .before .before .before)) (c .word2 .ensures)
 
 after-trees : (c : tie.After-decimal2) → Room 52 (c .decimal2 .result) (c .decimal2 .last .0)
-after-trees c = room-number (c .before .before .before .before .before .before .before .before .before .before .before .before .before .before .before .before .before .args .count) (after-genes (c .before .before .before .before)) (c .decimal2 .ensures)
+after-trees c =
+    let genes = c .before .before .before .before in
+    let species = genes .before .before .before .before .before in
+    room-number (species .before .before .before .before .before .before .before .before .args .count) (after-genes genes) (c .decimal2 .ensures)
 
 after-words : (c : tie.After-word3) → Room 59 (c .word3 .result) (c .word3 .last .0)
 after-words c = room-text (after-trees (c .before .before .before .before .before)) (c .word3 .ensures)
 
 after-score : (c : tie.After-decimal3) → Room 79 (c .decimal3 .result) (c .decimal3 .last .0)
-after-score c = room-number (c .before .before .before .before .before .before .before .before .before .before .before .before .before .before .before .before .before .before .before .before .before .before .before .before .before .before .args .score) (after-words (c .before .before .before .before)) (c .decimal3 .ensures)
+after-score c =
+    let words = c .before .before .before .before in
+    let trees = words .before .before .before .before .before in
+    let species = trees .before .before .before .before .before .before .before .before .before in
+    room-number (species .before .before .before .before .before .before .before .before .args .score) (after-words words) (c .decimal3 .ensures)
 
 slice-aggregate-word : tie.Need-slice-aggregate-word
 slice-aggregate-word c = search needs
@@ -31,7 +40,9 @@ word-requires : tie.Need-word-requires
 word-requires c κs = search needs
 
 decimal-requires : tie.Need-decimal-requires
-decimal-requires c κs = number-fits (c .before .before .before .before .before .before .before .args .n) (after-taxa (c .before .before .before)) (omega arith)
+decimal-requires c κs =
+    let taxa = c .before .before .before in
+    number-fits (taxa .before .before .before .before .args .n) (after-taxa taxa) (omega arith)
 
 slice-aggregate-word-2 : tie.Need-slice-aggregate-word-2
 slice-aggregate-word-2 c = search needs
@@ -40,7 +51,10 @@ word-requires-2 : tie.Need-word-requires-2
 word-requires-2 c κs = text-fits 7 (after-species (c .before .before .before .before)) (omega arith)
 
 decimal-requires-2 : tie.Need-decimal-requires-2
-decimal-requires-2 c κs = number-fits (c .before .before .before .before .before .before .before .before .before .before .before .before .before .before .before .before .args .count) (after-genes (c .before .before .before)) (omega arith)
+decimal-requires-2 c κs =
+    let genes = c .before .before .before in
+    let species = genes .before .before .before .before .before in
+    number-fits (species .before .before .before .before .before .before .before .before .args .count) (after-genes genes) (omega arith)
 
 slice-aggregate-word-3 : tie.Need-slice-aggregate-word-3
 slice-aggregate-word-3 c = search needs
@@ -49,7 +63,11 @@ word-requires-3 : tie.Need-word-requires-3
 word-requires-3 c κs = text-fits 7 (after-trees (c .before .before .before .before)) (omega arith)
 
 decimal-requires-3 : tie.Need-decimal-requires-3
-decimal-requires-3 c κs = number-fits (c .before .before .before .before .before .before .before .before .before .before .before .before .before .before .before .before .before .before .before .before .before .before .before .before .before .args .score) (after-words (c .before .before .before)) (omega arith)
+decimal-requires-3 c κs =
+    let words = c .before .before .before in
+    let trees = words .before .before .before .before .before in
+    let species = trees .before .before .before .before .before .before .before .before .before in
+    number-fits (species .before .before .before .before .before .before .before .before .args .score) (after-words words) (omega arith)
 
 slice-aggregate-word-4 : tie.Need-slice-aggregate-word-4
 slice-aggregate-word-4 c = search needs

@@ -10,13 +10,18 @@ after-word : (c : tie.After-word) → Room 8 (c .word .result) (c .word .last .0
 after-word c = room-first refl (c .word .ensures)
 
 after-number : (c : tie.After-decimal) → Room 28 (c .decimal .result) (c .decimal .last .0)
-after-number c = room-number (c .before .before .before .before .before .before .args .number) (after-word (c .before .before .before)) (c .decimal .ensures)
+after-number c =
+    let words = c .before .before .before in
+    room-number (words .before .before .before .args .number) (after-word words) (c .decimal .ensures)
 
 after-at : (c : tie.After-word2) → Room 32 (c .word2 .result) (c .word2 .last .0)
 after-at c = room-text (after-number (c .before .before .before .before)) (c .word2 .ensures)
 
 after-place : (c : tie.After-decimal2) → Room 52 (c .decimal2 .result) (c .decimal2 .last .0)
-after-place c = room-number (c .before .before .before .before .before .before .before .before .before .before .before .before .before .args .place) (after-at (c .before .before .before)) (c .decimal2 .ensures)
+after-place c =
+    let at = c .before .before .before in
+    let number = at .before .before .before .before in
+    room-number (number .before .before .before .before .before .before .args .place) (after-at at) (c .decimal2 .ensures)
 
 slice-aggregate-word : tie.Need-slice-aggregate-word
 slice-aggregate-word c = search needs
@@ -46,7 +51,10 @@ slice-aggregate-decimal-2 : tie.Need-slice-aggregate-decimal-2
 slice-aggregate-decimal-2 c = search needs
 
 decimal-requires-2 : tie.Need-decimal-requires-2
-decimal-requires-2 c κs = number-fits (c .before .before .before .before .before .before .before .before .before .before .before .before .args .place) (after-at (c .before .before)) (omega arith)
+decimal-requires-2 c κs =
+    let at = c .before .before in
+    let number = at .before .before .before .before in
+    number-fits (number .before .before .before .before .before .before .args .place) (after-at at) (omega arith)
 
 slice-aggregate-word-5 : tie.Need-slice-aggregate-word-5
 slice-aggregate-word-5 c = search needs

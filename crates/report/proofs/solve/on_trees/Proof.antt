@@ -5,20 +5,30 @@ use Rattle.roster.specs.Roster.{names}
 use Rattle.lineages.specs.Count.{recordsIn}
 use Rattle.report.specs.Input.{Gathered, gather as Input·gather}
 use Rattle.report.specs.Input.Gathered.{gathered, stopped}
-use Rattle.report.specs.Program.{Outcome, onTrees}
-use Rattle.report.specs.Work.{told, gatheredIn}
+use Rattle.report.specs.Program.{onTrees}
+use Rattle.report.specs.Work.{gatheredIn}
 use Rattle.report.specs.declared.gather.Trees.{Trees}
+use Rattle.report.proofs.Checks.{retold}
 use Rattle.report.proofs.GeneTrees.{stopped-inside, gathered-genes, without-genes, with-some-genes}
 use borrow.Author.Needs.{needs}
 use Rattle.report.proofs.solve.on_trees.Statement.{statement}
 use Rattle.report.proofs.solve.on_trees.Tie as tie
 
 -- what was gathered, case by case
-was-stopped : (c : tie.After-number) → stopped (c .number .given .0 .0) (c .number .given .0 .1 .0) ≡ Input·gather (c .before .before .before .before .before .before .before .args .line .now) (c .before .before .before .before .before .before .before .args .trees .now)
-was-stopped c = ap (λ (r : Trees). gatheredIn (c .before .before .before .gather .last .1 .1 .0) r) (sym (c .number .given .1)) ∙ c .before .before .before .gather .ensures
+was-stopped :
+    (c : tie.After-number) → let args = c .before .before .before .before .before .before .before .args in
+    stopped (c .number .given .0 .0) (c .number .given .0 .1 .0) ≡ Input·gather (args .line .now) (args .trees .now)
+was-stopped c =
+    let read = c .before .before .before in
+    ap (λ (r : Trees). gatheredIn (read .gather .last .1 .1 .0) r) (sym (c .number .given .1)) ∙ read .gather .ensures
 
-was-gathered : (c : tie.After-count) → gathered (recordsIn (c .count .given .0 .0) (c .before .before .before .gather .last .1 .1 .0)) ≡ Input·gather (c .before .before .before .before .before .before .before .args .line .now) (c .before .before .before .before .before .before .before .args .trees .now)
-was-gathered c = ap (λ (r : Trees). gatheredIn (c .before .before .before .gather .last .1 .1 .0) r) (sym (c .count .given .1)) ∙ c .before .before .before .gather .ensures
+was-gathered :
+    (c : tie.After-count) → let read = c .before .before .before in
+    let args = read .before .before .before .before .args in
+    gathered (recordsIn (c .count .given .0 .0) (read .gather .last .1 .1 .0)) ≡ Input·gather (args .line .now) (args .trees .now)
+was-gathered c =
+    let read = c .before .before .before in
+    ap (λ (r : Trees). gatheredIn (read .gather .last .1 .1 .0) r) (sym (c .count .given .1)) ∙ read .gather .ensures
 
 slice-aggregate-gather : tie.Need-slice-aggregate-gather
 slice-aggregate-gather c = search needs
@@ -32,7 +42,9 @@ enum-known-number c = search needs
 add-refusal : tie.Need-add-refusal
 add-refusal c =
     let start = c .before .before .before .before .before .before .before .before in
-    let inside = stopped-inside (start .args .line .now) (start .args .trees .now) (start .pre .0 .good) (omega arith) (was-stopped (c .before)) in
+    let inside =
+    stopped-inside (start .args .line .now) (start .args .trees .now) (start .pre .0 .good) (omega arith) (was-stopped (c .before))
+    in
     omega arith
 
 refusal-requires : tie.Need-refusal-requires
@@ -46,35 +58,42 @@ refusal-requires-2 c κs = search needs
 
 returns : tie.Need-returns
 returns c =
-    let args = c .before .before .before .before .before .before .before .before .before .before .args in
+    let counted = c .before .before .before in
+    let args = counted .before .before .before .before .before .before .before .args in
     let ns = names (args .line .now) in
-    let genes = c .before .before .before .before .before .before .gather .last .1 .1 .0 in
-    c .refusal2 .ensures ns
-    ∙ (ap (λ (o : Outcome). told ns o) (without-genes genes (args .all) (args .n) (c .before .if1 .taken))
-    ∙ ap (λ (g : Gathered). told ns (onTrees g (args .shift) (args .all) (args .n))) (was-gathered (c .before .before .before)))
+    let genes = counted .before .before .before .gather .last .1 .1 .0 in
+    retold ns
+    (without-genes genes (args .all) (args .n) (c .before .if1 .taken)
+    ∙ ap (λ (g : Gathered). onTrees g (args .shift) (args .all) (args .n)) (was-gathered counted))
+    (c .refusal2 .ensures ns)
 
 slice-aggregate-solve : tie.Need-slice-aggregate-solve
 slice-aggregate-solve c = search needs
 
 solve-requires : tie.Need-solve-requires
 solve-requires c κs =
-    let start = c .before .before .before .before .before .before .before .before .before .before in
-    (start .pre .0, gathered-genes (start .args .trees .now) (start .pre .0) (omega arith) (c .before .before .before .before .before .genes2 .given) (was-gathered (c .before .before .before)) (c .before .if1 .left))
+    let counted = c .before .before .before in
+    let start = counted .before .before .before .before .before .before .before in (
+      start .pre .0,
+      gathered-genes (start .args .trees .now) (start .pre .0) (omega arith) (counted .before .before .genes2 .given) (was-gathered counted)
+          (c .before .if1 .left),
+    )
 
 returns-2 : tie.Need-returns-2
 returns-2 c =
     let args = c .before .before .before .before .before .before .before .before .before .args in
     let ns = names (args .line .now) in
-    c .refusal .ensures ns ∙ ap (λ (g : Gathered). told ns (onTrees g (args .shift) (args .all) (args .n))) (was-stopped (c .before .before))
+    retold ns (ap (λ (g : Gathered). onTrees g (args .shift) (args .all) (args .n)) (was-stopped (c .before .before))) (c .refusal .ensures ns)
 
 returns-3 : tie.Need-returns-3
 returns-3 c =
-    let args = c .before .before .before .before .before .before .before .before .before .before .before .args in
-    let ns = names (args .line .now) in
-    let genes = c .before .before .before .before .before .before .before .gather .last .1 .1 .0 in
-    c .solve .ensures
-    ∙ (ap (λ (o : Outcome). told ns o) (with-some-genes genes (args .all) (args .n) (c .before .before .before .before .count .given .0 .0) (c .before .before .if1 .left))
-    ∙ ap (λ (g : Gathered). told ns (onTrees g (args .shift) (args .all) (args .n))) (was-gathered (c .before .before .before .before)))
+    let counted = c .before .before .before .before in
+    let args = counted .before .before .before .before .before .before .before .args in
+    let genes = counted .before .before .before .gather .last .1 .1 .0 in
+    retold (names (args .line .now))
+    (with-some-genes genes (args .all) (args .n) (counted .count .given .0 .0) (c .before .before .if1 .left)
+    ∙ ap (λ (g : Gathered). onTrees g (args .shift) (args .all) (args .n)) (was-gathered counted))
+    (c .solve .ensures)
 
 pub on-trees-spec : {M : Type 1} → statement M
 on-trees-spec =

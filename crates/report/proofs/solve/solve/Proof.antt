@@ -1,6 +1,6 @@
 -- The allowed clusters are handed on as they were marked, and the outcome is that of the search.
 use Prim.Native.Nat.{ℕ, _^_, _≤_}
-use mathlib.Core.Path.{_≡_, sym, ap, _∙_}
+use mathlib.Core.Path.{_≡_, sym, ap, subst, _∙_}
 use mathlib.Core.List.{List, _++_}
 use native.Mathlib.Omega.{arith}
 use lib.ListN.{length, take, drop, replicate}
@@ -10,9 +10,9 @@ use Rattle.roster.specs.Roster.{names}
 use Rattle.lineages.specs.Count.{recordsIn}
 use Rattle.lineages.proofs.Lent.{length-recordsIn}
 use Rattle.search.specs.Promise.{bestFor, foundBy}
-use Rattle.report.specs.Program.{Outcome, allowedBy}
-use Rattle.report.specs.Program.Outcome.{solved}
-use Rattle.report.specs.Work.{told}
+use Rattle.search.specs.declared.Found.{Found}
+use Rattle.report.specs.Program.{allowedBy}
+use Rattle.report.proofs.Checks.{retold}
 use Rattle.report.proofs.Allowed.{allowed-marked, front-fits}
 use Rattle.report.proofs.Searching.{entries-most, searched-refused, searched-solved, found-valid}
 use borrow.Author.Needs.{needs}
@@ -28,26 +28,33 @@ entries-fit c = rw (entries c) (entries-most (c .before .before .before .pre .1 
 
 -- the allowed clusters, and what is left of the array behind them
 abbrev allowed : (c : tie.After-allow) → List ℕ
-allowed c = allowedBy (c .before .before .before .before .before .args .all) (c .before .before .before .before .before .args .n) (recordsIn (c .before .before .before .before .before .args .count) (c .before .before .before .before .before .args .genes .now))
+allowed c = let args = c .before .before .before .before .before .args in allowedBy (args .all) (args .n) (recordsIn (args .count) (args .genes .now))
 
 abbrev behind : (c : tie.After-allow) → List ℕ
 behind c = drop (c .before .before .single .result) (replicate 4096 0)
 
-allowed-entries : (c : tie.After-allow) → length (c .allow .last .1 .1 .1 .1 .0) ≡ c .before .before .single .result
-allowed-entries c =
+allowed-exact : (c : tie.After-allow) → length (allowed c) ≡ c .before .before .single .result
+allowed-exact c =
     let args = c .before .before .before .before .before .args in
-    ap length (c .allow .ensures)
-    ∙ (allowed-marked (args .all) (args .n) (recordsIn (args .count) (args .genes .now)) .exact ∙ sym (entries (c .before .before)))
+    allowed-marked (args .all) (args .n) (recordsIn (args .count) (args .genes .now)) .exact ∙ sym (entries (c .before .before))
+
+allowed-entries : (c : tie.After-allow) → length (c .allow .last .1 .1 .1 .1 .0) ≡ c .before .before .single .result
+allowed-entries c = ap length (c .allow .ensures) ∙ allowed-exact c
 
 -- what is handed on is those bytes
 handed : (c : tie.After-allow) → take (c .before .before .single .result) (c .allow .last .1 .1 .1 .1 .0 ++ behind c) ≡ allowed c
-handed c = take-at (c .allow .last .1 .1 .1 .1 .0) (behind c) (c .before .before .single .result) (allowed-entries c) ∙ c .allow .ensures
+handed c =
+    take-at (c .allow .last .1 .1 .1 .1 .0) (behind c) (c .before .before .single .result) (allowed-entries c) ∙ c .allow .ensures
 
-found-by : (c : tie.After-find) → c .find .result ≡ foundBy (bestFor (c .before .before .before .before .before .before .before .before .args .n) (recordsIn (c .before .before .before .before .before .before .before .before .args .count) (c .before .before .before .before .before .before .before .before .args .genes .now)) (allowed (c .before .before .before)) (whole (c .before .before .before .before .before .before .before .before .args .n))) (recordsIn (c .before .before .before .before .before .before .before .before .args .count) (c .before .before .before .before .before .before .before .before .args .genes .now))
-found-by c =
+-- what the search finds over some clusters
+abbrev over : (c : tie.After-find) → List ℕ → Found
+over c l =
     let args = c .before .before .before .before .before .before .before .before .args in
     let gs = recordsIn (args .count) (args .genes .now) in
-    c .find .ensures ∙ ap (λ (l : List ℕ). foundBy (bestFor (args .n) gs l (whole (args .n))) gs) (handed (c .before .before .before))
+    foundBy (bestFor (args .n) gs l (whole (args .n))) gs
+
+found-by : (c : tie.After-find) → c .find .result ≡ over c (allowed (c .before .before .before))
+found-by c = subst (λ (l : List ℕ). c .find .result ≡ over c l) (handed (c .before .before .before)) (c .find .ensures)
 
 single-requires : tie.Need-single-requires
 single-requires c κs = search needs
@@ -62,19 +69,22 @@ slice-aggregate-allow : tie.Need-slice-aggregate-allow
 slice-aggregate-allow c = sym (length-take-le (c .before .single .result) (replicate 4096 0) (entries-fit (c .before)))
 
 allow-requires : tie.Need-allow-requires
-allow-requires c κs = (c .before .before .before .before .pre .1, length-take-le (c .before .single .result) (replicate 4096 0) (entries-fit (c .before)) ∙ entries (c .before))
+allow-requires c κs = (
+  c .before .before .before .before .pre .1,
+  length-take-le (c .before .single .result) (replicate 4096 0) (entries-fit (c .before)) ∙ entries (c .before),
+)
 
 array-share-prefix-allowed : tie.Need-array-share-prefix-allowed
 array-share-prefix-allowed c = front-fits (c .before .allow .last .1 .1 .1 .1 .0) (behind (c .before)) (allowed-entries (c .before))
 
 slice-aggregate-find : tie.Need-slice-aggregate-find
-slice-aggregate-find c = sym (ap length (handed (c .before .before)) ∙ (ap length (sym (c .before .before .allow .ensures)) ∙ allowed-entries (c .before .before)))
+slice-aggregate-find c = sym (ap length (handed (c .before .before)) ∙ allowed-exact (c .before .before))
 
 find-requires : tie.Need-find-requires
 find-requires c κs =
-    let args = c .before .before .before .before .before .before .before .args in
-    let gs = recordsIn (args .count) (args .genes .now) in
-    (c .before .before .before .before .before .before .before .pre .1, rw (handed (c .before .before)) (allowed-marked (args .all) (args .n) gs))
+    let start = c .before .before .before .before .before .before .before in
+    let gs = recordsIn (start .args .count) (start .args .genes .now) in
+    (start .pre .1, rw (handed (c .before .before)) (allowed-marked (start .args .all) (start .args .n) gs))
 
 refusal-requires : tie.Need-refusal-requires
 refusal-requires c κs = search needs
@@ -85,7 +95,9 @@ returns c =
     let args = find .before .before .before .before .before .before .before .before .args in
     let gs = recordsIn (args .count) (args .genes .now) in
     let ns = names (args .line .now) in
-    c .refusal .ensures ns ∙ ap (λ (o : Outcome). told ns o) (searched-refused (args .n) gs (allowed (find .before .before .before)) (found-by find) (c .before .if1 .taken))
+    retold ns
+    (searched-refused (args .n) gs (allowed (find .before .before .before)) (found-by find) (c .before .if1 .taken))
+    (c .refusal .ensures ns)
 
 solved-requires : tie.Need-solved-requires
 solved-requires c κs =
@@ -93,7 +105,8 @@ solved-requires c κs =
     let start = find .before .before .before .before .before .before .before .before in
     let args = start .args in
     let gs = recordsIn (args .count) (args .genes .now) in
-    (start .pre .0, found-valid (args .n) gs (allowed (find .before .before .before)) (found-by find) (omega (arith, start .pre .0 .few)) (c .before .if1 .left))
+    let few : args .n ≤ 16 = omega (arith, start .pre .0 .few) in
+    (start .pre .0, found-valid (args .n) gs (allowed (find .before .before .before)) (found-by find) few (c .before .if1 .left))
 
 returns-2 : tie.Need-returns-2
 returns-2 c =
@@ -101,10 +114,11 @@ returns-2 c =
     let args = find .before .before .before .before .before .before .before .before .args in
     let gs = recordsIn (args .count) (args .genes .now) in
     let ns = names (args .line .now) in
-    let r = find .find .result in
-    c .solved .ensures
-    ∙ (ap (λ (m : ℕ). told ns (solved (args .n) m (r .score) (r .numbers))) (sym (length-recordsIn (args .count) (args .genes .now)))
-    ∙ ap (λ (o : Outcome). told ns o) (searched-solved (args .n) gs (allowed (find .before .before .before)) (found-by find) (c .before .before .if1 .left)))
+    retold ns
+    (searched-solved (args .n) gs (allowed (find .before .before .before)) (found-by find)
+    (sym (length-recordsIn (args .count) (args .genes .now)))
+    (c .before .before .if1 .left))
+    (c .solved .ensures)
 
 pub solve-spec : {M : Type 1} → statement M
 solve-spec =

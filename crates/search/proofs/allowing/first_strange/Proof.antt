@@ -20,17 +20,27 @@ abbrev μ-loop : tie.MeasureT-loop
 
 returns : tie.Need-returns Inv-loop μ-loop
 returns c =
-    let lent = c .before .before .before .before .args in
-    sym (least-is (λ b. not (leb (getD (lent .allowed .now) b 0) 1)) (lent .entries) 0 (c .before .before .before .loop .a) (omega arith) (omega arith) (ap not (lt-leb _ _ (c .if1 .taken))) (c .before .before .before .loop .inv .1))
+    let at-loop = c .before .before .before in
+    let lent = at-loop .before .args in
+    sym
+    (least-is (λ b. not (leb (getD (lent .allowed .now) b 0) 1)) (lent .entries) 0 (at-loop .loop .a) (omega arith) (omega arith)
+    (ap not (lt-leb _ _ (c .if1 .taken)))
+    (at-loop .loop .inv .1))
 
 loop-again : tie.Need-loop-again Inv-loop μ-loop
-loop-again c = (search needs, λ k first. below-more _ _ (λ b. c .before .before .before .loop .inv .1 b (omega arith)) (ap not (le-leb _ _ (c .if1 .left))) k)
+loop-again c = (
+  search needs,
+  λ k first. below-more _ _ (λ b. c .before .before .before .loop .inv .1 b (omega arith)) (ap not (le-leb _ _ (c .if1 .left))) k,
+)
 
 returns-2 : tie.Need-returns-2 Inv-loop μ-loop
 returns-2 c =
     let lent = c .before .before .args in
     let place = c .before .loop .inv .0 in
-    let none = least-none (λ b. not (leb (getD (lent .allowed .now) b 0) 1)) (lent .entries) 0 (λ k first less. c .before .loop .inv .1 k first (omega arith)) in
+    let none =
+    least-none (λ b. not (leb (getD (lent .allowed .now) b 0) 1)) (lent .entries) 0
+    (λ k first less. c .before .loop .inv .1 k first (omega arith))
+    in
     omega arith
 
 pub first-strange-spec : {M : Type 1} → statement M

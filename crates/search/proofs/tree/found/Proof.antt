@@ -7,14 +7,18 @@ use Rattle.search.proofs.tree.found.Statement.{statement}
 use Rattle.search.proofs.tree.found.Tie as tie
 
 collect-requires : tie.Need-collect-requires
-collect-requires c κs = let start = c .before .before in (start .pre .0, (start .pre .1 .0, chooses-more (start .pre .1 .1) (omega arith)))
+collect-requires c κs =
+    let start = c .before .before in
+    (start .pre .0, (start .pre .1 .0, chooses-more (start .pre .1 .1) (omega arith)))
 
 record-of-requires : tie.Need-record-of-requires
 record-of-requires c κs =
     let start = c .before .before .before .before .before in
     let room = chooses-more {room = 32} (start .pre .1 .1) (omega arith) in
-    let stored = c .before .before .collect .ensures in
-    (front-few (replicate 32 0) room stored (start .pre .1 .1), (front-fits (replicate 32 0) room stored, λ k l. omega (arith, front-below (replicate 32 0) room stored k l, start .pre .1 .0)))
+    let stored = c .before .before .collect .ensures in (
+      front-few (replicate 32 0) room stored (start .pre .1 .1),
+      (front-fits (replicate 32 0) room stored, λ k l. omega (arith, front-below (replicate 32 0) room stored k l, start .pre .1 .0)),
+    )
 
 returns : tie.Need-returns
 returns c t e h =

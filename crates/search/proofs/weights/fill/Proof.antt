@@ -33,9 +33,10 @@ add-tree-requires c κs =
 
 loop-again : tie.Need-loop-again Inv-loop μ-loop
 loop-again c =
-    let start = c .before .before .before .before .before .before .before .before .before .before .before .before .before in
-    let can = start .pre .1 .1 .0 _ (record-among (c .before .before .before .before .before .before .loop .i) (start .args .count) (start .args .genes .now) (search needs)) in
-    weighed-next (c .before .before .before .before .before .before .loop .inv) (search needs) can (rw part-record at (c .before .before .add-tree .ensures))
+    let at-loop = c .before .before .before .before .before .before in
+    let start = at-loop .before .before .before .before .before .before .before in
+    let can = start .pre .1 .1 .0 _ (record-among (at-loop .loop .i) (start .args .count) (start .args .genes .now) (search needs)) in
+    weighed-next (at-loop .loop .inv) (search needs) can (rw part-record at (c .before .before .add-tree .ensures))
 
 same-length : tie.Need-same-length Inv-loop μ-loop
 same-length c =
@@ -44,7 +45,9 @@ same-length c =
     weighed-length (c .before .loop .inv) (omega arith) ∙ long
 
 returns : tie.Need-returns Inv-loop μ-loop
-returns c = weighed-end (c .before .loop .inv) (c .before .before .before .before .before .before .before .before .args .weights .now) (search needs) (c .before .before .before .before .clear .ensures)
+returns c =
+    let cleared = c .before .before .before .before in
+    weighed-end (c .before .loop .inv) (cleared .before .before .before .before .args .weights .now) (search needs) (cleared .clear .ensures)
 
 pub fill-spec : {M : Type 1} → statement M
 fill-spec =
