@@ -1,6 +1,6 @@
 -- `writer::write` meets its contract: each refusal has its own return, and the text is written once its length is judged.
-use Prim.Native.Nat.{_≤_}
-use mathlib.Core.Path.{_≡_, refl, sym, _∙_}
+use Prim.Native.Nat.{ℕ, _≤_}
+use mathlib.Core.Path.{_≡_, refl, sym, ap, _∙_}
 use mathlib.Core.Bool.{true}
 use native.Mathlib.Omega.{arith}
 use borrow.Author.Needs.{needs}
@@ -11,6 +11,7 @@ use Rattle.trees.specs.Valid.{valid}
 use Rattle.trees.specs.Records.{ValidOn}
 use Rattle.roster.specs.Roster.{names}
 use Rattle.roster.specs.Judged.{speciesMost}
+use Rattle.roster.specs.declared.Reply.{Reply}
 use Rattle.roster.proofs.Judging.{read-good, read-faulty, read-room}
 use Rattle.writer.specs.Writing.{written}
 use Rattle.writer.proofs.WholeText.{Given, given-sixteen, given-table, given-test, given-listed, given-counts, given-length, given-room, end-room, given-stored}
@@ -106,6 +107,9 @@ slice-write-out c =
     let start = named .before .before .before .before .before .before in
     end-room (given named) (valid-there sound) (start .args .out .now) (room-there roomy) (c .before .before .node .ensures)
 
+abbrev reply-of : ℕ → ℕ → ℕ → Reply
+reply-of number place value = record { number = number; place = place; value = value }
+
 returns-4 : tie.Need-returns-4
 returns-4 c =
     let roomy = c .before .before .before .before .before in
@@ -116,7 +120,9 @@ returns-4 c =
     let g = given named in
     let r = room-there roomy in
     let b = given-stored g (valid-there sound) (s .out .now) r (c .before .before .node .ensures) in
-    writes-done (s .line .now) (s .tree .numbers) (s .out .now) (g .good) (tested sound) r (rw (length-there measured)) b
+    -- the reply has the length that was counted
+    let replied = ap (reply-of 0 0) (length-there measured) in
+    writes-done (s .line .now) (s .tree .numbers) (s .out .now) (g .good) (tested sound) r replied b
 
 pub write-spec : {M : Type 1} → statement M
 write-spec =
