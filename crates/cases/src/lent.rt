@@ -14,7 +14,7 @@ pub fn size(case: &[u8], k: usize) -> usize
 }
 
 // The fingerprint h with one more number.
-pub fn mixed(h: u64, x: u32) -> u64
+pub(crate) fn mixed(h: u64, x: u32) -> u64
     requires { ⌜ h < 1000003 ⌝ }
     ensures { λ r. ⌜ r < 1000003 ⌝ }
 {

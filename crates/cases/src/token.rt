@@ -89,7 +89,7 @@ fn of_numbers(field: &[u8], at: usize) -> Token
 }
 
 // As text, one byte or one repeat; or as numbers.
-pub fn token_at(field: &[u8], at: usize, text: bool) -> Token
+pub(crate) fn token_at(field: &[u8], at: usize, text: bool) -> Token
     requires { ⌜ at < length (now field) ⌝ }
     ensures { λ r. ⌜ (at < r .next) × (r .next ≤ length (now (field .entry))) ⌝ }
 {

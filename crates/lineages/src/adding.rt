@@ -8,7 +8,7 @@ ghost use Rattle.lineages.specs.Count.{recordsIn, weight, score};
 ghost use Rattle.lineages.specs.Work.{AllCountable};
 
 // The weight of a over count gene trees that were checked.
-pub fn weigh(genes: &[u16], count: usize, a: u32) -> usize
+pub(crate) fn weigh(genes: &[u16], count: usize, a: u32) -> usize
     requires { ⌜ count ≤ 4096 ⌝ }
     requires { ⌜ 32 * count ≤ length (now genes) ⌝ }
     requires { ⌜ AllCountable (recordsIn count (now genes)) ⌝ }
@@ -26,7 +26,7 @@ pub fn weigh(genes: &[u16], count: usize, a: u32) -> usize
 }
 
 // The score of a species record over count gene trees that were checked.
-pub fn weigh_tree(genes: &[u16], count: usize, species: &[u16]) -> usize
+pub(crate) fn weigh_tree(genes: &[u16], count: usize, species: &[u16]) -> usize
     requires { ⌜ count ≤ 4096 ⌝ }
     requires { ⌜ 32 * count ≤ length (now genes) ⌝ }
     requires { ⌜ AllCountable (recordsIn count (now genes)) ⌝ }

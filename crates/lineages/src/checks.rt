@@ -33,7 +33,7 @@ pub fn shape(n: usize, genes: &[u16], count: usize) -> u32
     0
 }
 
-// The index of the first gene record that is not valid, and count where all are.
+// The index of the first gene record that is not valid, and count where all are. `search` calls it too, behind `shape`, which says that the entries are there.
 pub fn first_bad(n: usize, genes: &[u16], count: usize) -> usize
     requires { ⌜ n ≤ 16 ⌝ }
     requires { ⌜ 32 * count ≤ length (now genes) ⌝ }
@@ -54,7 +54,7 @@ pub fn first_bad(n: usize, genes: &[u16], count: usize) -> usize
 }
 
 // Whether a is the number of a cluster of n species.
-pub fn is_cluster(n: usize, a: usize) -> bool
+pub(crate) fn is_cluster(n: usize, a: usize) -> bool
     requires { ⌜ n ≤ 16 ⌝ }
     ensures { λ r. ⌜ r ≡ (leb 1 a && ltb a (2 ^ n)) ⌝ }
 {
@@ -65,7 +65,7 @@ pub fn is_cluster(n: usize, a: usize) -> bool
 }
 
 // Whether the species record is valid and that of a binary tree.
-pub fn is_species_tree(n: usize, species: &[u16]) -> bool
+pub(crate) fn is_species_tree(n: usize, species: &[u16]) -> bool
     requires { ⌜ n ≤ 16 ⌝ }
     requires { ⌜ length (now species) ≡ 32 ⌝ }
     ensures { λ r. ⌜ r ≡ (valid (whole n) (now (species .entry)) && binary (whole n) (now (species .entry))) ⌝ }

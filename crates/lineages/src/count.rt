@@ -14,7 +14,7 @@ pub fn wide(x: u16) -> u32
 
 // k: how many of the first count clusters are maximal among those within a. In one pass from the largest down,
 // a cluster within a is maximal when it is disjoint from those that were counted before it.
-pub fn lineages_within(listed: &[u16], count: usize, a: u32) -> usize
+pub(crate) fn lineages_within(listed: &[u16], count: usize, a: u32) -> usize
     requires { ⌜ count ≤ length (now listed) ⌝ }
     requires { ⌜ CountableIn a (take count (now listed)) ⌝ }
     ensures { λ r. ⌜ r ≡ kOf (take count (now (listed .entry))) a ⌝ }
@@ -35,7 +35,7 @@ pub fn lineages_within(listed: &[u16], count: usize, a: u32) -> usize
     k
 }
 
-// The extra lineages of a in the gene tree g, and 0 where no cluster of g lies within a.
+// The extra lineages of a in the gene tree g, and 0 where no cluster of g lies within a. `search` calls it too, with records that `first_bad` has passed.
 pub fn extra(g: &[u16], a: u32) -> usize
     requires { ⌜ Countable (now g) ⌝ }
     ensures { λ r. ⌜ r ≡ extra (now (g .entry)) a ⌝ }

@@ -49,7 +49,7 @@ fn mark_trees(genes: &[u16], count: usize, out: &mut [u8])
 }
 
 // Marks each cluster that some of the count gene trees shows, in the first entries bytes.
-pub fn mark_shown(genes: &[u16], count: usize, out: &mut [u8], entries: usize)
+pub(crate) fn mark_shown(genes: &[u16], count: usize, out: &mut [u8], entries: usize)
     requires { ⌜ 32 * count ≤ length (now genes) ⌝ }
     requires { ⌜ entries ≤ length (now out) ⌝ }
     requires { ⌜ AllMarkable entries (recordsIn count (now genes)) ⌝ }

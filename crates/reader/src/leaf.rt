@@ -18,7 +18,13 @@ use tokens::behind_refusal;
 use tokens::label_refusal;
 
 // A node with this set of leaves ends behind what was read: its cluster is stored.
-pub fn ended(read: BehindRead, mask: u32, seen: u32, stored: usize, found: &mut [u32]) -> NodeRead
+pub(crate) fn ended(
+    read: BehindRead,
+    mask: u32,
+    seen: u32,
+    stored: usize,
+    found: &mut [u32],
+) -> NodeRead
     requires { ⌜ stored < length (now found) ⌝ }
     ensures { λ r. ⌜ r ≡ endedAs mask seen stored read ⌝ }
     ensures { λ _. ⌜ now (found .exit) ≡ keptAs mask stored (now (found .entry)) read ⌝ }
@@ -38,7 +44,13 @@ pub fn ended(read: BehindRead, mask: u32, seen: u32, stored: usize, found: &mut 
 }
 
 // The leaf whose name begins at the cursor. The name is judged when its run ends: unknown, then repeated.
-pub fn leaf(text: &[u8], table: &[u8], count: usize, c: Cursor, found: &mut [u32]) -> NodeRead
+pub(crate) fn leaf(
+    text: &[u8],
+    table: &[u8],
+    count: usize,
+    c: Cursor,
+    found: &mut [u32],
+) -> NodeRead
     requires { ⌜ Given count (now table) (now found) (c .seen) (c .stored) ⌝ }
     ensures { λ r. ⌜ ReadsLeaf (now (text .entry)) (now (table .entry)) count c (now (found .entry)) (now (found .exit)) r ⌝ }
 {

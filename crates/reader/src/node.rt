@@ -29,7 +29,7 @@ fn no_comma(text: &[u8], at: usize) -> Refusal
 }
 
 // The node at the cursor; `room` more parentheses may open.
-pub fn node(
+pub(crate) fn node(
     text: &[u8],
     table: &[u8],
     count: usize,

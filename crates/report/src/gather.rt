@@ -27,7 +27,7 @@ fn put(genes: &mut [u16], count: usize, numbers: [u16; 32])
 }
 
 // Reads trees until only blanks remain, and puts their records into `genes`.
-pub fn gather(line: &[u8], trees: &[u8], genes: &mut [u16]) -> Trees
+pub(crate) fn gather(line: &[u8], trees: &[u8], genes: &mut [u16]) -> Trees
     requires { ⌜ length (now genes) ≡ 16384 ⌝ }
     ensures { λ r. ⌜ gatheredIn (now (genes .exit)) r ≡ Input·gather (now (line .entry)) (now (trees .entry)) ⌝ }
 {

@@ -73,7 +73,7 @@ fn counts(out: &mut [u8], n: usize, count: usize, score: usize) -> usize
 }
 
 // Species and gene trees read, the score, and the tree.
-pub fn solved(line: &[u8], n: usize, count: usize, score: usize, tree: Record) -> Report
+pub(crate) fn solved(line: &[u8], n: usize, count: usize, score: usize, tree: Record) -> Report
     requires { ⌜ Roster (now line) n ⌝ }
     requires { ⌜ ValidOn (whole n) (tree .numbers) ⌝ }
     ensures { λ r. ⌜ r ≡ told (names (now (line .entry))) (Program·solved n count score (tree .numbers)) ⌝ }

@@ -71,7 +71,7 @@ fn solve(line: &[u8], n: usize, genes: &[u16], count: usize, all: bool) -> Repor
 }
 
 // The trees, which begin at `shift` of the input, and what is found of them.
-pub fn on_trees(line: &[u8], trees: &[u8], shift: usize, all: bool, n: usize) -> Report
+pub(crate) fn on_trees(line: &[u8], trees: &[u8], shift: usize, all: bool, n: usize) -> Report
     requires { ⌜ Roster (now line) n ⌝ }
     requires { ⌜ shift + length (now trees) ≤ textMost ⌝ }
     ensures { λ r. ⌜ r ≡ told (names (now (line .entry))) (onTrees (Input·gather (now (line .entry)) (now (trees .entry))) shift all n) ⌝ }

@@ -23,7 +23,7 @@ fn stands_at(table: &[u8], i: usize, name: [u8; 16]) -> bool
     true
 }
 
-// The species of a name: where it stands among the first `count` of the table, or `count`.
+// The species of a name: where it stands among the first `count` of the table, or `count`. `reader` calls it, with the table that `parse` filled.
 pub fn species(table: &[u8], count: usize, name: [u8; 16]) -> usize
     requires { ⌜ 16 * count ≤ length (now table) ⌝ }
     ensures { λ r. ⌜ r ≡ position name (slots count (now (table .entry))) ⌝ }
@@ -39,7 +39,7 @@ pub fn species(table: &[u8], count: usize, name: [u8; 16]) -> usize
 }
 
 // Writes the name as the i-th of the table.
-pub fn enter(table: &mut [u8], i: usize, name: [u8; 16])
+pub(crate) fn enter(table: &mut [u8], i: usize, name: [u8; 16])
     requires { ⌜ 16 * i + 16 ≤ length (now table) ⌝ }
     ensures { λ _. ⌜ now (table .exit) ≡ paste (now (table .entry)) (16 * i) name 16 ⌝ }
 {
@@ -51,7 +51,7 @@ pub fn enter(table: &mut [u8], i: usize, name: [u8; 16])
     }
 }
 
-// The length of the i-th name of the table.
+// The length of the i-th name of the table. `writer` calls it, with the table that `parse` filled.
 pub fn name_len(table: &[u8], i: usize) -> usize
     requires { ⌜ 16 * i + 16 ≤ length (now table) ⌝ }
     ensures { λ r. ⌜ r ≡ run nonZero (take 16 (drop (16 * i) (now (table .entry)))) ⌝ }

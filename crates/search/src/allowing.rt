@@ -7,7 +7,7 @@ ghost use lib.Dec.{leb};
 ghost use Rattle.roster.specs.Roster.{least};
 
 // The first of the entries that is not 0 or 1, and how many there are where all are.
-pub fn first_strange(allowed: &[u8], entries: usize) -> usize
+pub(crate) fn first_strange(allowed: &[u8], entries: usize) -> usize
     requires { ⌜ entries ≤ length (now allowed) ⌝ }
     ensures { λ r. ⌜ r ≡ least (λ a. not (leb (getD (now (allowed .entry)) a 0) 1)) 0 entries ⌝ }
 {

@@ -9,7 +9,7 @@ ghost use Rattle.tables.specs.BinaryTrees.{Binary, root, clustersIn};
 ghost use Rattle.tables.specs.Work.{Chosen, Chooses};
 
 // The answer with the tree on all species.
-pub fn found(splits: &[u16], all: usize, score: u32) -> Found
+pub(crate) fn found(splits: &[u16], all: usize, score: u32) -> Found
     requires { ⌜ all < length (now splits) ⌝ }
     requires { ⌜ all < 65536 ⌝ }
     requires { ⌜ Chooses (now splits) all 31 ⌝ }

@@ -37,7 +37,7 @@ fn add_tree(g: &[u16], entries: usize, weights: &mut [u32])
 }
 
 // Fills the first entries with the weights over count gene trees that were checked.
-pub fn fill(genes: &[u16], count: usize, entries: usize, weights: &mut [u32])
+pub(crate) fn fill(genes: &[u16], count: usize, entries: usize, weights: &mut [u32])
     requires { ⌜ count ≤ 4096 ⌝ }
     requires { ⌜ 32 * count ≤ length (now genes) ⌝ }
     requires { ⌜ AllCountable (recordsIn count (now genes)) ⌝ }

@@ -5,7 +5,7 @@ ghost use lib.ListN.{length};
 ghost use Rattle.tables.specs.Allowed.{allowedIn};
 
 // Whether a is allowed: marked, a single species, or the whole.
-pub fn is_allowed(n: usize, allowed: &[u8], a: usize) -> bool
+pub(crate) fn is_allowed(n: usize, allowed: &[u8], a: usize) -> bool
     requires { ⌜ n ≤ 16 ⌝ }
     requires { ⌜ a < 65536 ⌝ }
     requires { ⌜ a < length (now allowed) ⌝ }

@@ -108,7 +108,7 @@ fn settle(n: usize, allowed: &[u8], scores: &mut [u32], splits: &mut [u16], a: u
     join(scores, splits, a);
 }
 
-// Fills the first 2^n entries of both tables, the score table holding the weights.
+// Fills the first 2^n entries of both tables, the score table holding the weights. `search` calls it when its checks have passed.
 pub fn fill(n: usize, allowed: &[u8], scores: &mut [u32], splits: &mut [u16])
     requires { ⌜ Fillable n (now allowed) (now scores) (now splits) ⌝ }
     ensures { λ _. ⌜ Fills n (now (allowed .entry)) (now (scores .entry)) (now (splits .entry)) (now (scores .exit)) (now (splits .exit)) ⌝ }

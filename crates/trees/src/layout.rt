@@ -46,7 +46,7 @@ fn zeros_behind(r: &[u16], m: usize) -> bool
 }
 
 // Whether r has the form of a record.
-pub fn formed(r: &[u16]) -> bool
+pub(crate) fn formed(r: &[u16]) -> bool
     requires { ⌜ length (now r) ≡ 32 ⌝ }
     ensures { λ result. ⌜ Decides result (Form (now (r .entry))) ⌝ }
 {

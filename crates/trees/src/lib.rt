@@ -16,7 +16,7 @@ pub struct Record {
     pub numbers: [u16; 32],
 }
 
-// Whether r is a valid record of a tree whose whole set is s.
+// Whether r is a valid record of a tree whose whole set is s. `writer` and `lineages` ask it of 32 numbers and a set of at most 16 species.
 pub fn valid(r: &[u16], s: u32) -> bool
     requires { ⌜ length (now r) ≡ 32 ⌝ }
     requires { ⌜ s < 65536 ⌝ }
@@ -33,7 +33,7 @@ pub fn valid(r: &[u16], s: u32) -> bool
     false
 }
 
-// Whether r has as many clusters as a binary tree on s.
+// Whether r has as many clusters as a binary tree on s. `lineages` asks it of 32 numbers.
 pub fn binary(r: &[u16], s: u32) -> bool
     requires { ⌜ length (now r) ≡ 32 ⌝ }
     ensures { λ result. ⌜ Decides result (BinaryOn s (now (r .entry))) ⌝ }
@@ -41,7 +41,7 @@ pub fn binary(r: &[u16], s: u32) -> bool
     layout::wide(r[0]) + 1 == 2 * clusters::size(s)
 }
 
-// The record of the first count clusters, which come in any order.
+// The record of the first count clusters, which come in any order. `reader` and `search` call it with the clusters that they have stored.
 pub fn record_of(clusters: &[u32], count: usize) -> Record
     requires { ⌜ count ≤ 31 ⌝ }
     requires { ⌜ count ≤ length (now clusters) ⌝ }

@@ -21,7 +21,7 @@ fn agree(a: u32, b: u32) -> bool
 }
 
 // Whether any two of the m clusters agree: each is held against those behind it, up to the first pair that clashes.
-pub fn nested(r: &[u16], m: usize) -> bool
+pub(crate) fn nested(r: &[u16], m: usize) -> bool
     requires { ⌜ length (now r) ≡ 32 ⌝ }
     requires { ⌜ m ≤ 31 ⌝ }
     ensures { λ result. ⌜ Decides result

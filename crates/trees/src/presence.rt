@@ -8,7 +8,7 @@ ghost use Rattle.trees.specs.Decides.{Decides};
 ghost use Rattle.trees.specs.Lists.{Among};
 
 // Whether each of the m clusters has a species, and lies within s.
-pub fn inside(r: &[u16], m: usize, s: u32) -> bool
+pub(crate) fn inside(r: &[u16], m: usize, s: u32) -> bool
     requires { ⌜ length (now r) ≡ 32 ⌝ }
     requires { ⌜ m ≤ 31 ⌝ }
     ensures { λ result. ⌜ Decides result ((a : ℕ) → Among a (take m (drop 1 (now (r .entry)))) → (1 ≤ a) × Within a s) ⌝ }
@@ -66,7 +66,7 @@ fn singles(r: &[u16], m: usize, s: u32) -> bool
 }
 
 // Whether s and each single species of it are among the m clusters.
-pub fn complete(r: &[u16], m: usize, s: u32) -> bool
+pub(crate) fn complete(r: &[u16], m: usize, s: u32) -> bool
     requires { ⌜ length (now r) ≡ 32 ⌝ }
     requires { ⌜ m ≤ 31 ⌝ }
     requires { ⌜ s < 65536 ⌝ }

@@ -24,7 +24,7 @@ fn put(numbers: &mut [u16], held: usize, x: u16)
 }
 
 // Inserts the first count clusters, from the last to the first, behind the record's first number.
-pub fn fill(clusters: &[u32], count: usize, numbers: &mut [u16])
+pub(crate) fn fill(clusters: &[u32], count: usize, numbers: &mut [u16])
     requires { ⌜ length (now numbers) ≡ 32 ⌝ }
     requires { ⌜ count ≤ 31 ⌝ }
     requires { ⌜ count ≤ length (now clusters) ⌝ }

@@ -22,7 +22,7 @@ fn inner_with(c: u32, cluster: u32, species: u32) -> bool
 
 // The child that holds the lowest species of what is left: of the clusters properly within the cluster that hold it the largest,
 // and that is the last in the record.
-pub fn child(tree: Record, cluster: u32, left: u32) -> u32
+pub(crate) fn child(tree: Record, cluster: u32, left: u32) -> u32
     requires { ⌜ Listed (tree .numbers) cluster ⌝ }
     requires { ⌜ 2 ≤ size cluster ⌝ }
     requires { ⌜ (1 ≤ left) × Within left cluster ⌝ }

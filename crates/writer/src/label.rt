@@ -5,7 +5,7 @@ ghost use lib.ListN.{length};
 ghost use Rattle.writer.specs.Work.{nameIn, namesIn, labels, Put};
 
 // Writes the label of species i from `at` on; answers the offset behind it.
-pub fn label(out: &mut [u8], at: usize, table: &[u8], i: usize) -> usize
+pub(crate) fn label(out: &mut [u8], at: usize, table: &[u8], i: usize) -> usize
     requires { ⌜ 16 * i + 16 ≤ length (now table) ⌝ }
     requires { ⌜ at + length (nameIn (now table) i) ≤ length (now out) ⌝ }
     ensures { λ end. ⌜ Put (now (out .entry)) at (nameIn (now (table .entry)) i) end (now (out .exit)) ⌝ }
@@ -21,7 +21,7 @@ pub fn label(out: &mut [u8], at: usize, table: &[u8], i: usize) -> usize
 }
 
 // The length of the text of a record of m clusters: the labels of the n names, and two bytes for each cluster less one for each name.
-pub fn text_length(table: &[u8], n: usize, m: usize) -> usize
+pub(crate) fn text_length(table: &[u8], n: usize, m: usize) -> usize
     requires { ⌜ 16 * n ≤ length (now table) ⌝ }
     requires { ⌜ (n ≤ 2 * m) × (m ≤ 31) ⌝ }
     ensures { λ r. ⌜ r + n ≡ labels (namesIn n (now (table .entry))) + 2 * m ⌝ }

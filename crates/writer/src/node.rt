@@ -9,7 +9,7 @@ use trees::Record;
 
 // Writes the text of the cluster's node from `at` on; answers the offset behind it. Each call has its own copy of the record,
 // and goes from a cluster to its children, which are smaller.
-pub fn node(out: &mut [u8], at: usize, table: &[u8], tree: Record, cluster: u32) -> usize
+pub(crate) fn node(out: &mut [u8], at: usize, table: &[u8], tree: Record, cluster: u32) -> usize
     requires { ⌜ Listed (tree .numbers) cluster ⌝ }
     requires { ⌜ length (now table) ≡ 512 ⌝ }
     requires { ⌜ at + length (clusterText (now table) (tree .numbers) cluster) ≤ length (now out) ⌝ }
