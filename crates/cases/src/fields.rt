@@ -20,7 +20,7 @@ pub fn least(a: usize, b: usize) -> usize
     b
 }
 
-// The place behind `at`, and the end where that is the end.
+// The place behind `at`, and the end where that is the end. `vectors` calls it, within its input.
 pub fn behind(s: &[u8], at: usize) -> usize
     requires { ⌜ at ≤ length (now s) ⌝ }
     ensures { λ r. ⌜ r ≡ min (at + 1) (length (now (s .entry))) ⌝ }
@@ -31,7 +31,7 @@ pub fn behind(s: &[u8], at: usize) -> usize
     at
 }
 
-// Where the first b from `at` on stands, or the end where there is none.
+// Where the first b from `at` on stands, or the end where there is none. `vectors` calls it, within its input.
 pub fn end_of(s: &[u8], at: usize, b: u8) -> usize
     requires { ⌜ at ≤ length (now s) ⌝ }
     ensures { λ r. ⌜ (at ≤ r) × (r ≤ length (now (s .entry))) ⌝ }

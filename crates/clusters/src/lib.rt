@@ -3,7 +3,7 @@ ghost use mathlib.Core.Path.{_≡_};
 ghost use Prim.Native.Nat.{_<_, _≤_};
 ghost use Rattle.clusters.specs.Sets.{whole, single, union, within, apart, size, lowest};
 
-// The set of the one species i. Every crate above calls it, with a species that it has counted.
+// The set of the one species i. Other crates call it, with a species that they have counted.
 pub fn single(i: usize) -> u32
     requires { ⌜ i < 32 ⌝ }
     ensures { λ r. ⌜ r ≡ single i ⌝ }
@@ -11,7 +11,7 @@ pub fn single(i: usize) -> u32
     1u32 << i
 }
 
-// The set of all n species. Every crate above calls it, with an n that it has judged.
+// The set of all n species. Other crates call it, with an n that they have judged.
 pub fn whole(n: usize) -> u32
     requires { ⌜ n < 32 ⌝ }
     ensures { λ r. ⌜ r ≡ whole n ⌝ }
