@@ -1,6 +1,5 @@
 // Bytes that a call is lent: how many, and their fingerprint after it, by which they are compared whole.
 ghost use Prim.Native.Nat.{_≤_, _<_};
-ghost use lib.ListN.{length};
 use crate::fields::byte;
 use crate::fields::least;
 use crate::fields::number;

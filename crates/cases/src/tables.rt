@@ -1,5 +1,4 @@
 // The fingerprints of the two tables that the search is lent, after it; and numbers as bytes.
-ghost use lib.ListN.{length};
 ghost use Rattle.io.specs.Counts.{Counts};
 use crate::fields::least;
 use crate::lent::mixed;

@@ -1,6 +1,6 @@
 // Sets of at most 32 species as numbers: the operations that the layers above need, each by one machine operation.
 ghost use mathlib.Core.Path.{_≡_};
-ghost use Prim.Native.Nat.{_<_, _≤_};
+ghost use Prim.Native.Nat.{_<_};
 ghost use Rattle.clusters.specs.Sets.{whole, single, union, within, apart, size, lowest};
 
 // The set of the one species i. Other crates call it, with a species that they have counted.

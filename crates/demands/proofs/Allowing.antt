@@ -15,10 +15,11 @@ use Rattle.trees.specs.Records.{listed, recordOf}
 use Rattle.trees.specs.Valid.{among}
 use Rattle.trees.proofs.Recorded.{among-record, record-among}
 use Rattle.trees.proofs.ValidTest.{tells-among}
-use Rattle.lineages.specs.Promise.{shown as shownIn, flag, marks}
-use Rattle.lineages.proofs.Shown.{map-upTo}
+use Rattle.weights.specs.Marks.{shown as shownIn, flag}
+use Rattle.lineages.specs.Promise.{marks}
+use Rattle.trees.proofs.UpTo.{map-upTo}
 use Rattle.tables.specs.Allowed.{allowedIn}
-use Rattle.report.specs.Words.{allWord, genesWord}
+use Rattle.report.specs.Input.{allWord, genesWord}
 use Rattle.report.specs.Program.{allowedBy}
 use Rattle.demands.specs.GeneTrees.{RecordsOf}
 use Rattle.demands.specs.Input.{Allows}

@@ -9,24 +9,25 @@ use Rattle.demands.specs.Examples.Row.{recorded, counted, scored, search
 use Rattle.demands.specs.Examples.Allowed.{every, own, only}
 use Rattle.clusters.specs.Sets.{whole, single, union, has, within, apart, size, lowest}
 use Rattle.demands.specs.Examples.{recordIn, foundIn, holds, allHold}
-use Rattle.lineages.specs.Count.{kOf, extra, weight, score}
-use Rattle.lineages.specs.Promise.{shown, marks}
+use Rattle.weights.specs.Count.{kOf, extra, weight, score}
+use Rattle.weights.specs.Marks.{shown}
+use Rattle.lineages.specs.Promise.{marks}
 use Rattle.tokens.specs.Tokens.{nextIs, nextName, blanks, skip, number, numberBehind, numbers, name, innerName}
 use Rattle.reader.specs.Promise.{answerTo}
-use Rattle.reader.specs.Reading.{leafAt, closing, readTreeTo, readTree, readNode}
-use Rattle.roster.specs.Bytes.{run}
-use Rattle.roster.specs.Labels.{word, padded}
-use Rattle.roster.specs.Roster.{upTo, same, position, begins, beginnings, nameAt, names, strayAt, longAt, manyAt, againAt, openAt, faultAt, least, firstFault, faulty}
+use Rattle.nodes.specs.Reading.{leafAt, closing, readTreeTo, readTree, readNode}
+use Rattle.labels.specs.Bytes.{run}
+use Rattle.labels.specs.Labels.{word, padded}
+use Rattle.roster.specs.Roster.{same, position, begins, beginnings, nameAt, names, strayAt, longAt, manyAt, againAt, openAt, faultAt, least, firstFault, faulty}
 use Rattle.tables.specs.BinaryTrees.{clustersIn, isLow, lows, each, forks, treesTo, treesOn}
 use Rattle.tables.specs.Least.{those, all, scoreOf, treesOver, leastTrees, best}
 use Rattle.tables.specs.Allowed.{allowedIn}
-use Rattle.search.specs.Promise.{bestFor}
+use Rattle.solver.specs.Best.{bestFor}
 use Rattle.trees.specs.Drawn.{properly, maximal, placed, byLowest, children, drawnTo, drawn}
-use Rattle.trees.specs.Lists.{keep, some, insert, sorted, pieces, total}
+use Rattle.trees.specs.Lists.{upTo, keep, some, insert, sorted, pieces, total}
 use Rattle.trees.specs.Records.{recordOf}
 use Rattle.trees.specs.Tree.{cluster, clusters}
 use Rattle.trees.specs.Valid.{every as every-trees, among, rising, singlesFrom}
-use Rattle.writer.specs.Writing.{treeText, written, nodeText}
+use Rattle.texts.specs.Writing.{treeText, written, nodeText}
 
 -- 01's rows marked P, in its order
 pub examples : List Row

@@ -8,9 +8,9 @@ use mathlib.Core.List.{List, [], _∷_, _++_, map, List·Memᴰ·head as here, L
 use native.Mathlib.Omega.{arith}
 use lib.ListN.{length, drop, replicate}
 use Rattle.clusters.specs.Sets.{whole}
-use Rattle.trees.specs.Lists.{Among}
+use Rattle.trees.specs.Lists.{Among, upTo}
 use Rattle.trees.specs.Tree.{Tree}
-use Rattle.roster.specs.Roster.{names, faulty, firstFault, upTo}
+use Rattle.roster.specs.Roster.{names, faulty, firstFault}
 use Rattle.roster.specs.Judged.{Judged, judgedBy, speciesMost}
 use Rattle.roster.specs.Verdict.{Test, Verdict, verdict, lengthTest, replyOf}
 use Rattle.roster.specs.declared.Reply.{Reply}
@@ -18,15 +18,17 @@ use Rattle.tokens.specs.Answers.{Answer}
 use Rattle.tokens.specs.Answers.Answer.{parsed, refused}
 use Rattle.reader.specs.Promise.{readingOf, answerTo, Reads}
 use Rattle.reader.specs.declared.Reading.{Reading}
-use Rattle.writer.specs.Writing.{written}
+use Rattle.texts.specs.Writing.{written}
 use Rattle.writer.specs.Promise.{rosterTest, recordTest, writeTests, outBy, Writes}
-use Rattle.lineages.specs.Count.{weight, score, recordsIn}
+use Rattle.weights.specs.Count.{weight, score}
+use Rattle.trees.specs.Records.{recordsIn}
 use Rattle.lineages.specs.Checks.{speciesTest, countTest, speciesRecordTest, recordsTest, clusterTest, weightTests, scoreTests, markTests}
 use Rattle.lineages.specs.Promise.{Weighs, Scores, Marks, markedBy}
 use Rattle.tables.specs.BinaryTrees.{Binary}
 use Rattle.tables.specs.Least.{scoreEntry, splitEntry}
-use Rattle.search.specs.Promise.{allowedTest, searchTests, bestFor, foundBy, foundOr, filledBy, Finds}
-use Rattle.search.specs.declared.Found.{Found}
+use Rattle.search.specs.Promise.{allowedTest, searchTests, foundOr, filledBy, Finds}
+use Rattle.solver.specs.Best.{bestFor, foundBy}
+use Rattle.solver.specs.declared.Found.{Found}
 use Rattle.search.proofs.Accepted.{NoneGives, no-fourteen}
 use Rattle.report.specs.Promise.{output, Reports}
 use Rattle.demands.specs.Outcomes.{Replies, TurnedAway, NotFound}

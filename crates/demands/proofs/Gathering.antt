@@ -10,25 +10,25 @@ use lib.Seq.{drop-drop}
 use lib.Dec.{leb}
 use borrow.Author.Tests.{leb-true, leb-false, le-leb, lt-leb}
 use Rattle.clusters.specs.Sets.{whole}
+use Rattle.labels.specs.Bytes.{isBlank, run}
+use Rattle.labels.proofs.Runs.{run-within}
 use Rattle.trees.specs.Tree.{Tree, On, clusters}
 use Rattle.trees.specs.Records.{recordOf}
-use Rattle.roster.specs.Bytes.{isBlank, run}
 use Rattle.roster.specs.Roster.{names}
-use Rattle.roster.proofs.Runs.{run-within}
 use Rattle.tokens.specs.Answers.{Answer}
 use Rattle.tokens.specs.Answers.Answer.{parsed, refused}
 use Rattle.tokens.specs.Tokens.{blanks, skip}
-use Rattle.reader.specs.Grammar.{Rules, Blanks, Text}
-use Rattle.reader.specs.Grammar.Blanks.{none, blank}
-use Rattle.reader.specs.Grammar.Node.{a-leaf, an-inner}
-use Rattle.reader.specs.Grammar.Text.{text}
+use Rattle.nodes.specs.Grammar.{Rules, Blanks, Text}
+use Rattle.nodes.specs.Grammar.Blanks.{none, blank}
+use Rattle.nodes.specs.Grammar.Node.{a-leaf, an-inner}
+use Rattle.nodes.specs.Grammar.Text.{text}
 use Rattle.reader.specs.Promise.{readingOf, answerTo}
 use Rattle.reader.specs.Accepted.{Draws, JustBehind}
 use Rattle.reader.proofs.Accepts.{accepted-derives, derives-accepted}
-use Rattle.reader.proofs.Exact.{blanks-skip, skip-to, name-no-blank, run-first}
-use Rattle.reader.proofs.Sound.{skip-blanks}
-use Rattle.report.specs.Input.{genesMost, gatherOn, gatherAt, gatherMore, gatherTo, gather}
-use Rattle.report.specs.Input.Gathered.{gathered, stopped}
+use Rattle.nodes.proofs.Exact.{blanks-skip, skip-to, name-no-blank, run-first}
+use Rattle.nodes.proofs.Sound.{skip-blanks}
+use Rattle.gather.specs.GeneTrees.{genesMost, gatherOn, gatherAt, gatherMore, gatherTo, gather}
+use Rattle.gather.specs.GeneTrees.Gathered.{gathered, stopped}
 use Rattle.demands.specs.GeneTrees.{RecordsOf}
 use Rattle.demands.specs.Input.{TreesFrom}
 use Rattle.demands.specs.Input.TreesFrom.{only-blanks, a-tree}

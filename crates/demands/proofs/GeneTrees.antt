@@ -11,9 +11,9 @@ use Rattle.trees.proofs.Bounds.{whole-below-sixteen}
 use Rattle.trees.proofs.Drawing.{drawn-on, drawn-record}
 use Rattle.trees.proofs.Totals.{total-same}
 use Rattle.trees.specs.Lists.{total}
-use Rattle.lineages.specs.Count.{kOf, extra, weight, score}
-use Rattle.lineages.specs.Lineages.{lineages}
-use Rattle.lineages.proofs.CountedDown.{k-counted-down, k-of-record}
+use Rattle.weights.specs.Count.{kOf, extra, weight, score}
+use Rattle.weights.specs.Lineages.{lineages}
+use Rattle.weights.proofs.CountedDown.{k-counted-down, k-of-record}
 use Rattle.demands.specs.GeneTrees.{RecordsOf, scoreOver}
 
 -- ---- valid gene records have drawn trees

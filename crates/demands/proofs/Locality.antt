@@ -11,10 +11,10 @@ use Rattle.clusters.specs.Sets.{whole}
 use Rattle.roster.specs.Roster.{names, faulty}
 use Rattle.roster.specs.Judged.{speciesMost}
 use Rattle.tokens.specs.Answers.Answer.{refused}
-use Rattle.reader.specs.Reading.{readTree}
+use Rattle.nodes.specs.Reading.{readTree}
 use Rattle.reader.specs.Promise.{textMost, fromStart, inLimit, onRoster, answerTo}
-use Rattle.reader.specs.Meaning.{reach}
-use Rattle.reader.proofs.Locality.{locality}
+use Rattle.nodes.specs.Meaning.{reach}
+use Rattle.nodes.proofs.Locality.{locality}
 
 -- a refusal met while reading (3 to 9) is decided by the bytes from start up to and with its place (for 5 and 6, up to the byte that ends the run):
 -- a text of at most 65,536 bytes that agrees there is refused alike

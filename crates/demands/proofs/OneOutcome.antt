@@ -12,7 +12,7 @@ use Rattle.writer.proofs.Outcomes.{writes-once}
 use Rattle.lineages.specs.Promise.{Weighs, Scores, Marks}
 use Rattle.lineages.proofs.Outcomes.{weighs-once, scores-once, marks-once}
 use Rattle.search.specs.Promise.{Finds}
-use Rattle.search.specs.declared.Found.{Found}
+use Rattle.solver.specs.declared.Found.{Found}
 use Rattle.search.proofs.Demand.{finds-once}
 use Rattle.report.specs.Promise.{Reports}
 

@@ -8,16 +8,16 @@ use mathlib.Core.List.{List, [], _∷_, _++_, map, List·Memᴰ·head as here, L
 use native.Mathlib.Omega.{arith}
 use lib.ListN.{drop, replicate}
 use Rattle.clusters.specs.Sets.{whole}
-use Rattle.trees.specs.Lists.{Among}
-use Rattle.roster.specs.Roster.{upTo}
+use Rattle.trees.specs.Lists.{Among, upTo}
 use Rattle.roster.specs.Verdict.{Test, Verdict, verdict, verdictBy, replyOf}
 use Rattle.roster.specs.declared.Reply.{Reply}
 use Rattle.writer.specs.Promise.{outBy}
-use Rattle.lineages.specs.Count.{recordsIn}
+use Rattle.trees.specs.Records.{recordsIn}
 use Rattle.lineages.specs.Promise.{markedBy}
 use Rattle.tables.specs.BinaryTrees.{Binary}
-use Rattle.search.specs.Promise.{searchTests, bestFor, foundBy, foundOr, filledBy, Finds}
-use Rattle.search.specs.declared.Found.{Found}
+use Rattle.search.specs.Promise.{searchTests, foundOr, filledBy, Finds}
+use Rattle.solver.specs.Best.{bestFor, foundBy}
+use Rattle.solver.specs.declared.Found.{Found}
 use Rattle.search.proofs.Accepted.{NoneGives}
 use Rattle.demands.specs.Outcomes.{TurnedAway}
 

@@ -14,8 +14,9 @@ use Rattle.trees.proofs.Bounds.{whole-below-sixteen}
 use Rattle.trees.proofs.ValidTest.{valid-decides, binary-decides}
 use Rattle.roster.specs.Verdict.{Verdict, verdict, lengthTest, replyOf}
 use Rattle.roster.specs.declared.Reply.{Reply}
-use Rattle.roster.proofs.Booleans.{both}
-use Rattle.lineages.specs.Count.{score, recordsIn}
+use Rattle.trees.proofs.Booleans.{both}
+use Rattle.weights.specs.Count.{score}
+use Rattle.trees.specs.Records.{recordsIn}
 use Rattle.lineages.specs.Checks.{speciesTest, countTest, speciesRecordTest, firstBad, recordsTest, scoreTests}
 use Rattle.lineages.specs.Promise.{Scores}
 use Rattle.demands.specs.Scorable.{Scorable}

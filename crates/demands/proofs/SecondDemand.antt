@@ -10,7 +10,7 @@ use Rattle.clusters.specs.Sets.{whole, within}
 use Rattle.trees.specs.Lists.{Among, keep, total}
 use Rattle.trees.specs.Tree.{Tree, On, clusters}
 use Rattle.trees.specs.Drawn.{maximal}
-use Rattle.trees.specs.Records.{listed, recordOf, ValidOn}
+use Rattle.trees.specs.Records.{listed, recordOf, ValidOn, recordsIn}
 use Rattle.trees.proofs.Bounds.{whole-below-sixteen}
 use Rattle.trees.proofs.Nodes.{clusters-once}
 use Rattle.trees.proofs.Recorded.{among-record, record-among, record-same, valid-of-drawn}
@@ -27,11 +27,11 @@ use Rattle.reader.specs.Accepted.{Draws}
 use Rattle.reader.proofs.Accepts.{accepted-derives, derives-accepted, draws-one}
 use Rattle.writer.specs.Promise.{Writes}
 use Rattle.writer.proofs.RosterNames.{good-names}
-use Rattle.writer.proofs.Lengths.{text-most}
+use Rattle.texts.proofs.Lengths.{text-most}
 use Rattle.writer.proofs.Outcomes.{writes-once, writes-done}
 use Rattle.writer.proofs.RoundTrip.{write-read, reads-zero}
-use Rattle.lineages.specs.Count.{kOf, extra, weight, score, recordsIn}
-use Rattle.lineages.specs.Lineages.{lineages}
+use Rattle.weights.specs.Count.{kOf, extra, weight, score}
+use Rattle.weights.specs.Lineages.{lineages}
 use Rattle.lineages.specs.Checks.{weightTests}
 use Rattle.lineages.specs.Promise.{Weighs, Scores}
 use Rattle.demands.specs.ReadAs.{SameClusters, ReadAs}

@@ -6,33 +6,36 @@ use native.Mathlib.Omega.{arith}
 use lib.Count.{ones, onesIn, trailingZeros}
 use lib.ListN.{length, take, getD, replicate}
 use Rattle.clusters.specs.Sets.{whole, single, union, has, within, apart, size, lowest}
+use Rattle.labels.specs.Bytes.{run}
+use Rattle.labels.specs.Labels.{word, padded}
 use Rattle.trees.specs.Drawn.{properly, maximal, placed, byLowest, children, drawnTo, drawn}
-use Rattle.trees.specs.Lists.{keep, some, insert, sorted, pieces, total}
+use Rattle.trees.specs.Lists.{keep, some, insert, sorted, pieces, total, upTo}
 use Rattle.trees.specs.Records.{recordOf}
 use Rattle.trees.specs.Tree.{cluster, clusters}
 use Rattle.trees.specs.Valid.{every, among, rising, singlesFrom, nested, valid, binary}
-use Rattle.roster.specs.Bytes.{run}
-use Rattle.roster.specs.Labels.{word, padded}
-use Rattle.roster.specs.Roster.{upTo, same, position, begins, beginnings, nameAt, names, strayAt, longAt, manyAt, againAt, openAt, faultAt, least, firstFault, faulty}
+use Rattle.roster.specs.Roster.{same, position, begins, beginnings, nameAt, names, strayAt, longAt, manyAt, againAt, openAt, faultAt, least, firstFault, faulty}
 use Rattle.roster.specs.Judged.{Judged}
 use Rattle.roster.specs.Verdict.{verdict, lengthTest}
 use Rattle.roster.specs.declared.Reply.{Reply}
 use Rattle.tokens.specs.Tokens.{nextIs, nextName, blanks, skip, number, numberBehind, numbers, name, innerName}
 use Rattle.reader.specs.Promise.{answerTo, Reads}
-use Rattle.reader.specs.Reading.{leafAt, closing, readTreeTo, readTree, readNode}
+use Rattle.nodes.specs.Reading.{leafAt, closing, readTreeTo, readTree, readNode}
 use Rattle.reader.specs.declared.Reading.{Reading}
-use Rattle.writer.specs.Writing.{treeText, written, nodeText}
+use Rattle.texts.specs.Writing.{treeText, written, nodeText}
 use Rattle.writer.specs.Promise.{rosterTest, recordTest, writeTests, Writes}
-use Rattle.lineages.specs.Count.{kOf, extra, weight, score}
+use Rattle.weights.specs.Count.{kOf, extra, weight, score}
 use Rattle.lineages.specs.Checks.{speciesTest, countTest, speciesRecordTest, firstBad, recordsTest, clusterTest, weightTests, scoreTests, markTests}
-use Rattle.lineages.specs.Promise.{shown, marks, Weighs, Scores, Marks}
+use Rattle.weights.specs.Marks.{shown}
+use Rattle.lineages.specs.Promise.{marks, Weighs, Scores, Marks}
 use Rattle.tables.specs.BinaryTrees.{clustersIn, isLow, lows, each, forks, treesTo, treesOn}
 use Rattle.tables.specs.Least.{those, all, scoreOf, treesOver, leastTrees, best, noTree}
 use Rattle.tables.specs.Allowed.{allowedIn}
-use Rattle.search.specs.Promise.{firstStrange, allowedTest, searchTests, bestFor, Finds}
-use Rattle.search.specs.declared.Found.{Found}
-use Rattle.report.specs.Words.{taxaText, genesText, scoreText, refusedText, atText, digitsTo, decimal}
-use Rattle.report.specs.Input.{lineLength, firstLine, behindLine, endsInFeed, modePlace, treesPlace, gatherTo, gather}
+use Rattle.search.specs.Promise.{firstStrange, allowedTest, searchTests, Finds}
+use Rattle.solver.specs.Best.{bestFor}
+use Rattle.solver.specs.declared.Found.{Found}
+use Rattle.printing.specs.Words.{taxaText, genesText, scoreText, refusedText, atText, digitsTo, decimal}
+use Rattle.gather.specs.GeneTrees.{gatherTo, gather}
+use Rattle.report.specs.Input.{lineLength, firstLine, behindLine, endsInFeed, modePlace, treesPlace}
 use Rattle.report.specs.Program.{searched, program}
 use Rattle.report.specs.Promise.{output, Reports}
 

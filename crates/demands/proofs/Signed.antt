@@ -11,15 +11,15 @@ use Rattle.clusters.proofs.Sets.{below-of-within}
 use Rattle.trees.specs.Tree.{Tree, clusters}
 use Rattle.trees.specs.Records.{recordOf}
 use Rattle.roster.specs.Roster.{names}
-use Rattle.writer.specs.Writing.{written}
+use Rattle.texts.specs.Writing.{written}
 use Rattle.writer.proofs.RoundTrip.{reads-back}
-use Rattle.lineages.specs.Count.{weight}
+use Rattle.weights.specs.Count.{weight}
 use Rattle.tables.specs.BinaryTrees.{clustersIn}
 use Rattle.tables.specs.Least.{scoreOf}
 use Rattle.search.specs.Candidates.{Candidate}
 use Rattle.search.proofs.Demand.{found-answers}
-use Rattle.report.specs.Words.{allWord, genesWord, taxaText, genesText, scoreText, newline, decimal}
-use Rattle.report.specs.Input.{firstLine, behindLine, treesPlace}
+use Rattle.printing.specs.Words.{taxaText, genesText, scoreText, newline, decimal}
+use Rattle.report.specs.Input.{firstLine, behindLine, treesPlace, allWord, genesWord}
 use Rattle.report.specs.Program.{Outcome, allowedBy, program}
 use Rattle.report.specs.Program.Outcome.{refused, solved}
 use Rattle.report.specs.Promise.{printed, output, Reports}

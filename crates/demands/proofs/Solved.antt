@@ -13,14 +13,14 @@ use Rattle.trees.specs.Records.{recordOf}
 use Rattle.roster.specs.Roster.{names, faulty, same}
 use Rattle.roster.specs.Judged.{speciesMost}
 use Rattle.roster.proofs.Positions.{same-is}
-use Rattle.lineages.specs.Count.{weight}
+use Rattle.weights.specs.Count.{weight}
 use Rattle.tables.specs.BinaryTrees.{Binary, clustersIn}
 use Rattle.tables.specs.Least.{scoreOf}
-use Rattle.search.specs.Promise.{bestFor, foundBy}
+use Rattle.solver.specs.Best.{bestFor, foundBy}
 use Rattle.reader.specs.Promise.{textMost}
-use Rattle.report.specs.Words.{allWord, genesWord}
-use Rattle.report.specs.Input.{Gathered, firstLine, behindLine, endsInFeed, treesPlace, gather}
-use Rattle.report.specs.Input.Gathered.{gathered, stopped}
+use Rattle.gather.specs.GeneTrees.{Gathered, gather}
+use Rattle.gather.specs.GeneTrees.Gathered.{gathered, stopped}
+use Rattle.report.specs.Input.{firstLine, behindLine, endsInFeed, treesPlace, allWord, genesWord}
 use Rattle.report.specs.Program.{Outcome, programMost, outcomeOf, searched, allowedBy, withGenes, onTrees, onMode, onFeeds, onSpecies, onRoster, onText, program}
 use Rattle.report.specs.Program.Outcome.{refused, solved}
 use Rattle.demands.proofs.Gathering.{stopped-early}

@@ -13,15 +13,15 @@ use Rattle.trees.specs.Tree.{Tree, clusters}
 use Rattle.trees.specs.Records.{recordOf}
 use Rattle.roster.specs.Roster.{names, faulty, same}
 use Rattle.roster.specs.Judged.{speciesMost}
-use Rattle.lineages.specs.Count.{weight}
+use Rattle.weights.specs.Count.{weight}
 use Rattle.tables.specs.BinaryTrees.{Binary, clustersIn}
 use Rattle.tables.specs.Least.{scoreOf}
-use Rattle.search.specs.Promise.{bestFor}
+use Rattle.solver.specs.Best.{bestFor}
 use Rattle.search.proofs.Demand.{found-answers, none-competes}
 use Rattle.reader.specs.Promise.{textMost}
-use Rattle.report.specs.Words.{allWord, genesWord}
-use Rattle.report.specs.Input.{firstLine, behindLine, endsInFeed, treesPlace, gather}
-use Rattle.report.specs.Input.Gathered.{gathered}
+use Rattle.gather.specs.GeneTrees.{gather}
+use Rattle.gather.specs.GeneTrees.Gathered.{gathered}
+use Rattle.report.specs.Input.{firstLine, behindLine, endsInFeed, treesPlace, allWord, genesWord}
 use Rattle.report.specs.Program.{Outcome, programMost, searched, allowedBy, withGenes, onMode, program}
 use Rattle.report.specs.Program.Outcome.{refused, solved}
 use Rattle.report.specs.Promise.{printed, output}

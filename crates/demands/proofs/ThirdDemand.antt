@@ -6,15 +6,15 @@ use mathlib.Core.Bool.{true}
 use mathlib.Core.List.{List, _++_}
 use Rattle.clusters.specs.Sets.{whole}
 use Rattle.trees.specs.Lists.{Among}
-use Rattle.trees.specs.Records.{listed, SpeciesValid, BinaryOn}
+use Rattle.trees.specs.Records.{listed, SpeciesValid, BinaryOn, recordsIn}
 use Rattle.trees.proofs.Bounds.{whole-below-sixteen}
 use Rattle.trees.proofs.ValidTest.{valid-decides}
 use Rattle.roster.specs.declared.Reply.{Reply}
-use Rattle.lineages.specs.Count.{score, recordsIn}
+use Rattle.weights.specs.Count.{score}
 use Rattle.lineages.specs.Promise.{Scores}
 use Rattle.tables.specs.Allowed.{allowedIn}
 use Rattle.search.specs.Promise.{Finds}
-use Rattle.search.specs.declared.Found.{Found}
+use Rattle.solver.specs.declared.Found.{Found}
 use Rattle.search.specs.Candidates.{Accepted, Candidate, EarlierRecord}
 use Rattle.search.proofs.Demand.{answer, zero-exactly, fourteen-exactly, more-allowed-clusters, more-gene-trees}
 use Rattle.demands.specs.Scorable.{Scorable}

@@ -10,14 +10,13 @@ use lib.Seq.{take-append-seam, drop-append-add, drop-drop, split-at}
 use lib.Dec.{eqb, leb}
 use borrow.Author.Tests.{leb-true, leb-false, le-leb, eqb-true}
 use native.Mathlib.Numerals.{add-one}
-use Rattle.roster.specs.Bytes.{oneMore, run}
+use Rattle.labels.specs.Bytes.{oneMore, run}
 use Rattle.roster.specs.Roster.{faulty, faultAt}
 use Rattle.roster.specs.Judged.{speciesMost}
-use Rattle.roster.proofs.Booleans.{never-both}
+use Rattle.trees.proofs.Booleans.{never-both}
 use Rattle.roster.proofs.Faults.{no-fault}
 use Rattle.roster.proofs.Places.{stray-other, fault-stray}
-use Rattle.report.specs.Words.{allWord, genesWord}
-use Rattle.report.specs.Input.{lineLength, firstLine, behindLine, endsInFeed, modePlace, treesPlace}
+use Rattle.report.specs.Input.{lineLength, firstLine, behindLine, endsInFeed, modePlace, treesPlace, allWord, genesWord}
 use Rattle.report.proofs.Bytewise.{line-within}
 
 -- ---- where a run ends

@@ -7,13 +7,15 @@ use lib.Dec.{eqb}
 use Rattle.clusters.specs.Sets.{whole}
 use Rattle.trees.specs.Records.{listed}
 use Rattle.trees.specs.Valid.{among}
-use Rattle.roster.specs.Roster.{names, same, upTo}
+use Rattle.roster.specs.Roster.{names, same}
+use Rattle.trees.specs.Lists.{upTo}
 use Rattle.reader.specs.Promise.{answerTo, readingOf}
-use Rattle.writer.specs.Writing.{written}
-use Rattle.lineages.specs.Count.{kOf, score}
-use Rattle.lineages.specs.Promise.{marks, flag}
-use Rattle.search.specs.Promise.{bestFor, foundBy}
-use Rattle.search.specs.declared.Found.{Found}
+use Rattle.texts.specs.Writing.{written}
+use Rattle.weights.specs.Count.{kOf, score}
+use Rattle.lineages.specs.Promise.{marks}
+use Rattle.weights.specs.Marks.{flag}
+use Rattle.solver.specs.Best.{bestFor, foundBy}
+use Rattle.solver.specs.declared.Found.{Found}
 
 -- the allowed clusters of a row: all, those that the gene trees show, or these only
 pub data Allowed : Type 0 where

@@ -6,7 +6,7 @@ use Rattle.clusters.specs.Sets.{whole}
 use Rattle.trees.specs.Tree.{Tree, On, clusters}
 use Rattle.trees.specs.Records.{listed, recordOf}
 use Rattle.trees.specs.Lists.{total}
-use Rattle.lineages.specs.Count.{kOf}
+use Rattle.weights.specs.Count.{kOf}
 
 -- the gene records are those of these drawn trees, each of which has every one of n species once
 pub record RecordsOf (n : ℕ) (genes : List (List ℕ)) (trees : List Tree) : Type 0 where

@@ -10,11 +10,11 @@ use Rattle.trees.specs.Lists.{Among}
 use Rattle.trees.specs.Tree.{Tree, clusters}
 use Rattle.roster.specs.Roster.{names, faulty}
 use Rattle.roster.specs.Judged.{speciesMost}
-use Rattle.reader.specs.Grammar.{Blanks}
+use Rattle.nodes.specs.Grammar.{Blanks}
 use Rattle.reader.specs.Promise.{textMost}
 use Rattle.reader.specs.Accepted.{Draws, JustBehind}
-use Rattle.report.specs.Words.{allWord, genesWord}
-use Rattle.report.specs.Input.{genesMost}
+use Rattle.gather.specs.GeneTrees.{genesMost}
+use Rattle.report.specs.Input.{allWord, genesWord}
 use Rattle.report.specs.Program.{programMost}
 
 -- "then trees until only blanks remain": each is drawn from the offset just behind the one before it

@@ -3,8 +3,7 @@ use Prim.Native.Nat.{ℕ, _*_, _≤_}
 use mathlib.Core.List.{List, List·Memᴰ}
 use lib.ListN.{length}
 use Rattle.clusters.specs.Sets.{whole}
-use Rattle.trees.specs.Records.{SpeciesValid, GeneValid, BinaryOn}
-use Rattle.lineages.specs.Count.{recordsIn}
+use Rattle.trees.specs.Records.{SpeciesValid, GeneValid, BinaryOn, recordsIn}
 
 -- n, count and the lent numbers are inside the limits, the species record is valid and binary, and each gene record is valid
 pub record Scorable (n : ℕ) (genes : List ℕ) (count : ℕ) (species : List ℕ) : Type 0 where

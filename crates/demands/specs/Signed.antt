@@ -10,8 +10,8 @@ use Rattle.trees.specs.Records.{listed, SpeciesValid, BinaryOn}
 use Rattle.roster.specs.Roster.{names}
 use Rattle.reader.specs.Promise.{Reads}
 use Rattle.reader.specs.declared.Reading.{Reading}
-use Rattle.writer.specs.Writing.{written}
-use Rattle.report.specs.Words.{taxaText, genesText, scoreText, newline, decimal}
+use Rattle.texts.specs.Writing.{written}
+use Rattle.printing.specs.Words.{taxaText, genesText, scoreText, newline, decimal}
 use Rattle.report.specs.Promise.{output}
 use Rattle.demands.specs.GeneTrees.{scoreOver}
 use Rattle.demands.specs.Input.{Holds, Allows}

@@ -8,7 +8,7 @@ use Rattle.clusters.specs.Sets.{whole}
 use Rattle.roster.specs.Roster.{names, faulty, firstFault}
 use Rattle.roster.specs.Judged.{speciesMost}
 use Rattle.reader.specs.Promise.{textMost}
-use Rattle.reader.specs.Meaning.{Refusal}
+use Rattle.nodes.specs.Meaning.{Refusal}
 
 -- the fault of a text that is read from start on, by the number and the place that are given for it
 pub data TextFault (line text : List ℕ) (start : ℕ) : ℕ → ℕ → Type 0 where

@@ -10,14 +10,15 @@ use borrow.Author.Tests.{lt-ltb, le-ltb}
 use Rattle.clusters.specs.Sets.{whole}
 use Rattle.trees.specs.Valid.{valid, binary}
 use Rattle.roster.specs.declared.Reply.{Reply}
-use Rattle.lineages.specs.Count.{recordsIn, weight, score}
+use Rattle.trees.specs.Records.{recordsIn}
+use Rattle.weights.specs.Count.{weight, score}
 use Rattle.roster.specs.Verdict.{Test, Verdict, verdict, lengthTest, replyOf}
 use Rattle.lineages.specs.Checks.{speciesRecordTest, firstBad, recordsTest, clusterTest, weightTests, scoreTests, markTests}
-use Rattle.lineages.specs.Promise.{markedBy, Weighs, Scores, Marks}
-use Rattle.lineages.specs.Work.{shapeTests, said, replied, marksBelow}
-use Rattle.lineages.proofs.Lent.{length-recordsIn}
+use Rattle.lineages.specs.Promise.{marks, markedBy, Weighs, Scores, Marks}
+use Rattle.lineages.specs.Work.{shapeTests, said, replied}
+use Rattle.weights.specs.Work.{marksBelow}
+use Rattle.trees.proofs.Lent.{length-recordsIn}
 use Rattle.lineages.proofs.Verdicts.{verdict-first, Shaped, shape-passed}
-use Rattle.lineages.proofs.Shown.{marks-below}
 
 -- ---- replies
 
@@ -125,6 +126,11 @@ module _ (n : ℕ) (genes : List ℕ) (count : ℕ) (species : List ℕ) (r : Re
           (shape-passed n genes count (scoreRest n genes count species) shaped ∙ tree-passed n genes count species tree ∙ records-passed n genes count [] found l)
 
 -- ---- mark
+
+-- 2^n bytes of marks are those of the promise
+pub marks-below : (n : ℕ) (genes : List (List ℕ)) → marksBelow (2 ^ n) genes ≡ marks n genes
+unfolding marks marksBelow
+marks-below n genes = refl
 
 markRest : ℕ → List ℕ → ℕ → List ℕ → List Test
 markRest n genes count out = lengthTest (length out) (2 ^ n) ∷ recordsTest n (recordsIn count genes) ∷ []

@@ -9,14 +9,13 @@ use lib.ListN.{length, take, drop}
 use lib.Pow.{pow-mono}
 use Rattle.clusters.specs.Sets.{whole}
 use Rattle.clusters.proofs.Sets.{whole-below, below-of-within}
-use Rattle.trees.specs.Records.{GeneValid}
+use Rattle.trees.specs.Records.{GeneValid, recordsIn, AllValid}
 use Rattle.trees.specs.Valid.{valid}
 use Rattle.trees.proofs.ValidTest.{valid-decides}
-use Rattle.lineages.specs.Count.{recordsIn}
 use Rattle.lineages.specs.Checks.{countOn, firstBad}
-use Rattle.lineages.specs.Work.{AllValid, AllCountable, AllMarkable}
-use Rattle.lineages.proofs.Lent.{length-recordsIn, recordsFrom, records-from-first, records-next, records-from-last}
-use Rattle.lineages.proofs.Checked.{valid-countable}
+use Rattle.weights.specs.Work.{AllCountable, AllMarkable}
+use Rattle.trees.proofs.Lent.{length-recordsIn, recordsFrom, records-from-first, records-next, records-from-last}
+use Rattle.weights.proofs.Checked.{valid-countable}
 
 -- the whole set of up to 16 species is a sixteen-bit number
 pub whole-small : (n : ℕ) → n ≤ 16 → whole n < 65536

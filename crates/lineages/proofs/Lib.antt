@@ -1,14 +1,5 @@
-pub mod Tops
-pub mod CountedDown
-pub mod Bounds
-pub mod Sums
-pub mod Lent
 pub mod Outcomes
-pub mod Scan
-pub mod Checked
-pub mod RunningSums
 pub mod Verdicts
 pub mod FirstBad
 pub mod Told
-pub mod Shown
 pub mod Calls

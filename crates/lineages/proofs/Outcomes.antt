@@ -6,11 +6,11 @@ use mathlib.Core.List.{List}
 use lib.ListN.{length, take}
 use lib.Dec.{ltb}
 use Rattle.roster.specs.declared.Reply.{Reply}
-use Rattle.lineages.specs.Count.{recordsIn}
+use Rattle.trees.specs.Records.{recordsIn}
 use Rattle.roster.specs.Verdict.{lengthTest}
 use Rattle.lineages.specs.Checks.{weightTests, scoreTests, markTests}
 use Rattle.lineages.specs.Promise.{Weighs, Scores, Marks}
-use Rattle.lineages.proofs.Lent.{records-needed, short-needed}
+use Rattle.trees.proofs.Lent.{records-needed, short-needed}
 
 -- ---- one outcome
 

@@ -1,7 +1,7 @@
 -- The replies of the code's tests are the tests of the promises.
 use Prim.Native.Nat.{ℕ, _-_, _^_, _≤_, _<_}
-use mathlib.Core.Path.{_≡_, refl, sym, _∙_, subst}
-use mathlib.Core.Bool.{Bool, true, false, _&&_, false≢true}
+use mathlib.Core.Path.{_≡_, sym, _∙_, subst}
+use mathlib.Core.Bool.{Bool, true, false, _&&_}
 use mathlib.Core.List.{List}
 use native.Mathlib.Decide.{decLt}
 use native.Mathlib.Omega.{arith}
@@ -12,6 +12,7 @@ use Rattle.clusters.specs.Sets.{whole}
 use Rattle.trees.specs.Records.{Form, ValidOn, BinaryOn}
 use Rattle.trees.specs.Valid.{valid, binary}
 use Rattle.trees.specs.Decides.{Decides}
+use Rattle.trees.proofs.Booleans.{both}
 use Rattle.trees.proofs.ValidTest.{valid-decides, valid-reply, binary-reply}
 use Rattle.lineages.proofs.FirstBad.{whole-small}
 
@@ -35,16 +36,9 @@ cluster-told n a one = rw (le-leb 1 a one) (go (decLt a (2 ^ n)))
     go (no h) = lt-leb a (2 ^ n - 1) (omega arith) ∙ sym (le-ltb a (2 ^ n) (omega arith))
 
 pub cluster-small : (n a : ℕ) → n ≤ 16 → (leb 1 a && ltb a (2 ^ n)) ≡ true → a < 65536
-cluster-small n a small e = omega (arith, ltb-true a (2 ^ n) (second (leb 1 a) e), pow-mono {i = n} {j = 16} small)
-  where
-    second : (b : Bool) → (b && ltb a (2 ^ n)) ≡ true → ltb a (2 ^ n) ≡ true
-    second true h = h
-    second false h = absurd (false≢true h)
+cluster-small n a small e = omega (arith, ltb-true a (2 ^ n) (both (leb 1 a) (ltb a (2 ^ n)) e .1), pow-mono {i = n} {j = 16} small)
 
 -- a species record that was checked has the form of one
 pub species-form : (n : ℕ) (species : List ℕ) → n ≤ 16 → (valid (whole n) species && binary (whole n) species) ≡ true → Form species
-species-form n species small e = valid-decides species (whole-small n small) .holds (first (valid (whole n) species) e) .form
-  where
-    first : (b : Bool) → (b && binary (whole n) species) ≡ true → b ≡ true
-    first true h = refl
-    first false h = h
+species-form n species small e =
+    valid-decides species (whole-small n small) .holds (both (valid (whole n) species) (binary (whole n) species) e .0) .form

@@ -7,7 +7,7 @@ use lib.Dec.{leb, ltb}
 use Rattle.clusters.specs.Sets.{whole}
 use Rattle.trees.specs.Valid.{valid, binary}
 use Rattle.roster.specs.Verdict.{Test, lengthTest}
-use Rattle.lineages.specs.Count.{recordsIn}
+use Rattle.trees.specs.Records.{recordsIn}
 
 -- "1 | .. n not 1 to 16 | 0 for n"
 unfoldable pub speciesTest : ℕ → Test

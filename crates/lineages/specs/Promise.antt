@@ -1,13 +1,13 @@
 -- What `weight`, `score` and `mark` promise (01, "Numbers returned").
 use Prim.Native.Nat.{ℕ, zero, suc, _^_}
 use mathlib.Core.Path.{_≡_}
-use mathlib.Core.Bool.{Bool, true, false, _||_}
-use mathlib.Core.List.{List, [], _∷_, _++_, map}
+use mathlib.Core.List.{List, _++_, map}
 use lib.ListN.{drop}
-use Rattle.trees.specs.Valid.{among}
-use Rattle.roster.specs.Roster.{upTo}
+use Rattle.trees.specs.Lists.{upTo}
+use Rattle.trees.specs.Records.{recordsIn}
 use Rattle.roster.specs.declared.Reply.{Reply}
-use Rattle.lineages.specs.Count.{shownBy, weight, score, recordsIn}
+use Rattle.weights.specs.Count.{weight, score}
+use Rattle.weights.specs.Marks.{shown, flag}
 use Rattle.roster.specs.Verdict.{verdict, replyOf}
 use Rattle.lineages.specs.Checks.{weightTests, scoreTests, markTests}
 
@@ -18,16 +18,6 @@ Weighs n genes count a r = r ≡ replyOf (verdict (weightTests n genes count a))
 -- the promise of `score`
 unfoldable pub Scores : ℕ → List ℕ → ℕ → List ℕ → Reply → Type 0
 Scores n genes count species r = r ≡ replyOf (verdict (scoreTests n genes count species)) (score (recordsIn count genes) species)
-
--- cluster a is shown by some gene tree
-unfoldable pub shown : List (List ℕ) → ℕ → Bool
-shown [] a = false
-shown (g ∷ l) a = among a (shownBy g) || shown l a
-
--- "1 for each cluster shown by some gene tree, else 0"
-abbrev pub flag : Bool → ℕ
-flag true = 1
-flag false = 0
 
 -- "2^n bytes: 1 for each cluster shown by some gene tree, else 0"
 unfoldable pub marks : ℕ → List (List ℕ) → List ℕ

@@ -6,7 +6,7 @@ ghost use lib.ListN.{length};
 ghost use lib.Dec.{leb, ltb};
 ghost use Rattle.clusters.specs.Sets.{whole};
 ghost use Rattle.trees.specs.Valid.{valid, binary};
-ghost use Rattle.lineages.specs.Count.{recordsIn};
+ghost use Rattle.trees.specs.Records.{recordsIn};
 ghost use Rattle.roster.specs.Verdict.{verdict};
 ghost use Rattle.lineages.specs.Checks.{firstBad};
 ghost use Rattle.lineages.specs.Work.{shapeTests, said};

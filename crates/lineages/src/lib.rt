@@ -1,8 +1,5 @@
 // Extra lineages counted: the weight of a cluster, the score of a species tree, the clusters that gene trees show.
-mod adding;
 pub mod checks;
-pub mod count;
-mod marking;
 
 use roster::Reply;
 ghost use mathlib.Core.Path.{_≡_};
@@ -44,7 +41,7 @@ pub fn weight(n: usize, genes: &[u16], count: usize, cluster: usize) -> Reply
         return refused(15, bad);
     }
     if checks::is_cluster(n, cluster) {
-        let weight = adding::weigh(genes, count, cluster as u32);
+        let weight = weights::adding::weigh(genes, count, cluster as u32);
         return done(weight);
     }
     refused(13, cluster)
@@ -64,7 +61,7 @@ pub fn score(n: usize, genes: &[u16], count: usize, species: trees::Record) -> R
         if bad < count {
             return refused(15, bad);
         }
-        let score = adding::weigh_tree(genes, count, &numbers);
+        let score = weights::adding::weigh_tree(genes, count, &numbers);
         return done(score);
     }
     refused(16, 0)
@@ -86,6 +83,6 @@ pub fn mark(n: usize, genes: &[u16], count: usize, out: &mut [u8]) -> Reply
     if bad < count {
         return refused(15, bad);
     }
-    marking::mark_shown(genes, count, out, entries);
+    weights::marking::mark_shown(genes, count, out, entries);
     done(0)
 }

@@ -18,12 +18,12 @@ use Rattle.roster.specs.Judged.{speciesMost}
 use Rattle.tokens.specs.Answers.Answer.{parsed}
 use Rattle.reader.specs.Accepted.{Draws, JustBehind, Accepted}
 use Rattle.reader.specs.Promise.{textMost, fromStart, inLimit, onRoster, answerTo}
-use Rattle.reader.proofs.Answers.{refused-parsed}
-use Rattle.reader.proofs.Rests.{Advances, advances-shorter, readTree-advances}
-use Rattle.reader.proofs.Sound.{TreeSound, read-sound, AllKnown}
-use Rattle.reader.proofs.Exact.{Same}
-use Rattle.reader.proofs.Complete.{read-complete}
-use Rattle.reader.proofs.Unique.{tree-unique}
+use Rattle.nodes.proofs.Answers.{refused-parsed}
+use Rattle.nodes.proofs.Rests.{Advances, advances-shorter, readTree-advances}
+use Rattle.nodes.proofs.Sound.{TreeSound, read-sound, AllKnown}
+use Rattle.nodes.proofs.Exact.{Same}
+use Rattle.nodes.proofs.Complete.{read-complete}
+use Rattle.nodes.proofs.Unique.{tree-unique}
 
 -- ---- the species of a tree whose leaves are on the roster, and which lacks none
 

@@ -5,17 +5,17 @@ use mathlib.Core.Path.{_≡_, sym}
 use mathlib.Core.List.{List}
 use lib.ListN.{length, drop, length-drop}
 use borrow.Author.Tests.{le-leb, lt-leb}
-use Rattle.clusters.specs.Sets.{whole}
-use Rattle.roster.specs.Labels.{word}
-use Rattle.roster.specs.Roster.{names, faulty}
+use Rattle.labels.specs.Labels.{word}
+use Rattle.roster.specs.Roster.{names}
 use Rattle.roster.specs.Table.{table}
 use Rattle.roster.specs.Judged.{speciesMost, rosterOf}
 use Rattle.roster.specs.declared.Roster.{Roster}
 use Rattle.roster.proofs.Judging.{read-good, read-faulty}
 use Rattle.roster.proofs.Names.{word-fits, table-tells}
 use Rattle.tokens.specs.Answers.Answer.{refused}
-use Rattle.reader.specs.Reading.{openMost, readTree, readTreeTo}
-use Rattle.reader.specs.Core.{Holds, treeAnswer, ReadsRecord}
+use Rattle.nodes.specs.Reading.{openMost, readTree, readTreeTo}
+use Rattle.nodes.specs.Core.{Holds}
+use Rattle.reader.specs.Work.{treeAnswer, ReadsRecord}
 use Rattle.reader.specs.Promise.{textMost, readingOf, answerTo, Reads}
 use Rattle.reader.specs.declared.Reading.{Reading}
 

@@ -12,8 +12,8 @@ use Rattle.roster.specs.Roster.{names, faulty}
 use Rattle.roster.specs.Judged.{speciesMost}
 use Rattle.tokens.specs.Answers.Answer.{refused}
 use Rattle.reader.specs.Promise.{textMost, fromStart, inLimit, onRoster, answerTo}
-use Rattle.reader.specs.Meaning.{Refusal}
-use Rattle.reader.proofs.Meaning.{refusal-means}
+use Rattle.nodes.specs.Meaning.{Refusal}
+use Rattle.nodes.proofs.Meaning.{refusal-means}
 
 -- from number 3 on, and for a start within the text: the roster's species are needed
 pub answer-means :

@@ -15,18 +15,19 @@ use Rattle.tokens.specs.Answers.Answer.{parsed, refused}
 use Rattle.tokens.specs.Tokens.{nextIs, blanks, skip}
 use Rattle.tokens.specs.Says.{strayAt}
 use Rattle.tokens.specs.declared.answer.Refusal.{Refusal}
-use Rattle.reader.specs.Reading.{readNode, complete, ended}
-use Rattle.reader.specs.Core.{nodeFault, Holds, Given, NodeReads, treeAnswer, ReadsTree}
+use Rattle.nodes.specs.Reading.{readNode, complete, ended}
+use Rattle.nodes.specs.Core.{nodeFault, Holds, Given, NodeReads}
+use Rattle.reader.specs.Work.{treeAnswer, ReadsTree}
 use Rattle.reader.specs.Promise.{readingOf}
 use Rattle.reader.specs.declared.Reading.{Reading}
-use Rattle.reader.specs.declared.answer.Cursor.{Cursor}
-use Rattle.reader.specs.declared.answer.NodeRead.{NodeRead}
-use Rattle.reader.specs.declared.answer.NodeRead.the-variants.{Node, Refused as NoNode}
-use Rattle.reader.proofs.Answers.{refused-parsed, andThen-parsed, unexpected-parsed}
-use Rattle.reader.proofs.Growth.{Fresh, FreshTree, readNode-fresh}
-use Rattle.reader.proofs.NodeAnswers.{node-refused, refused-node, TreeRead, node-read, read-node}
-use Rattle.reader.proofs.NodeSteps.{end-missing, species-missing, tree-ends}
-use Rattle.reader.proofs.NodeWays.{Asked, NodeCall, Followed, node-told}
+use Rattle.nodes.specs.declared.answer.Cursor.{Cursor}
+use Rattle.nodes.specs.declared.answer.NodeRead.{NodeRead}
+use Rattle.nodes.specs.declared.answer.NodeRead.the-variants.{Node, Refused as NoNode}
+use Rattle.nodes.proofs.Answers.{refused-parsed, andThen-parsed, unexpected-parsed}
+use Rattle.nodes.proofs.Growth.{Fresh, FreshTree, readNode-fresh}
+use Rattle.nodes.proofs.NodeAnswers.{node-refused, refused-node, TreeRead, node-read, read-node}
+use Rattle.nodes.proofs.NodeSteps.{end-missing, species-missing, tree-ends}
+use Rattle.nodes.proofs.NodeWays.{Asked, NodeCall, Followed, node-told}
 use Rattle.trees.proofs.Stores.{getD-sets, take-sets}
 
 -- ---- a node and `;`

@@ -8,8 +8,8 @@ use Rattle.clusters.specs.Sets.{whole}
 use Rattle.trees.specs.Tree.{Tree, On}
 use Rattle.roster.specs.Roster.{names, faulty}
 use Rattle.roster.specs.Judged.{speciesMost}
-use Rattle.reader.specs.Reading.{openMost}
-use Rattle.reader.specs.Grammar.{strict, Text}
+use Rattle.nodes.specs.Reading.{openMost}
+use Rattle.nodes.specs.Grammar.{strict, Text}
 use Rattle.reader.specs.Promise.{textMost}
 
 -- from start on, the text draws t, and rest is left behind its `;`: the roster is good, the limits are kept,

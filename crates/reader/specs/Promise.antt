@@ -12,7 +12,7 @@ use Rattle.roster.specs.Roster.{names, faulty, firstFault}
 use Rattle.roster.specs.Judged.{speciesMost}
 use Rattle.tokens.specs.Answers.{Answer}
 use Rattle.tokens.specs.Answers.Answer.{parsed, refused}
-use Rattle.reader.specs.Reading.{readTree}
+use Rattle.nodes.specs.Reading.{readTree}
 use Rattle.reader.specs.declared.Reading.{Reading}
 
 -- "text | 65,536 bytes"

@@ -1,7 +1,4 @@
 // Tree text read to a record, with every refusal.
-mod answer;
-mod leaf;
-mod node;
 mod tree;
 
 pub use tree::read;

@@ -4,22 +4,23 @@ ghost use mathlib.Core.List.{List};
 ghost use Prim.Native.Nat.{ℕ, _*_, _≤_};
 ghost use lib.ListN.{length};
 ghost use Rattle.tokens.specs.Answers.Answer.{refused as Answer·refused};
-ghost use Rattle.reader.specs.Core.{Holds, Given, ReadsTree, ReadsRecord};
+ghost use Rattle.nodes.specs.Core.{Holds, Given};
+ghost use Rattle.reader.specs.Work.{ReadsTree, ReadsRecord};
 ghost use Rattle.reader.specs.Promise.{readingOf, Reads};
 use crate::Reading;
-use crate::answer::Cursor;
-use crate::answer::NodeRead;
-use crate::answer::moved;
-use crate::answer::node_refusal;
-use crate::node::node;
 use clusters::whole;
 use clusters::within;
+use nodes::answer::Cursor;
+use nodes::answer::NodeRead;
+use nodes::answer::moved;
+use nodes::answer::node_refusal;
+use nodes::node::node;
 use roster::parse;
+use sorting::record_of;
 use tokens::Refusal;
 use tokens::blanks;
 use tokens::next_is;
 use tokens::stray;
-use trees::record_of;
 
 // A tree: a node and `;`, with every species of `needed` in it.
 fn tree(

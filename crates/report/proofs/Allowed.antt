@@ -9,16 +9,16 @@ use Rattle.clusters.specs.Sets.{whole}
 use Rattle.trees.specs.Valid.{valid}
 use Rattle.trees.proofs.Bounds.{whole-below-sixteen}
 use Rattle.trees.proofs.ValidTest.{valid-decides}
-use Rattle.roster.specs.Roster.{upTo}
+use Rattle.trees.specs.Lists.{upTo}
 use Rattle.roster.specs.declared.Reply.{Reply}
-use Rattle.lineages.specs.Count.{recordsIn}
+use Rattle.trees.specs.Records.{recordsIn, AllValid}
 use Rattle.lineages.specs.Checks.{firstBad}
-use Rattle.lineages.specs.Promise.{shown, flag, marks, Marks}
-use Rattle.lineages.specs.Work.{AllValid}
-use Rattle.lineages.proofs.Lent.{length-recordsIn}
+use Rattle.weights.specs.Marks.{shown, flag}
+use Rattle.lineages.specs.Promise.{marks, Marks}
+use Rattle.trees.proofs.Lent.{length-recordsIn}
 use Rattle.lineages.proofs.Verdicts.{Shaped}
-use Rattle.lineages.proofs.Shown.{marks-below, length-marks}
-use Rattle.lineages.proofs.Calls.{marks-done}
+use Rattle.lineages.proofs.Calls.{marks-below, marks-done}
+use Rattle.weights.proofs.Shown.{length-marks}
 use Rattle.lineages.proofs.Outcomes.{marks-once}
 use Rattle.report.specs.Program.{allowedBy}
 use Rattle.report.specs.Work.{Genes, Marked}

@@ -9,9 +9,9 @@ use lib.Seq.{drop-cons}
 use lib.Dec.{eqb}
 use borrow.Author.Tests.{eq-eqb, ne-eqb}
 use Rattle.roster.specs.Roster.{same}
-use Rattle.roster.proofs.Runs.{run-on, run-off, run-end, run-within}
+use Rattle.labels.proofs.Runs.{run-on, run-off, run-end, run-within}
 use Rattle.roster.proofs.Positions.{same-is}
-use Rattle.roster.proofs.Booleans.{unless}
+use Rattle.trees.proofs.Booleans.{unless}
 use Rattle.report.specs.Input.{lineLength}
 
 -- ---- the line at the front

@@ -9,12 +9,13 @@ use borrow.Author.Tests.{le-leb, lt-leb}
 use Rattle.roster.specs.Roster.{names, faulty, firstFault}
 use Rattle.roster.specs.Judged.{speciesMost, judgedBy, Judged}
 use Rattle.roster.specs.declared.Reply.{Reply}
+use Rattle.printing.specs.Texts.{reportOf}
+use Rattle.printing.specs.declared.Report.{Report}
 use Rattle.report.specs.Input.{firstLine}
 use Rattle.report.specs.Program.{Outcome, onSpecies, program}
 use Rattle.report.specs.Program.Outcome.{refused}
 use Rattle.report.specs.Promise.{output, Reports}
-use Rattle.report.specs.Work.{reportOf, told, Roster}
-use Rattle.report.specs.declared.print.Report.{Report}
+use Rattle.report.specs.Work.{told, Roster}
 
 -- the report of one outcome is that of an equal one
 pub retold : (ns : List (List ℕ)) {r : Report} {o outcome : Outcome} → o ≡ outcome → r ≡ told ns o → r ≡ told ns outcome

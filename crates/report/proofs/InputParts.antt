@@ -8,12 +8,12 @@ use lib.ListN.{length, take, drop, length-drop}
 use lib.Seq.{take-all}
 use borrow.Author.Tests.{le-leb, lt-leb}
 use Rattle.roster.specs.Roster.{names, same}
-use Rattle.report.specs.Words.{allWord, genesWord}
-use Rattle.report.specs.Input.{lineLength, firstLine, behindLine, endsInFeed, modePlace, treesPlace, gather}
+use Rattle.printing.specs.declared.Report.{Report}
+use Rattle.gather.specs.GeneTrees.{gather}
+use Rattle.report.specs.Input.{lineLength, firstLine, behindLine, endsInFeed, modePlace, treesPlace, allWord, genesWord}
 use Rattle.report.specs.Program.{onMode, onSpecies, onTrees}
 use Rattle.report.specs.Program.Outcome.{refused}
 use Rattle.report.specs.Work.{told}
-use Rattle.report.specs.declared.print.Report.{Report}
 use Rattle.report.proofs.Bytewise.{line-within}
 
 -- what is lent from a place on

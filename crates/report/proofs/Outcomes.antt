@@ -6,13 +6,13 @@ use native.Mathlib.Omega.{arith}
 use lib.ListN.{length, take, replicate, length-append}
 use lib.Seq.{take-at}
 use Rattle.roster.specs.Roster.{names}
+use Rattle.printing.specs.declared.Report.{Report}
 use Rattle.report.specs.Input.{firstLine}
 use Rattle.report.specs.Program.{Outcome, program}
 use Rattle.report.specs.Program.Outcome.{refused, solved}
 use Rattle.report.specs.Promise.{printed, output, Reports}
 use Rattle.report.specs.Forms.{Form}
 use Rattle.report.specs.Forms.Form.{refusal, answer}
-use Rattle.report.specs.declared.print.Report.{Report}
 
 -- the promise admits one outcome
 pub reports-once : (input : List ℕ) {r r′ : Report} → Reports input r → Reports input r′ → r ≡ r′

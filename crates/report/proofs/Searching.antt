@@ -7,13 +7,14 @@ use native.Mathlib.Omega.{arith}
 use lib.ListN.{length}
 use lib.Pow.{pow-mono}
 use Rattle.clusters.specs.Sets.{whole}
-use Rattle.trees.specs.Records.{ValidOn}
-use Rattle.lineages.specs.Count.{recordsIn, weight}
+use Rattle.trees.specs.Records.{ValidOn, recordsIn}
+use Rattle.weights.specs.Count.{weight}
 use Rattle.tables.specs.BinaryTrees.{Binary}
 use Rattle.tables.specs.Allowed.{allowedIn}
 use Rattle.tables.proofs.Recurrence.{best-on}
-use Rattle.search.specs.Promise.{bestFor, foundBy, Finds}
-use Rattle.search.specs.declared.Found.{Found}
+use Rattle.search.specs.Promise.{Finds}
+use Rattle.solver.specs.Best.{bestFor, foundBy}
+use Rattle.solver.specs.declared.Found.{Found}
 use Rattle.search.specs.Candidates.{Accepted}
 use Rattle.search.proofs.Accepted.{accepts}
 use Rattle.search.proofs.RecordsOfTrees.{tree-valid, whole-narrow}

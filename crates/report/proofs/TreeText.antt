@@ -11,14 +11,14 @@ use Rattle.trees.proofs.Bounds.{whole-below-sixteen}
 use Rattle.trees.proofs.ValidTest.{valid-decides}
 use Rattle.roster.specs.Roster.{names}
 use Rattle.roster.specs.declared.Reply.{Reply}
-use Rattle.writer.specs.Writing.{written}
+use Rattle.printing.specs.Work.{Put}
+use Rattle.printing.proofs.Printing.{Room}
+use Rattle.texts.specs.Writing.{written}
 use Rattle.writer.specs.Promise.{Writes}
-use Rattle.writer.specs.Work.{Put}
 use Rattle.writer.proofs.RosterNames.{good-names}
-use Rattle.writer.proofs.Lengths.{text-most}
+use Rattle.texts.proofs.Lengths.{text-most}
 use Rattle.writer.proofs.Outcomes.{writes-done, writes-once}
 use Rattle.report.specs.Work.{Roster}
-use Rattle.report.proofs.Printing.{Room}
 
 -- all bytes of a list from a place on
 part-behind : (n at : ℕ) (l : List ℕ) → length l ≡ n → take (n - at) (drop at l) ≡ drop at l

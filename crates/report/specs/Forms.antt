@@ -1,8 +1,8 @@
 -- The two forms of the output (01, "The program").
 use Prim.Native.Nat.{ℕ}
 use mathlib.Core.List.{List, _++_}
-use Rattle.writer.specs.Writing.{written}
-use Rattle.report.specs.Words.{taxaText, genesText, scoreText, refusedText, atText, newline, decimal}
+use Rattle.printing.specs.Words.{taxaText, genesText, scoreText, refusedText, atText, newline, decimal}
+use Rattle.texts.specs.Writing.{written}
 
 -- one line, "the number and the place"; or three: "species and gene trees read, the score, and the tree"
 pub data Form (names : List (List ℕ)) : List ℕ → Type 0 where

@@ -1,5 +1,3 @@
-pub mod Words
-pub mod Value
 pub mod Input
 pub mod Program
 pub mod Promise

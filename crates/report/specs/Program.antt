@@ -9,11 +9,11 @@ use Rattle.roster.specs.Roster.{names, faulty, firstFault, same}
 use Rattle.roster.specs.Judged.{speciesMost}
 use Rattle.reader.specs.Promise.{textMost}
 use Rattle.lineages.specs.Promise.{marks}
-use Rattle.search.specs.Promise.{bestFor, foundBy}
-use Rattle.search.specs.declared.Found.{Found}
-use Rattle.report.specs.Words.{allWord, genesWord}
-use Rattle.report.specs.Input.{Gathered, firstLine, behindLine, endsInFeed, modePlace, treesPlace, gather}
-use Rattle.report.specs.Input.Gathered.{gathered, stopped}
+use Rattle.solver.specs.Best.{bestFor, foundBy}
+use Rattle.solver.specs.declared.Found.{Found}
+use Rattle.gather.specs.GeneTrees.{Gathered, gather}
+use Rattle.gather.specs.GeneTrees.Gathered.{gathered, stopped}
+use Rattle.report.specs.Input.{firstLine, behindLine, endsInFeed, modePlace, treesPlace, allWord, genesWord}
 
 -- a refusal with its number and place, or species, gene trees, score and the record of the tree
 pub data Outcome : Type 0 where

@@ -4,16 +4,17 @@ use mathlib.Core.Path.{_≡_}
 use mathlib.Core.List.{List, _++_}
 use lib.ListN.{length, replicate}
 use Rattle.roster.specs.Roster.{names}
-use Rattle.writer.specs.Writing.{written}
-use Rattle.report.specs.Words.{taxaText, genesText, scoreText, refusedText, atText, newline, decimal}
+use Rattle.printing.specs.Words.{taxaText, genesText, scoreText, newline, decimal}
+use Rattle.printing.specs.Texts.{refusalText}
+use Rattle.printing.specs.declared.Report.{Report}
+use Rattle.texts.specs.Writing.{written}
 use Rattle.report.specs.Input.{firstLine}
 use Rattle.report.specs.Program.{Outcome, program}
 use Rattle.report.specs.Program.Outcome.{refused, solved}
-use Rattle.report.specs.declared.print.Report.{Report}
 
 -- "prints species and gene trees read, the score, and the tree"; "A refusal prints one line .. : the number and the place"
 abbrev pub printed : List (List ℕ) → Outcome → List ℕ
-printed ns (refused number place) = refusedText ++ decimal number ++ atText ++ decimal place ++ newline
+printed ns (refused number place) = refusalText number place
 printed ns (solved n m score r) =
     taxaText ++ decimal n ++ genesText ++ decimal m ++ newline ++ scoreText ++ decimal score ++ newline ++ written ns r ++ newline
 

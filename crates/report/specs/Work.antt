@@ -1,44 +1,27 @@
 -- What the parts of the program ask of one another: the report of an outcome, a roster that was judged, gene trees in the numbers lent for them.
-use Prim.Native.Nat.{ℕ, _-_, _*_, _^_, _≤_, _<_}
+use Prim.Native.Nat.{ℕ, _*_, _^_, _≤_, _<_}
 use mathlib.Core.Path.{_≡_}
 use mathlib.Core.Bool.{false}
-use mathlib.Core.List.{List, _++_}
-use lib.ListN.{length, getD, replicate}
+use mathlib.Core.List.{List}
+use lib.ListN.{length, getD}
 use Rattle.roster.specs.Roster.{names, faulty}
 use Rattle.roster.specs.Judged.{speciesMost}
-use Rattle.lineages.specs.Count.{recordsIn}
-use Rattle.lineages.specs.Work.{AllValid}
-use Rattle.report.specs.Words.{taxaText, genesText, scoreText, newline, decimal}
-use Rattle.report.specs.Input.{Gathered, genesMost}
-use Rattle.report.specs.Input.Gathered.{gathered, stopped}
+use Rattle.printing.specs.Texts.{reportOf}
+use Rattle.printing.specs.declared.Report.{Report}
+use Rattle.trees.specs.Records.{recordsIn, AllValid}
+use Rattle.gather.specs.GeneTrees.{genesMost}
 use Rattle.report.specs.Program.{Outcome, programMost}
 use Rattle.report.specs.Promise.{printed}
-use Rattle.report.specs.declared.print.Report.{Report}
-use Rattle.report.specs.declared.gather.Trees.{Trees}
-use Rattle.report.specs.declared.gather.Trees.the-variants.{Gathered as Read, Stopped}
-
--- a text as a report: how long it is, and zeros behind it
-unfoldable pub reportOf : List ℕ → Report
-reportOf text = record { len = length text; text = text ++ replicate (512 - length text) 0 }
 
 -- the report of an outcome, over the names of the roster
 abbrev pub told : List (List ℕ) → Outcome → Report
 told ns outcome = reportOf (printed ns outcome)
-
--- the first two of the three lines of an answer
-abbrev pub countsText : ℕ → ℕ → ℕ → List ℕ
-countsText n m score = taxaText ++ decimal n ++ genesText ++ decimal m ++ newline ++ scoreText ++ decimal score ++ newline
 
 -- the roster line is good, and names n species, twelve at the most
 pub record Roster (line : List ℕ) (n : ℕ) : Type 0 where
   pub good : faulty speciesMost line ≡ false
   pub named : n ≡ length (names line)
   pub few : n ≤ programMost
-
--- the gene trees that were read stand in the lent numbers, or the number and place of the refusal
-abbrev pub gatheredIn : List ℕ → Trees → Gathered
-gatheredIn genes (Read count) = gathered (recordsIn count genes)
-gatheredIn genes (Stopped number place) = stopped number place
 
 -- the records of 1 to 512 gene trees are lent, each valid for n species, 1 to 12
 pub record Genes (n count : ℕ) (numbers : List ℕ) : Type 0 where

@@ -1,10 +1,9 @@
 // The program as a function from input bytes to output bytes.
-mod gather;
 mod lines;
 mod print;
 mod solve;
 
-pub use print::Report;
+pub use printing::Report;
 ghost use mathlib.Core.Path.{_≡_};
 ghost use mathlib.Core.Bool.{true};
 ghost use Prim.Native.Nat.{_≤_};
@@ -17,7 +16,7 @@ ghost use Rattle.report.specs.Promise.{Reports};
 ghost use Rattle.report.specs.Work.{told, Roster};
 use lines::is_word;
 use lines::line_length;
-use print::refusal;
+use printing::refusal;
 use solve::on_trees;
 
 // The input behind a good roster line, which ends at `end` and names n species: the mode line, and the trees.

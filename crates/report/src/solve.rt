@@ -1,20 +1,20 @@
 // From the gene trees to the report: the allowed clusters, the search, the outcome.
 ghost use mathlib.Core.Path.{_≡_};
-ghost use Prim.Native.Nat.{_+_, _*_, _^_, _≤_};
+ghost use Prim.Native.Nat.{_+_, _^_, _≤_};
 ghost use lib.ListN.{length, replicate};
 ghost use Rattle.clusters.specs.Sets.{whole};
 ghost use Rattle.roster.specs.Roster.{names};
 ghost use Rattle.reader.specs.Promise.{textMost};
-ghost use Rattle.lineages.specs.Count.{recordsIn};
-ghost use Rattle.search.specs.Promise.{bestFor, foundBy};
-ghost use Rattle.report.specs.Input.{gather as Input·gather};
+ghost use Rattle.trees.specs.Records.{recordsIn};
+ghost use Rattle.gather.specs.GeneTrees.{gather as GeneTrees·gather};
+ghost use Rattle.solver.specs.Best.{bestFor, foundBy};
 ghost use Rattle.report.specs.Program.{searched, allowedBy, onTrees};
 ghost use Rattle.report.specs.Work.{told, Roster, Genes, Marked};
-use crate::gather::Trees;
-use crate::gather::gather;
-use crate::print::Report;
-use crate::print::refusal;
 use crate::print::solved;
+use gather::Trees;
+use gather::gather;
+use printing::Report;
+use printing::refusal;
 use search::Found;
 use trees::Record;
 
@@ -74,7 +74,7 @@ fn solve(line: &[u8], n: usize, genes: &[u16], count: usize, all: bool) -> Repor
 pub(crate) fn on_trees(line: &[u8], trees: &[u8], shift: usize, all: bool, n: usize) -> Report
     requires { ⌜ Roster (now line) n ⌝ }
     requires { ⌜ shift + length (now trees) ≤ textMost ⌝ }
-    ensures { λ r. ⌜ r ≡ told (names (now (line .entry))) (onTrees (Input·gather (now (line .entry)) (now (trees .entry))) shift all n) ⌝ }
+    ensures { λ r. ⌜ r ≡ told (names (now (line .entry))) (onTrees (GeneTrees·gather (now (line .entry)) (now (trees .entry))) shift all n) ⌝ }
 {
     let mut genes = [0u16; 16384];
     match gather(line, trees, &mut genes) {

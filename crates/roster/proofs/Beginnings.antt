@@ -7,13 +7,13 @@ use mathlib.Core.Bool.{Bool, true, false}
 use mathlib.Core.List.{List, [], _∷_, _++_, map, append-nil, map-append}
 use lib.ListN.{length, drop, length-map, length-take}
 use lib.Seq.{getD-take}
-use Rattle.trees.specs.Lists.{keep, keepIf}
-use Rattle.roster.specs.Bytes.{isName, run}
-use Rattle.roster.specs.Labels.{word}
-use Rattle.roster.specs.Roster.{upTo, begins, beginnings, nameAt, names}
+use Rattle.trees.specs.Lists.{keep, keepIf, upTo}
+use Rattle.labels.specs.Bytes.{isName, run}
+use Rattle.labels.specs.Labels.{word}
+use Rattle.labels.proofs.Runs.{run-byte}
+use Rattle.roster.specs.Roster.{begins, beginnings, nameAt, names}
 use Rattle.roster.proofs.Each.{Each, each-none, each-more, each-both, each-still}
 use Rattle.roster.proofs.Padding.{Fitting, Lettered, lettered-bare}
-use Rattle.roster.proofs.Runs.{run-byte}
 
 keep-append : (test : ℕ → Bool) (k l : List ℕ) → keep test (k ++ l) ≡ keep test k ++ keep test l
 unfolding keep

@@ -1,8 +1,5 @@
 -- The mathematics behind the proofs of this crate, and the laws that other crates cite.
-pub mod Booleans
-pub mod ByteKinds
 pub mod Least
-pub mod Runs
 pub mod Beginnings
 pub mod Each
 pub mod Positions
@@ -13,7 +10,4 @@ pub mod Places
 pub mod Turns
 pub mod Judging
 pub mod Names
-pub mod Words
-pub mod Scans
 pub mod Slots
-pub mod UpTo

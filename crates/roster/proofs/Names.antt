@@ -8,11 +8,11 @@ use mathlib.Core.Bool.{Bool, true, false, not}
 use mathlib.Core.List.{List, []}
 use lib.ListN.{length, getD, length-append, length-take, List·getD-eq-default}
 use borrow.Author.Tests.{not-true}
-use Rattle.roster.specs.Bytes.{isName, run}
-use Rattle.roster.specs.Labels.{word, padded}
+use Rattle.labels.specs.Bytes.{isName, run}
+use Rattle.labels.specs.Labels.{word, padded}
 use Rattle.roster.specs.Roster.{byteAt, byteBefore, begins, nameAt, names, position, faultAt, faulty}
 use Rattle.roster.specs.Table.{table, slots}
-use Rattle.roster.proofs.Booleans.{both, never-both}
+use Rattle.trees.proofs.Booleans.{both, never-both}
 use Rattle.roster.proofs.Beginnings.{namesTo, names-to-end, as-many, none-yet, one-more, no-more, each-begun, word-lettered, names-lettered, short-fit}
 use Rattle.roster.proofs.Each.{Each, each-at, each-still}
 use Rattle.roster.proofs.Faults.{no-fault}

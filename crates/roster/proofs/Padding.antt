@@ -8,8 +8,8 @@ use mathlib.Core.List.{List, [], _∷_, _++_, map}
 use lib.ListN.{length, getD, replicate, length-append, length-replicate}
 use lib.Dec.{eqb}
 use borrow.Author.Tests.{ne-eqb}
-use Rattle.roster.specs.Bytes.{isName}
-use Rattle.roster.specs.Labels.{padded}
+use Rattle.labels.specs.Bytes.{isName}
+use Rattle.labels.specs.Labels.{padded}
 use Rattle.roster.specs.Roster.{same, position}
 use Rattle.roster.proofs.Each.{Each}
 use Rattle.roster.proofs.Positions.{same-self}

@@ -9,11 +9,11 @@ use lib.ListN.{length, getD, drop}
 use lib.Seq.{getD-drop}
 use lib.Dec.{eqb, leb, ltb}
 use borrow.Author.Tests.{eq-eqb, ne-eqb, le-leb, lt-ltb, le-ltb, leb-true, ltb-true}
-use Rattle.roster.specs.Bytes.{isName, run}
+use Rattle.labels.specs.Bytes.{isName, run}
+use Rattle.labels.proofs.Runs.{run-byte}
 use Rattle.roster.specs.Roster.{byteAt, byteBefore, begins, beginnings, nameAt, position, strayAt, longAt, manyAt, againAt, openAt, faultAt}
-use Rattle.roster.proofs.Booleans.{both, unless, never-both}
+use Rattle.trees.proofs.Booleans.{both, unless, never-both}
 use Rattle.roster.proofs.Beginnings.{namesTo}
-use Rattle.roster.proofs.Runs.{run-byte}
 
 module _ (line : List ℕ) (p : ℕ) where
   -- a byte of a name is no stray, nor is a space behind a name; any other byte is

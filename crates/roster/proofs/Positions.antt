@@ -11,7 +11,7 @@ use lib.Seq.{getD-append-seam}
 use lib.Dec.{eqb}
 use borrow.Author.Tests.{eq-eqb, eqb-true}
 use Rattle.roster.specs.Roster.{same, position, countOn}
-use Rattle.roster.proofs.Booleans.{both}
+use Rattle.trees.proofs.Booleans.{both}
 use Rattle.roster.proofs.Each.{Each}
 
 pub same-self : (w : List ℕ) → same w w ≡ true

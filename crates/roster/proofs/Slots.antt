@@ -8,12 +8,12 @@ use mathlib.Core.List.{List}
 use lib.ListN.{length, getD, take, drop, length-drop, drop-of-length-le}
 use lib.Seq.{drop-cons, getD-drop, getD-take, length-take-le}
 use borrow.Author.Tests.{eq-eqb, ne-eqb}
+use Rattle.labels.specs.Bytes.{run}
+use Rattle.labels.proofs.Runs.{run-on, run-off, run-end}
 use Rattle.trees.specs.Lists.{pieces}
 use Rattle.trees.proofs.EqualPieces.{pieces-next}
 use Rattle.roster.specs.Roster.{same, position}
-use Rattle.roster.specs.Bytes.{run}
 use Rattle.roster.specs.Table.{slots, nonZero}
-use Rattle.roster.proofs.Runs.{run-on, run-off, run-end}
 
 -- the i-th sixteen
 abbrev pub slot : List ℕ → ℕ → List ℕ

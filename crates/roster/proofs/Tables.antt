@@ -7,10 +7,10 @@ use mathlib.Core.List.{List, [], _∷_, _++_, map, append-nil, append-assoc}
 use lib.ListN.{length, getD, take, drop, replicate, length-append, length-replicate}
 use lib.Seq.{take-at, drop-at, take-append-seam, take-all, take-take, drop-drop, paste}
 use borrow.Author.Tests.{ne-eqb}
+use Rattle.labels.specs.Bytes.{run}
+use Rattle.labels.specs.Labels.{padded}
 use Rattle.trees.specs.Lists.{pieces}
 use Rattle.trees.proofs.EqualPieces.{piece-at}
-use Rattle.roster.specs.Bytes.{run}
-use Rattle.roster.specs.Labels.{padded}
 use Rattle.roster.specs.Table.{packed, table, slots, nonZero}
 use Rattle.roster.proofs.Each.{Each, each-at, each-still}
 use Rattle.roster.proofs.Padding.{Fitting, Bare, padded-length}

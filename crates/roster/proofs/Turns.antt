@@ -10,12 +10,13 @@ use mathlib.Core.List.{List, [], _∷_, _++_}
 use lib.ListN.{length, getD, drop, replicate, length-append, length-drop, length-replicate}
 use lib.Seq.{getD-drop, length-take-le, paste, length-paste}
 use lib.Dec.{eqb}
-use Rattle.roster.specs.Bytes.{isName, run}
-use Rattle.roster.specs.Labels.{word, padded}
+use Rattle.labels.specs.Bytes.{isName, run}
+use Rattle.labels.specs.Labels.{word, padded}
+use Rattle.labels.proofs.Runs.{run-byte, run-behind, run-left, run-on}
 use Rattle.roster.specs.Roster.{byteAt, byteBefore, begins, beginnings, nameAt, names, position, same, faultAt}
 use Rattle.roster.specs.Table.{table, slots}
 use Rattle.roster.specs.Judged.{rosterOf}
-use Rattle.roster.proofs.Booleans.{unless}
+use Rattle.trees.proofs.Booleans.{unless}
 use Rattle.roster.proofs.Beginnings.{namesTo, names-to-end, as-many, none-yet, one-more, no-more-upto, name-lettered, short-fit}
 use Rattle.roster.proofs.Each.{Each, each-none, each-more, each-still}
 use Rattle.roster.proofs.Faults.{Clean, roster-faulty, roster-good}
@@ -23,7 +24,6 @@ use Rattle.roster.proofs.Places.{no-stray-name, no-stray-space, no-stra
 use Rattle.roster.proofs.Positions.{same-is, position-unknown}
 use Rattle.roster.proofs.Padding.{Fitting, lettered-bare, padded-length, position-padded}
 use Rattle.roster.proofs.Tables.{Short, table-none, table-more, slots-table}
-use Rattle.roster.proofs.Runs.{run-byte, run-behind, run-left, run-on}
 
 -- where a name has to begin at `at`: no fault before it, and the names before it are in the table
 pub record Begun (most : ℕ) (line held : List ℕ) (count at : ℕ) : Type 0 where

@@ -1,5 +1,3 @@
-pub mod Bytes
-pub mod Labels
 pub mod Roster
 pub mod Table
 pub mod Judged

@@ -1,17 +1,12 @@
 -- The roster line: its names and its faults (01, "Species, clusters, records" and "Numbers returned").
-use Prim.Native.Nat.{ℕ, zero, suc, _+_, _-_}
+use Prim.Native.Nat.{ℕ, zero, suc, _-_}
 use mathlib.Core.Bool.{Bool, true, false, not, _&&_, _||_}
-use mathlib.Core.List.{List, [], _∷_, _++_, map}
+use mathlib.Core.List.{List, [], _∷_, map}
 use lib.ListN.{length, getD, drop}
 use lib.Dec.{eqb, leb, ltb}
-use Rattle.trees.specs.Lists.{keep}
-use Rattle.roster.specs.Bytes.{isName, run}
-use Rattle.roster.specs.Labels.{labelBytes, word}
-
--- the numbers below n, rising
-unfoldable pub upTo : ℕ → List ℕ
-upTo zero = []
-upTo (suc n) = upTo n ++ (n ∷ [])
+use Rattle.trees.specs.Lists.{keep, upTo}
+use Rattle.labels.specs.Bytes.{isName, run}
+use Rattle.labels.specs.Labels.{labelBytes, word}
 
 -- two names are the same, byte for byte
 unfoldable pub same : List ℕ → List ℕ → Bool

@@ -4,8 +4,8 @@ use mathlib.Core.Bool.{Bool, not}
 use mathlib.Core.List.{List, [], _∷_, _++_}
 use lib.ListN.{length, replicate}
 use lib.Dec.{eqb}
+use Rattle.labels.specs.Labels.{padded}
 use Rattle.trees.specs.Lists.{pieces}
-use Rattle.roster.specs.Labels.{padded}
 
 -- the names one after the other, each in sixteen bytes
 unfoldable pub packed : List (List ℕ) → List ℕ

@@ -1,15 +1,7 @@
-// The roster: the label scanner, the roster line and its faults, from a name to its species and back.
-mod label;
+// The roster: the roster line and its faults, from a name to its species and back.
 mod line;
 mod table;
 
-pub use label::Label;
-pub use label::Scanned;
-pub use label::is_blank;
-pub use label::is_digit;
-pub use label::is_name_byte;
-pub use label::run_of_name;
-pub use label::scan;
 pub use line::judge;
 pub use line::parse;
 pub use table::name_len;

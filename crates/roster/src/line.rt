@@ -5,11 +5,11 @@ ghost use lib.ListN.{replicate};
 ghost use Rattle.roster.specs.Judged.{Judged, rosterOf};
 use crate::Reply;
 use crate::Roster;
-use crate::label::Label;
-use crate::label::is_name_byte;
-use crate::label::scan;
 use crate::table::enter;
 use crate::table::species;
+use labels::Label;
+use labels::is_name_byte;
+use labels::scan;
 
 // The roster that is faulty at `place`.
 fn faulty(place: usize) -> Roster

@@ -11,7 +11,7 @@ use borrow.Author.Tests.{ltb-false, leb-true, le-leb, le-ltb, not-false}
 use Rattle.clusters.specs.Sets.{whole}
 use Rattle.trees.specs.Valid.{valid}
 use Rattle.roster.proofs.Least.{least-first, least-none}
-use Rattle.lineages.specs.Count.{recordsIn}
+use Rattle.trees.specs.Records.{recordsIn}
 use Rattle.roster.specs.Verdict.{Test, verdict, verdictBy, lengthTest}
 use Rattle.lineages.specs.Checks.{speciesTest, countTest, firstBad, countOn, recordsTest}
 use Rattle.search.specs.Promise.{firstStrange, allowedTest, searchTests}

@@ -18,7 +18,7 @@ use Rattle.trees.specs.Valid.{every}
 use Rattle.tables.specs.BinaryTrees.{Binary, clustersIn, treesOn}
 use Rattle.tables.specs.BinaryTrees.Binary.{fork}
 use Rattle.tables.specs.WellFormed.{LowPart, TreeOn}
-use Rattle.tables.specs.WellFormed.TreeOn.{one, two}
+use Rattle.tables.specs.WellFormed.TreeOn.{two}
 use Rattle.tables.specs.Order.{Earlier, Ordered}
 use Rattle.tables.specs.Least.{scoreOf, best, scoreEntry, splitEntry}
 use Rattle.tables.proofs.FirstLeast.{chosen, pick, pickAll, pickAll-same, gateBy, pickAll-least, pickAll-missed, pickAll-scores}

@@ -8,20 +8,20 @@ use mathlib.Core.Option.{Option, some, none}
 use mathlib.Core.List.{List, [], _∷_, _++_, map, List·Memᴰ·head as here, List·Memᴰ·tail as there}
 use native.Mathlib.Omega.{arith}
 use lib.Dec.{leb, ltb}
-use lib.ListN.{length, getD, take, drop, replicate, length-map}
+use lib.ListN.{length, getD, take, drop, replicate}
 use lib.Pow.{pow-mono}
 use lib.Seq.{getD-take, take-at}
 use borrow.Author.Tests.{le-ltb}
 use Rattle.clusters.specs.Sets.{whole, size}
 use Rattle.clusters.proofs.Sets.{within-le, whole-below}
-use Rattle.trees.specs.Lists.{Among}
-use Rattle.trees.specs.Records.{listed, recordOf}
+use Rattle.trees.specs.Lists.{Among, upTo}
+use Rattle.trees.specs.Records.{listed, recordOf, recordsIn}
 use Rattle.trees.proofs.Recorded.{record-among, among-record}
-use Rattle.roster.specs.Roster.{upTo, least, firstOr}
-use Rattle.lineages.specs.Count.{weight, score, recordsIn}
+use Rattle.roster.specs.Roster.{least, firstOr}
+use Rattle.weights.specs.Count.{weight, score}
 use Rattle.roster.specs.Verdict.{verdict, lengthTest}
-use Rattle.lineages.proofs.Sums.{score-append}
-use Rattle.lineages.proofs.Lent.{records-needed, short-needed}
+use Rattle.weights.proofs.Sums.{score-append}
+use Rattle.trees.proofs.Lent.{records-needed, short-needed}
 use Rattle.tables.specs.BinaryTrees.{Binary, clustersIn}
 use Rattle.tables.specs.WellFormed.{TreeOn}
 use Rattle.tables.specs.Order.{Earlier}
@@ -29,13 +29,14 @@ use Rattle.tables.specs.Least.{scoreOf, scoreEntry, splitEntry, best}
 use Rattle.tables.specs.Allowed.{allowedIn}
 use Rattle.tables.proofs.LowParts.{among-upTo}
 use Rattle.tables.proofs.Recurrence.{best-on}
-use Rattle.search.specs.Promise.{firstStrange, allowedTest, searchTests, bestFor, foundBy, foundOr, filledBy, Finds}
-use Rattle.search.specs.declared.Found.{Found}
+use Rattle.search.specs.Promise.{firstStrange, allowedTest, searchTests, foundOr, filledBy, Finds}
+use Rattle.solver.specs.Best.{bestFor, foundBy}
+use Rattle.solver.specs.declared.Found.{Found}
 use Rattle.search.proofs.RecordsOfTrees.{tree-valid, tree-binary, tree-of-record, TreeOfRecord, score-of-record, whole-narrow}
 use Rattle.search.proofs.BestTrees.{Over, best-over, best-least, best-first, best-missed, best-local, LeastSplit, lemma-two}
 use Rattle.search.specs.Candidates.{Accepted, Candidate, EarlierRecord, Answer}
 use Rattle.search.proofs.Accepted.{accepted, accepts, no-fourteen}
-use Rattle.roster.proofs.UpTo.{length-upTo}
+use Rattle.trees.proofs.UpTo.{length-map-upTo}
 
 -- ---- the records that compete
 
@@ -233,7 +234,7 @@ map-same f g (x ∷ l) h = ap₂ _∷_ (h x (here refl)) (map-same f g l (λ a m
 -- the first 2^n entries of a table that was filled
 filled-first : (n k : ℕ) (entry : ℕ → ℕ) (lent after : List ℕ) → after ≡ filledBy k n entry lent → k ≡ 0 → take (2 ^ n) after ≡ map entry (upTo (2 ^ n))
 filled-first n zero entry lent after e z =
-    ap (take (2 ^ n)) e ∙ take-at (map entry (upTo (2 ^ n))) (drop (2 ^ n) lent) (2 ^ n) (length-map (upTo (2 ^ n)) entry ∙ length-upTo (2 ^ n))
+    ap (take (2 ^ n)) e ∙ take-at (map entry (upTo (2 ^ n))) (drop (2 ^ n) lent) (2 ^ n) (length-map-upTo entry (2 ^ n))
 filled-first n (suc k) entry lent after e z = absurd (omega arith)
 
 -- two calls that agree on n, count, the gene entries and allowed bytes that are needed, and have tables long enough

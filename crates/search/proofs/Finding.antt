@@ -11,15 +11,17 @@ use borrow.Author.Tests.{lt-ltb, le-ltb}
 use Rattle.clusters.specs.Sets.{whole}
 use Rattle.roster.specs.Roster.{least}
 use Rattle.roster.specs.Verdict.{Test, verdict, lengthTest}
-use Rattle.lineages.specs.Count.{weight, recordsIn}
+use Rattle.weights.specs.Count.{weight}
+use Rattle.trees.specs.Records.{recordsIn}
 use Rattle.lineages.specs.Checks.{firstBad, recordsTest}
 use Rattle.lineages.specs.Work.{shapeTests, said}
 use Rattle.lineages.proofs.Verdicts.{verdict-first, Shaped, shape-passed}
 use Rattle.lineages.proofs.FirstBad.{checked-countable}
 use Rattle.tables.specs.Least.{scoreEntry, splitEntry}
-use Rattle.search.specs.Promise.{firstStrange, allowedTest, searchTests, bestFor, foundBy, foundOr, filledBy, Finds}
-use Rattle.search.specs.Work.{without, LongEnough, Checked, Solves}
-use Rattle.search.specs.declared.Found.{Found}
+use Rattle.search.specs.Promise.{firstStrange, allowedTest, searchTests, foundOr, filledBy, Finds}
+use Rattle.solver.specs.Best.{bestFor, foundBy}
+use Rattle.solver.specs.Work.{without, LongEnough, Checked, Solves}
+use Rattle.solver.specs.declared.Found.{Found}
 use Rattle.lineages.proofs.Calls.{record-refused, records-passed}
 
 -- what is judged after the shape

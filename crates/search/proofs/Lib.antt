@@ -4,6 +4,4 @@ pub mod RecordsOfTrees
 pub mod BestTrees
 pub mod Accepted
 pub mod Demand
-pub mod Weighing
-pub mod Solving
 pub mod Finding

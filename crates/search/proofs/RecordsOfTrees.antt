@@ -1,7 +1,7 @@
 -- The records of binary trees are the valid binary records, one for each tree, and a tree's score is its record's.
 use Prim.Native.Nat.{ℕ, _+_, _-_, _*_, _^_, _≤_, _<_, min, max}
 use mathlib.Core.Path.{_≡_, refl, sym, ap, ap₂, _∙_, subst}
-use mathlib.Core.List.{List, [], _∷_, map, List·Memᴰ, List·Memᴰ·head as here, List·Memᴰ·tail as there}
+use mathlib.Core.List.{List, [], _∷_, map, List·Memᴰ, List·Memᴰ·head as here}
 use native.Mathlib.Decide.{decLe}
 use native.Mathlib.Omega.{arith}
 use lib.ListN.{length}
@@ -11,12 +11,12 @@ use Rattle.clusters.proofs.Members.{has-of-within, has-of-apart}
 use Rattle.clusters.proofs.Sets.{within-antisym, within-le, within-apart, apart-within, minus-apart, whole-below}
 use Rattle.trees.specs.Lists.{Among, sorted, insert, total}
 use Rattle.trees.specs.Records.{count, listed, recordOf, ValidOn, BinaryOn}
-use Rattle.trees.specs.Tree.{Tree, cluster, clusters}
+use Rattle.trees.specs.Tree.{Tree, clusters}
 use Rattle.trees.specs.Drawn.{drawn}
 use Rattle.trees.proofs.Counts.{binary-of-clusters}
 use Rattle.trees.proofs.Recorded.{count-record, listed-record, record-same, among-record, record-among, valid-of-drawn}
 use Rattle.trees.proofs.Drawing.{drawn-on, drawn-record}
-use Rattle.lineages.specs.Count.{weight, score}
+use Rattle.weights.specs.Count.{weight, score}
 use Rattle.tables.specs.BinaryTrees.{Binary, root, clustersIn, treesOn}
 use Rattle.tables.specs.BinaryTrees.Binary.{fork}
 use Rattle.tables.specs.WellFormed.{LowPart, TreeOn}

@@ -7,14 +7,14 @@ use mathlib.Core.List.{List, List·Memᴰ}
 use lib.ListN.{length, getD}
 use Rattle.clusters.specs.Sets.{whole}
 use Rattle.trees.specs.Lists.{Among}
-use Rattle.trees.specs.Records.{listed, recordOf, ValidOn, BinaryOn}
+use Rattle.trees.specs.Records.{listed, recordOf, ValidOn, BinaryOn, recordsIn}
 use Rattle.trees.specs.Valid.{valid}
-use Rattle.lineages.specs.Count.{recordsIn, score}
+use Rattle.weights.specs.Count.{score}
 use Rattle.tables.specs.BinaryTrees.{Binary, clustersIn}
 use Rattle.tables.specs.Order.{Earlier}
 use Rattle.tables.specs.WellFormed.{TreeOn}
 use Rattle.tables.specs.Allowed.{allowedIn}
-use Rattle.search.specs.declared.Found.{Found}
+use Rattle.solver.specs.declared.Found.{Found}
 
 -- no test finds a fault
 pub record Accepted (n : ℕ) (genes : List ℕ) (count : ℕ) (allowed scores splits : List ℕ) : Type 0 where

@@ -1,3 +1,2 @@
 pub mod Promise
-pub mod Work
 pub mod Candidates

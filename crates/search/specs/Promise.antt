@@ -2,20 +2,18 @@
 use Prim.Native.Nat.{ℕ, zero, suc, _*_, _^_}
 use mathlib.Core.Path.{_≡_}
 use mathlib.Core.Bool.{not}
-use mathlib.Core.Option.{Option, some, none}
 use mathlib.Core.List.{List, [], _∷_}
 use lib.ListN.{length, getD, replicate}
 use lib.Dec.{leb, ltb}
 use Rattle.clusters.specs.Sets.{whole}
-use Rattle.trees.specs.Records.{recordOf}
+use Rattle.trees.specs.Records.{recordsIn}
 use Rattle.roster.specs.Roster.{least}
-use Rattle.lineages.specs.Count.{weight, recordsIn}
+use Rattle.weights.specs.Count.{weight}
 use Rattle.roster.specs.Verdict.{Test, verdict, lengthTest}
 use Rattle.lineages.specs.Checks.{speciesTest, countTest, recordsTest}
-use Rattle.tables.specs.BinaryTrees.{Binary, clustersIn}
-use Rattle.tables.specs.Least.{best, scoreOf, scoreEntry, splitEntry, filled}
-use Rattle.tables.specs.Allowed.{allowedIn}
-use Rattle.search.specs.declared.Found.{Found}
+use Rattle.tables.specs.Least.{scoreEntry, splitEntry, filled}
+use Rattle.solver.specs.Best.{bestFor, foundBy}
+use Rattle.solver.specs.declared.Found.{Found}
 
 -- the first of the 2^n bytes that is not 0 or 1; 2^n where there is none
 unfoldable pub firstStrange : ℕ → List ℕ → ℕ
@@ -34,15 +32,6 @@ searchTests n genes count allowed scores splits =
     ∷ recordsTest n (recordsIn count genes)
     ∷ allowedTest n allowed
     ∷ []
-
--- the best tree on a for these gene trees and this allowed set
-unfoldable pub bestFor : ℕ → List (List ℕ) → List ℕ → ℕ → Option Binary
-bestFor n genes allowed a = best (weight genes) (allowedIn n allowed) a
-
--- "The search returns the score and the record of its tree"; "14 | no binary tree over the allowed clusters | 0"
-abbrev pub foundBy : Option Binary → List (List ℕ) → Found
-foundBy (some t) genes = record { number = 0; place = 0; score = scoreOf (weight genes) t; numbers = recordOf (clustersIn t) }
-foundBy none genes = record { number = 14; place = 0; score = 0; numbers = replicate 32 0 }
 
 -- a refusal before the search: "A refused call returns score 0, .. an all-zero record"
 abbrev pub foundOr : ℕ → ℕ → Found → Found

@@ -1,37 +1,14 @@
-// The least species tree: all weights, the two tables, and the record of the tree that they choose.
+// The search: its checks in 01's order, then the best tree over the allowed clusters.
 mod allowing;
-mod tree;
-mod weights;
 
 use lineages::checks::first_bad;
 use lineages::checks::shape;
-ghost use mathlib.Core.Path.{_≡_};
+pub use solver::Found;
+use solver::refused;
+use solver::solve;
 ghost use Rattle.trees.specs.Decides.{Decides};
-ghost use Rattle.lineages.specs.Count.{recordsIn};
+ghost use Rattle.solver.specs.Work.{LongEnough};
 ghost use Rattle.search.specs.Promise.{Finds};
-ghost use Rattle.search.specs.Work.{without, LongEnough, Checked, Solves};
-
-// What the search answers: number and place, the score, and the record of its tree.
-#[repr(C)]
-pub struct Found {
-    pub number: u32,
-    pub place: usize,
-    pub score: usize,
-    pub numbers: [u16; 32],
-}
-
-// The answer of a search that refuses: "score 0 .., an all-zero record".
-fn refused(number: u32, place: usize) -> Found
-    ensures { λ r. ⌜ r ≡ without number place ⌝ }
-{
-    let numbers = [0u16; 32];
-    Found {
-        number,
-        place,
-        score: 0,
-        numbers,
-    }
-}
 
 // Whether 2^n entries are there in the allowed set and in both tables.
 fn long_enough(entries: usize, allowed: &[u8], scores: &[u32], splits: &[u16]) -> bool
@@ -47,28 +24,6 @@ fn long_enough(entries: usize, allowed: &[u8], scores: &[u32], splits: &[u16]) -
         return false;
     }
     true
-}
-
-// Fills both tables, and answers the tree that they choose for all species.
-fn solve(
-    n: usize,
-    genes: &[u16],
-    count: usize,
-    allowed: &[u8],
-    scores: &mut [u32],
-    splits: &mut [u16],
-) -> Found
-    requires { ⌜ Checked n (now genes) count (now allowed) (now scores) (now splits) ⌝ }
-    ensures { λ r. ⌜ Solves n (recordsIn count (now (genes .entry))) (now (allowed .entry)) (now (scores .entry)) (now (splits .entry)) r (now (scores .exit)) (now (splits .exit)) ⌝ }
-{
-    let all = clusters::whole(n) as usize;
-    weights::fill(genes, count, all + 1, scores);
-    tables::fill(n, allowed, scores, splits);
-    let score = scores[all];
-    if score == tables::NO_TREE {
-        return refused(14, 0);
-    }
-    tree::found(splits, all, score)
 }
 
 // The first least-scoring binary tree over the allowed clusters; both tables are filled on the way.

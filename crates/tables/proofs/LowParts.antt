@@ -13,13 +13,12 @@ use Rattle.clusters.proofs.Members.{has-some, single-has}
 use Rattle.clusters.proofs.Sets.{within-true, true-within, within-le, single-within}
 use Rattle.clusters.proofs.Sizes.{size-zero, size-some, size-minus, size-single}
 use Rattle.clusters.proofs.LowestSpecies.{lowest-has}
-use Rattle.trees.specs.Lists.{Among, keep, keepIf, Rising, Below}
+use Rattle.trees.specs.Lists.{Among, keep, keepIf, Rising, Below, upTo}
 use Rattle.trees.proofs.Listing.{keep-among, among-keep}
 use Rattle.trees.proofs.Order.{rising-below}
-use Rattle.roster.specs.Roster.{upTo}
 use Rattle.tables.specs.BinaryTrees.{isLow, lows}
 use Rattle.tables.specs.WellFormed.{LowPart}
-use Rattle.roster.proofs.Booleans.{both}
+use Rattle.trees.proofs.Booleans.{both}
 
 -- ---- the numbers below a bound
 

@@ -11,8 +11,7 @@ use lib.ListN.{length, length-append}
 use borrow.Author.Tests.{eq-eqb, ne-eqb}
 use Rattle.clusters.specs.Sets.{size}
 use Rattle.clusters.proofs.Sizes.{size-zero, size-some}
-use Rattle.trees.specs.Lists.{keep}
-use Rattle.roster.specs.Roster.{upTo}
+use Rattle.trees.specs.Lists.{keep, upTo}
 use Rattle.tables.specs.BinaryTrees.{Binary, root, clustersIn, lows, each, forks, treesBy, treesTo, treesOn}
 use Rattle.tables.specs.BinaryTrees.Binary.{tip, fork}
 use Rattle.tables.specs.WellFormed.{LowPart, TreeOn}

@@ -12,7 +12,7 @@ use lib.Pow.{pow-mono, pow-pos}
 use Rattle.clusters.specs.Sets.{whole}
 use Rattle.clusters.proofs.Sets.{whole-below}
 use Rattle.clusters.proofs.Sizes.{size-le}
-use Rattle.roster.specs.Roster.{upTo}
+use Rattle.trees.specs.Lists.{upTo}
 use Rattle.tables.specs.BinaryTrees.{Binary}
 use Rattle.tables.specs.Least.{best, noTree, scoreEntry, splitEntry, filled}
 use Rattle.tables.specs.Allowed.{allowedIn}

@@ -14,7 +14,7 @@ use Rattle.clusters.specs.Sets.{size}
 use Rattle.trees.specs.Lists.{Among, total}
 use Rattle.trees.specs.Valid.{every}
 use Rattle.trees.proofs.Totals.{total-append}
-use Rattle.tables.specs.BinaryTrees.{Binary, root, clustersIn, lows, each, forks, treesOn}
+use Rattle.tables.specs.BinaryTrees.{Binary, root, clustersIn, lows, forks, treesOn}
 use Rattle.tables.specs.BinaryTrees.Binary.{tip, fork}
 use Rattle.tables.specs.WellFormed.{LowPart, TreeOn}
 use Rattle.tables.specs.Least.{those, scoreOf, treesOver, best, noTree, scoreEntry, splitEntry}

@@ -3,7 +3,7 @@ use Prim.Native.Nat.{ℕ, zero, suc, _+_, _-_, _*_, _/_, _%_, _^_, _≤_, _<_}
 use mathlib.Core.Path.{_≡_, refl, sym, ap, ap₂, _∙_, subst}
 use mathlib.Core.Logic.{_⊎_, inl, inr}
 use mathlib.Core.Bool.{Bool, true, false}
-use mathlib.Core.List.{List, [], _∷_, map, List·Memᴰ·tail as there}
+use mathlib.Core.List.{List, [], _∷_, map}
 use native.Mathlib.Nat.{pow-suc, eq-zero-or-pos, zero-mul, mul-zero, suc-mul}
 use native.Mathlib.Decide.{ℕ-discrete, decLt}
 use native.Mathlib.Omega.{arith}
@@ -17,8 +17,7 @@ use Rattle.clusters.proofs.Members.{has-odd, odd-has, has-half, half-has, half-
 use Rattle.clusters.proofs.Sets.{within-true, true-within, false-within, within-refl, within-le, single-within, has-minus, minus-has, half-within, within-dec, within-trans, minus-within, minus-below}
 use Rattle.clusters.proofs.Sizes.{size-zero, size-minus, size-single}
 use Rattle.clusters.proofs.LowestSpecies.{lowest-has}
-use Rattle.trees.specs.Lists.{keep, keepIf, total}
-use Rattle.roster.specs.Roster.{upTo}
+use Rattle.trees.specs.Lists.{keep, keepIf, total, upTo}
 use Rattle.tables.specs.BinaryTrees.{Binary, isLow, lows, each, forks, treesTo, treesOn}
 use Rattle.tables.specs.BinaryTrees.Binary.{fork}
 use Rattle.tables.specs.WellFormed.{LowPart}

@@ -4,8 +4,7 @@ use mathlib.Core.Bool.{Bool, true, false, _&&_}
 use mathlib.Core.List.{List, [], _∷_, _++_, map}
 use lib.Dec.{eqb}
 use Rattle.clusters.specs.Sets.{has, within, size, lowest}
-use Rattle.trees.specs.Lists.{keep}
-use Rattle.roster.specs.Roster.{upTo}
+use Rattle.trees.specs.Lists.{keep, upTo}
 
 -- a binary tree with the cluster of each node: a single species, or a node over its low child and its other child
 pub data Binary : Type 0 where

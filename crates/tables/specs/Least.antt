@@ -6,8 +6,7 @@ use mathlib.Core.List.{List, [], _∷_, _++_, map}
 use lib.ListN.{drop}
 use lib.Dec.{leb}
 use Rattle.trees.specs.Valid.{every}
-use Rattle.roster.specs.Roster.{upTo}
-use Rattle.trees.specs.Lists.{total}
+use Rattle.trees.specs.Lists.{upTo, total}
 use Rattle.tables.specs.BinaryTrees.{Binary, clustersIn, treesOn, root}
 use Rattle.tables.specs.BinaryTrees.Binary.{tip, fork}
 

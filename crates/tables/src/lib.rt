@@ -11,7 +11,7 @@ ghost use lib.ListN.{length, getD};
 ghost use Rattle.clusters.specs.Sets.{size};
 ghost use Rattle.tables.specs.WellFormed.{LowPart};
 ghost use Rattle.tables.specs.Allowed.{allowedIn};
-ghost use Rattle.tables.specs.Work.{Scored, Small, betterSplit, BestSplit, Next, Settles, Fillable, Fills};
+ghost use Rattle.tables.specs.Work.{Scored, betterSplit, BestSplit, Next, Settles, Fillable, Fills};
 
 // The entry of a cluster that has no tree.
 pub const NO_TREE: u32 = 4294967295;
@@ -108,7 +108,7 @@ fn settle(n: usize, allowed: &[u8], scores: &mut [u32], splits: &mut [u16], a: u
     join(scores, splits, a);
 }
 
-// Fills the first 2^n entries of both tables, the score table holding the weights. `search` calls it when its checks have passed.
+// Fills the first 2^n entries of both tables, the score table holding the weights. `solver` calls it, for `search`, whose checks have passed then.
 pub fn fill(n: usize, allowed: &[u8], scores: &mut [u32], splits: &mut [u16])
     requires { ⌜ Fillable n (now allowed) (now scores) (now splits) ⌝ }
     ensures { λ _. ⌜ Fills n (now (allowed .entry)) (now (scores .entry)) (now (splits .entry)) (now (scores .exit)) (now (splits .exit)) ⌝ }

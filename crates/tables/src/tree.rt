@@ -7,7 +7,7 @@ ghost use Rattle.tables.specs.BinaryTrees.{Binary, root, clustersIn};
 ghost use Rattle.tables.specs.Work.{Chosen, Chooses};
 
 // Stores the clusters of the tree on a from `stored` on: a, then those of its low child, then those of the other. How many are stored then.
-// `search` calls it, with the table that `fill` filled.
+// `solver` calls it, with the table that `fill` filled.
 pub fn collect(splits: &[u16], a: usize, clusters: &mut [u32], stored: usize) -> usize
     requires { ⌜ a < length (now splits) ⌝ }
     requires { ⌜ a < 65536 ⌝ }

@@ -7,8 +7,8 @@ use mathlib.Core.List.{List, []}
 use lib.ListN.{drop}
 use lib.Seq.{drop-drop}
 use lib.Dec.{leb}
-use Rattle.roster.specs.Bytes.{isName, run}
-use Rattle.roster.specs.Labels.{labelBytes, word, scannedBy, scannedAt}
+use Rattle.labels.specs.Bytes.{isName, run}
+use Rattle.labels.specs.Labels.{labelBytes, word, scannedBy, scannedAt}
 use Rattle.tokens.specs.Answers.{andThen}
 use Rattle.tokens.specs.Answers.Answer.{parsed}
 use Rattle.tokens.specs.Tokens.{nextIs, nextName, blanks, skip, number, numberBehind, secondNumber, firstNumber, numbers, shortName, name, innerName}

@@ -3,8 +3,8 @@ use Prim.Native.Nat.{ℕ}
 use mathlib.Core.Path.{_≡_}
 use mathlib.Core.List.{List}
 use lib.ListN.{drop}
-use Rattle.roster.specs.declared.label.Label.{Label}
-use Rattle.roster.specs.declared.label.Label.the-variants.{Ended, TooLong}
+use Rattle.labels.specs.declared.Label.{Label}
+use Rattle.labels.specs.declared.Label.the-variants.{Ended, TooLong}
 use Rattle.tokens.specs.Answers.{Answer, andThen}
 use Rattle.tokens.specs.Answers.Answer.{parsed, refused}
 use Rattle.tokens.specs.Says.{refusal, between, numberSays, numberFault, nameSays, nameFault}

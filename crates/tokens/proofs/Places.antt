@@ -7,7 +7,7 @@ use mathlib.Core.List.{List, [], _∷_, tail}
 use lib.ListN.{length, getD, drop, drop-of-length-le, length-drop}
 use lib.Seq.{drop-cons, drop-drop}
 use lib.Dec.{eqb}
-use Rattle.roster.specs.Bytes.{isName, isBlank, run}
+use Rattle.labels.specs.Bytes.{isName, isBlank, run}
 use Rattle.tokens.specs.Answers.{unexpected}
 use Rattle.tokens.specs.Tokens.{nextIs, nextName, blanks, skip}
 use Rattle.tokens.specs.Says.{refusal, strayAt}

@@ -3,10 +3,10 @@ use Prim.Native.Nat.{ℕ, _-_}
 use mathlib.Core.Bool.{Bool, true, false}
 use mathlib.Core.List.{List, [], _∷_}
 use lib.ListN.{take, drop}
+use Rattle.labels.specs.Labels.{word}
+use Rattle.labels.specs.declared.Label.{Label}
+use Rattle.labels.specs.declared.Label.the-variants.{Ended, TooLong}
 use Rattle.trees.specs.Tree.{Behind}
-use Rattle.roster.specs.Labels.{word}
-use Rattle.roster.specs.declared.label.Label.{Label}
-use Rattle.roster.specs.declared.label.Label.the-variants.{Ended, TooLong}
 use Rattle.tokens.specs.Answers.{Answer}
 use Rattle.tokens.specs.Answers.Answer.{parsed, refused}
 use Rattle.tokens.specs.Tokens.{nextName, skip}

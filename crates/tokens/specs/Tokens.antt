@@ -4,9 +4,9 @@ use mathlib.Core.Bool.{Bool, true, false}
 use mathlib.Core.List.{List, [], _∷_, tail}
 use lib.ListN.{take, drop}
 use lib.Dec.{eqb, leb}
+use Rattle.labels.specs.Bytes.{isDigit, isName, isBlank, run}
+use Rattle.labels.specs.Labels.{labelBytes, word}
 use Rattle.trees.specs.Tree.{Behind}
-use Rattle.roster.specs.Bytes.{isDigit, isName, isBlank, run}
-use Rattle.roster.specs.Labels.{labelBytes, word}
 use Rattle.tokens.specs.Answers.{Answer, andThen, unexpected}
 use Rattle.tokens.specs.Answers.Answer.{parsed, refused}
 

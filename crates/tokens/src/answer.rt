@@ -1,7 +1,7 @@
 // What the pieces of a node answer: a value with the place behind it, or a refusal.
 ghost use mathlib.Core.Path.{_≡_};
 ghost use Rattle.tokens.specs.Says.{numberFault, behindFault, nameFault};
-use roster::Label;
+use labels::Label;
 
 // A fault: its number, and its place in the text.
 pub struct Refusal {

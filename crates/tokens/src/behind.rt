@@ -17,8 +17,8 @@ use crate::cursor::blanks;
 use crate::cursor::next_is;
 use crate::cursor::next_name;
 use crate::number::number;
-use roster::Label;
-use roster::scan;
+use labels::Label;
+use labels::scan;
 
 // No bytes.
 fn nothing(at: usize) -> Extent

@@ -5,8 +5,8 @@ ghost use lib.ListN.{drop};
 ghost use Rattle.tokens.specs.Says.{strayAt};
 ghost use Rattle.tokens.specs.Tokens.{blanks as Tokens·blanks, nextIs, nextName};
 use crate::answer::Refusal;
-use roster::is_blank;
-use roster::is_name_byte;
+use labels::is_blank;
+use labels::is_name_byte;
 
 // The place behind the blanks that begin at `at`.
 pub fn blanks(text: &[u8], at: usize) -> usize

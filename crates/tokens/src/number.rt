@@ -3,7 +3,7 @@ ghost use mathlib.Core.Path.{_≡_};
 ghost use mathlib.Core.List.{List};
 ghost use Prim.Native.Nat.{ℕ, _+_, _^_, _<_};
 ghost use lib.ListN.{drop};
-ghost use Rattle.roster.specs.Bytes.{isDigit, run};
+ghost use Rattle.labels.specs.Bytes.{isDigit, run};
 ghost use Rattle.tokens.specs.Says.{numberSays};
 ghost use Rattle.tokens.specs.Tokens.{numeral, number as Tokens·number};
 use crate::answer::Extent;
@@ -11,7 +11,7 @@ use crate::answer::NumberRead;
 use crate::answer::Refusal;
 use crate::cursor::next_is;
 use crate::cursor::stray;
-use roster::is_digit;
+use labels::is_digit;
 
 // How many digits stand from `at` on, up to the first other byte.
 fn digits(text: &[u8], at: usize) -> usize

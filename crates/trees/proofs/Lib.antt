@@ -1,3 +1,4 @@
+pub mod Booleans
 pub mod Bounds
 pub mod Children
 pub mod Counts
@@ -5,6 +6,7 @@ pub mod Deciding
 pub mod Drawing
 pub mod EqualPieces
 pub mod Form
+pub mod Lent
 pub mod Likeness
 pub mod Listing
 pub mod LowestOrder
@@ -14,7 +16,7 @@ pub mod Pairs
 pub mod Places
 pub mod Present
 pub mod Recorded
-pub mod Sorting
 pub mod ValidTest
 pub mod Stores
 pub mod Totals
+pub mod UpTo

@@ -16,6 +16,7 @@ use Rattle.trees.specs.Lists.{Among, Below, Rising, some}
 use Rattle.trees.specs.Records.{count, listed, Nested, ValidOn, BinaryOn}
 use Rattle.trees.specs.Valid.{every, among, belowFirst, rising, singlesFrom, nested, valid, binary}
 use Rattle.trees.specs.Decides.{Decides}
+use Rattle.trees.proofs.Booleans.{both}
 
 -- ---- tests that tell whether a statement holds
 
@@ -32,19 +33,11 @@ tells-also : {test : Bool} {P Q : Type 0} → (P → Q) → (Q → P) → Tells 
 tells-also f g d = record { holds = λ e. f (d .holds e); told = λ q. d .told (g q) }
 
 tells-and : {a b : Bool} {P Q : Type 0} → Tells a P → Tells b Q → Tells (a && b) (P × Q)
-tells-and {a} {b} {P} {Q} d e = record { holds = λ h. (d .holds (first a b h), e .holds (second a b h)); told = λ h. both a b (d .told (h .0)) (e .told (h .1)) }
+tells-and {a} {b} {P} {Q} d e = record { holds = λ h. let k = both a b h in (d .holds (k .0), e .holds (k .1)); told = λ h. joined a b (d .told (h .0)) (e .told (h .1)) }
   where
-    first : (a b : Bool) → (a && b) ≡ true → a ≡ true
-    first true b h = refl
-    first false b h = h
-
-    second : (a b : Bool) → (a && b) ≡ true → b ≡ true
-    second true b h = h
-    second false b h = absurd (false≢true h)
-
-    both : (a b : Bool) → a ≡ true → b ≡ true → (a && b) ≡ true
-    both true b h k = k
-    both false b h k = h
+    joined : (a b : Bool) → a ≡ true → b ≡ true → (a && b) ≡ true
+    joined true b h k = k
+    joined false b h k = h
 
 tells-or : {a b : Bool} {P Q : Type 0} → Tells a P → Tells b Q → Tells (a || b) (P ⊎ Q)
 tells-or {a} {b} {P} {Q} d e = record { holds = λ h. one a b h (d .holds) (e .holds); told = λ h. either h }

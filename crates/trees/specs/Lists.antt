@@ -1,8 +1,13 @@
 -- Words about lists of numbers that the other definitions use.
 use Prim.Native.Nat.{ℕ, zero, suc, _+_, _<_, min, max}
 use mathlib.Core.Bool.{Bool, true, false, _||_}
-use mathlib.Core.List.{List, [], _∷_, List·Memᴰ}
+use mathlib.Core.List.{List, [], _∷_, _++_, List·Memᴰ}
 use lib.ListN.{take, drop}
+
+-- the numbers below n, rising
+unfoldable pub upTo : ℕ → List ℕ
+upTo zero = []
+upTo (suc n) = upTo n ++ (n ∷ [])
 
 -- x stands in the list
 abbrev pub Among : ℕ → List ℕ → Type 0

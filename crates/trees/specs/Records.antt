@@ -2,10 +2,10 @@
 use Prim.Native.Nat.{ℕ, _+_, _-_, _*_, _≤_}
 use mathlib.Core.Path.{_≡_}
 use mathlib.Core.Logic.{_⊎_}
-use mathlib.Core.List.{List, _∷_, _++_}
+use mathlib.Core.List.{List, _∷_, _++_, List·Memᴰ}
 use lib.ListN.{length, getD, take, drop, replicate}
 use Rattle.clusters.specs.Sets.{Has, Within, Apart, whole, single, size}
-use Rattle.trees.specs.Lists.{Among, Rising, sorted}
+use Rattle.trees.specs.Lists.{Among, Rising, sorted, pieces}
 
 -- "the count m"
 abbrev pub count : List ℕ → ℕ
@@ -49,3 +49,11 @@ GeneValid n r = ValidOn (whole n) r
 -- "m = 2n - 1 exactly when the tree is binary"
 abbrev pub BinaryOn : ℕ → List ℕ → Type 0
 BinaryOn s r = count r + 1 ≡ 2 * size s
+
+-- the gene records that are handed over, one after the other: the first n of 32 numbers each
+abbrev pub recordsIn : ℕ → List ℕ → List (List ℕ)
+recordsIn n numbers = pieces 32 n numbers
+
+-- every gene record is valid for n species
+abbrev pub AllValid : ℕ → List (List ℕ) → Type 0
+AllValid n genes = (g : List ℕ) → List·Memᴰ g genes → GeneValid n g

@@ -6,13 +6,6 @@ ghost use Rattle.trees.specs.Decides.{Decides};
 ghost use Rattle.trees.specs.Lists.{Rising};
 ghost use Rattle.trees.specs.Records.{Form};
 
-// A number of a record, as wide as the sets of `clusters`.
-pub fn wide(x: u16) -> u32
-    ensures { λ result. ⌜ result ≡ x ⌝ }
-{
-    x as u32
-}
-
 // Whether each of the m clusters is below the next.
 fn rising(r: &[u16], m: usize) -> bool
     requires { ⌜ length (now r) ≡ 32 ⌝ }
@@ -21,7 +14,7 @@ fn rising(r: &[u16], m: usize) -> bool
 {
     let mut i = 1;
     while i < m {
-        if wide(r[i + 1]) <= wide(r[i]) {
+        if r[i + 1] <= r[i] {
             return false;
         }
         i += 1;
@@ -37,7 +30,7 @@ fn zeros_behind(r: &[u16], m: usize) -> bool
 {
     let mut i = m + 1;
     while i < 32 {
-        if wide(r[i]) != 0 {
+        if r[i] != 0 {
             return false;
         }
         i += 1;

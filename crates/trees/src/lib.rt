@@ -1,14 +1,13 @@
-// Records of trees: which 32 numbers are a valid record, whether it is a binary tree's, and clusters sorted into a record.
+// Records of trees: which 32 numbers are a valid record, and whether it is a binary tree's.
 mod layout;
 mod nesting;
 mod presence;
-mod sort;
 
 ghost use mathlib.Core.Path.{_≡_};
-ghost use Prim.Native.Nat.{ℕ, _<_, _≤_};
-ghost use lib.ListN.{length, take, getD};
+ghost use Prim.Native.Nat.{_<_};
+ghost use lib.ListN.{length};
 ghost use Rattle.trees.specs.Decides.{Decides};
-ghost use Rattle.trees.specs.Records.{ValidOn, BinaryOn, recordOf};
+ghost use Rattle.trees.specs.Records.{ValidOn, BinaryOn};
 
 // A tree's record: the count, the clusters in rising order, zeros.
 #[repr(C)]
@@ -38,18 +37,5 @@ pub fn binary(r: &[u16], s: u32) -> bool
     requires { ⌜ length (now r) ≡ 32 ⌝ }
     ensures { λ result. ⌜ Decides result (BinaryOn s (now (r .entry))) ⌝ }
 {
-    layout::wide(r[0]) + 1 == 2 * clusters::size(s)
-}
-
-// The record of the first count clusters, which come in any order. `reader` and `search` call it with the clusters that they have stored.
-pub fn record_of(clusters: &[u32], count: usize) -> Record
-    requires { ⌜ count ≤ 31 ⌝ }
-    requires { ⌜ count ≤ length (now clusters) ⌝ }
-    requires { ⌜ ((k : ℕ) → k < count → getD (now clusters) k 0 < 65536) ⌝ }
-    ensures { λ result. ⌜ result .numbers ≡ recordOf (take count (now (clusters .entry))) ⌝ }
-{
-    let mut numbers = [0u16; 32];
-    numbers[0] = count as u16;
-    sort::fill(clusters, count, &mut numbers);
-    Record { numbers }
+    r[0] as u32 + 1 == 2 * clusters::size(s)
 }

@@ -1,5 +1,4 @@
 // Any two clusters of a record are disjoint, or one holds the other.
-use crate::layout::wide;
 ghost use mathlib.Core.Path.{_≡_};
 ghost use Prim.Native.Nat.{ℕ, _≤_};
 ghost use lib.ListN.{length, take, drop};
@@ -29,10 +28,10 @@ pub(crate) fn nested(r: &[u16], m: usize) -> bool
 {
     let mut i = 1;
     'pairs: while i <= m {
-        let a = wide(r[i]);
+        let a = r[i] as u32;
         let mut j = i + 1;
         while j <= m {
-            if !agree(a, wide(r[j])) {
+            if !agree(a, r[j] as u32) {
                 break 'pairs;
             }
             j += 1;

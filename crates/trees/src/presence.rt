@@ -1,5 +1,4 @@
 // Which clusters a record lists: all lie within the whole set, and the whole set and each single species are there.
-use crate::layout::wide;
 ghost use mathlib.Core.Path.{_≡_};
 ghost use Prim.Native.Nat.{ℕ, _<_, _≤_};
 ghost use lib.ListN.{length, take, drop};
@@ -15,7 +14,7 @@ pub(crate) fn inside(r: &[u16], m: usize, s: u32) -> bool
 {
     let mut i = 1;
     while i <= m {
-        let a = wide(r[i]);
+        let a = r[i] as u32;
         if a < 1 {
             return false;
         }
@@ -36,7 +35,7 @@ fn among(r: &[u16], m: usize, a: u32) -> bool
 {
     let mut i = 1;
     while i <= m {
-        if wide(r[i]) == a {
+        if r[i] as u32 == a {
             return true;
         }
         i += 1;

@@ -10,6 +10,7 @@ use Rattle.clusters.specs.Sets.{whole, size}
 use Rattle.clusters.proofs.Sets.{whole-below, within-below}
 use Rattle.clusters.proofs.Sizes.{size-some, size-within-lt, size-whole}
 use Rattle.clusters.proofs.LowestSpecies.{lowest-below}
+use Rattle.labels.specs.Bytes.{isName}
 use Rattle.trees.specs.Lists.{Among}
 use Rattle.trees.specs.Tree.{Tree, Forest, Behind}
 use Rattle.trees.specs.Tree.Tree.{leaf, node}
@@ -19,17 +20,16 @@ use Rattle.trees.specs.Drawn.{bare, children, forestOver, nodeOver, drawn}
 use Rattle.trees.proofs.Children.{Hierarchy, hierarchy-of-valid, among-children, cluster-below, children-two}
 use Rattle.trees.proofs.Drawing.{drawn-node, drawn-leaf}
 use Rattle.trees.proofs.Bounds.{whole-below-sixteen}
-use Rattle.roster.specs.Bytes.{isName}
-use Rattle.reader.specs.Reading.{openMost}
-use Rattle.reader.specs.Grammar.{strict, Blanks, Run, Node, Children, Text}
-use Rattle.reader.specs.Grammar.Blanks.{none}
-use Rattle.reader.specs.Grammar.Run.{one, next}
-use Rattle.reader.specs.Grammar.Numbers.{nothing}
-use Rattle.reader.specs.Grammar.Inner.{nameless}
-use Rattle.reader.specs.Grammar.Node.{a-leaf, an-inner}
-use Rattle.reader.specs.Grammar.Children.{the-last, one-more}
-use Rattle.reader.specs.Grammar.Text.{text}
-use Rattle.writer.specs.Writing.{nodeText, othersText, treeText, written}
+use Rattle.nodes.specs.Reading.{openMost}
+use Rattle.nodes.specs.Grammar.{strict, Blanks, Run, Node, Children, Text}
+use Rattle.nodes.specs.Grammar.Blanks.{none}
+use Rattle.nodes.specs.Grammar.Run.{one, next}
+use Rattle.nodes.specs.Grammar.Numbers.{nothing}
+use Rattle.nodes.specs.Grammar.Inner.{nameless}
+use Rattle.nodes.specs.Grammar.Node.{a-leaf, an-inner}
+use Rattle.nodes.specs.Grammar.Children.{the-last, one-more}
+use Rattle.nodes.specs.Grammar.Text.{text}
+use Rattle.texts.specs.Writing.{nodeText, othersText, treeText, written}
 use Rattle.writer.proofs.RosterNames.{GoodNames}
 
 -- a name is a run of letters and digits, whatever stands behind it

@@ -1,10 +1,5 @@
-pub mod Lengths
-pub mod TableNames
 pub mod RosterNames
-pub mod Derives
-pub mod Largest
-pub mod Childwise
-pub mod NodeText
-pub mod Outcomes
-pub mod RoundTrip
 pub mod WholeText
+pub mod Outcomes
+pub mod Derives
+pub mod RoundTrip

@@ -16,7 +16,7 @@ use Rattle.roster.specs.Roster.{names, faulty, firstFault}
 use Rattle.roster.specs.Judged.{speciesMost, done, refusal}
 use Rattle.roster.specs.Verdict.{Verdict, verdict, lengthTest}
 use Rattle.roster.specs.declared.Reply.{Reply}
-use Rattle.writer.specs.Writing.{written}
+use Rattle.texts.specs.Writing.{written}
 use Rattle.writer.specs.Promise.{rosterTest, recordTest, writeTests, Writes}
 use Rattle.writer.proofs.RosterNames.{good-names}
 

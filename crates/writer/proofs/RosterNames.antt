@@ -6,8 +6,8 @@ use mathlib.Core.List.{List, []}
 use native.Mathlib.Omega.{arith}
 use lib.ListN.{length, getD}
 use lib.Seq.{ext-getD}
-use Rattle.roster.specs.Bytes.{isName}
-use Rattle.roster.specs.Labels.{labelBytes}
+use Rattle.labels.specs.Bytes.{isName}
+use Rattle.labels.specs.Labels.{labelBytes}
 use Rattle.roster.specs.Roster.{position, names, faulty}
 use Rattle.roster.specs.Table.{table}
 use Rattle.roster.specs.Judged.{speciesMost}
@@ -15,8 +15,8 @@ use Rattle.roster.proofs.Each.{Each}
 use Rattle.roster.proofs.Padding.{Fitting}
 use Rattle.roster.proofs.Tables.{table-name-length, table-name-bytes}
 use Rattle.roster.proofs.Names.{names-name-bytes, names-some, names-short, names-count, names-distinct}
-use Rattle.writer.specs.Work.{nameIn, namesIn}
-use Rattle.writer.proofs.TableNames.{names-length, names-at}
+use Rattle.texts.specs.Work.{nameIn, namesIn}
+use Rattle.texts.proofs.TableNames.{names-length, names-at}
 
 -- one to sixteen names, each of one to fifteen letters and digits, and none equal to an earlier one
 pub record GoodNames (ns : List (List ℕ)) : Type 0 where

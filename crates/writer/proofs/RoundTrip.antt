@@ -23,11 +23,11 @@ use Rattle.reader.specs.Promise.{textMost, readingOf, fromStart, inLimit, onRos
 use Rattle.reader.specs.declared.Reading.{Reading}
 use Rattle.reader.specs.Accepted.{Draws}
 use Rattle.reader.proofs.Accepts.{accepted-derives, derives-accepted}
-use Rattle.reader.proofs.Meaning.{refusal-means, refusal-numbers}
-use Rattle.writer.specs.Writing.{written}
+use Rattle.nodes.proofs.Meaning.{refusal-means, refusal-numbers}
+use Rattle.texts.specs.Writing.{written}
 use Rattle.writer.specs.Promise.{Writes}
 use Rattle.writer.proofs.RosterNames.{good-names}
-use Rattle.writer.proofs.Lengths.{text-most}
+use Rattle.texts.proofs.Lengths.{text-most}
 use Rattle.writer.proofs.Derives.{derives-written}
 use Rattle.writer.proofs.Outcomes.{writes-once, writes-zero}
 

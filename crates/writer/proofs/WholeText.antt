@@ -5,7 +5,7 @@ use mathlib.Core.Bool.{Bool, false}
 use mathlib.Core.List.{List, [], _∷_, _++_, List·Memᴰ·head as here, Memᴰ·append-left, Memᴰ·append-right}
 use native.Mathlib.Omega.{arith}
 use lib.ListN.{length, getD, drop, set, length-append}
-use lib.Seq.{sets, length-sets}
+use lib.Seq.{sets}
 use Rattle.clusters.specs.Sets.{whole}
 use Rattle.clusters.proofs.Members.{has-whole}
 use Rattle.clusters.proofs.Sizes.{size-whole}
@@ -28,10 +28,12 @@ use Rattle.roster.proofs.Each.{each-still}
 use Rattle.roster.proofs.Padding.{Fitting}
 use Rattle.roster.proofs.Tables.{Short, table-length}
 use Rattle.roster.proofs.Names.{names-fit}
-use Rattle.writer.specs.Writing.{nodeText, othersText, treeText, written}
-use Rattle.writer.specs.Work.{namesIn, labels, clusterText, Listed, Put}
-use Rattle.writer.proofs.Lengths.{text-length}
-use Rattle.writer.proofs.TableNames.{names-at}
+use Rattle.texts.specs.Writing.{nodeText, othersText, treeText, written}
+use Rattle.printing.specs.Work.{Put}
+use Rattle.printing.proofs.Printing.{put-length}
+use Rattle.texts.specs.Work.{namesIn, labels, clusterText, Listed}
+use Rattle.texts.proofs.Lengths.{text-length}
+use Rattle.texts.proofs.TableNames.{names-at}
 use Rattle.writer.proofs.RosterNames.{GoodNames, good-names, table-name, table-names}
 use Rattle.trees.proofs.Stores.{sets-front}
 use Rattle.trees.proofs.Stores.{set-behind}
@@ -135,7 +137,7 @@ module _ {line : List ℕ} {n : ℕ} {tb : List ℕ} {all : ℕ} (g : Given line
         end-room =
             let e = given-text-length in
             let d = p .ended in
-            let l = ap length (p .stored) ∙ length-sets out 0 (clusterText tb r all) in
+            let l = put-length p in
             omega arith
 
         -- and with it the text stands in front of what was behind it

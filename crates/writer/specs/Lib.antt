@@ -1,3 +1,1 @@
-pub mod Writing
 pub mod Promise
-pub mod Work

@@ -10,7 +10,7 @@ use Rattle.roster.specs.Roster.{names, faulty, firstFault}
 use Rattle.roster.specs.Judged.{speciesMost}
 use Rattle.roster.specs.Verdict.{Test, verdict, lengthTest, replyOf}
 use Rattle.roster.specs.declared.Reply.{Reply}
-use Rattle.writer.specs.Writing.{written}
+use Rattle.texts.specs.Writing.{written}
 
 -- "1 | roster faulty | first byte at fault"
 unfoldable pub rosterTest : List ℕ → Test

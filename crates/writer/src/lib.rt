@@ -1,8 +1,4 @@
 // A record written back as tree text, in the one form.
-mod child;
-mod label;
-mod node;
-
 ghost use mathlib.Core.Path.{_≡_};
 ghost use Rattle.roster.specs.Judged.{refusal};
 ghost use Rattle.writer.specs.Promise.{Writes};
@@ -36,11 +32,11 @@ pub fn write(line: &[u8], tree: Record, out: &mut [u8]) -> Reply
     if !trees::valid(&numbers, all) {
         return refused(15, 0);
     }
-    let length = label::text_length(&table, n, numbers[0] as usize);
+    let length = texts::label::text_length(&table, n, numbers[0] as usize);
     if out.len() < length {
         return refused(12, 0);
     }
-    let end = node::node(out, 0, &table, tree, all);
+    let end = texts::node::node(out, 0, &table, tree, all);
     out[end] = b';';
     Reply {
         number: 0,

@@ -46,7 +46,7 @@ returns : tie.Need-returns
 returns c =
     let start = c .before .before .before in
     let ns = names (firstLine (start .args .input .now)) in
-    retold ns (no-first-feed (start .args .input .now) (start .pre .1 .0) (c .before .if1 .taken)) (c .refusal .ensures ns)
+    retold ns (no-first-feed (start .args .input .now) (start .pre .1 .0) (c .before .if1 .taken)) (c .refusal .ensures)
 
 add-mode : tie.Need-add-mode
 add-mode c = omega (arith, fits c)
@@ -73,7 +73,7 @@ returns-2 c =
     let ns = names (firstLine (start .args .input .now)) in
     retold ns
     (no-second-feed (start .args .input .now) (start .pre .1 .0) (read .before .before .if1 .left) (read .line-length .ensures) (c .before .if2 .taken))
-    (c .refusal2 .ensures ns)
+    (c .refusal2 .ensures)
 
 slice-aggregate-line : tie.Need-slice-aggregate-line
 slice-aggregate-line c =
@@ -166,7 +166,7 @@ returns-5 c =
     (other-mode (start .args .input .now) (start .pre .1 .0) (read .before .before .if1 .left) (read .line-length .ensures) (trees .if2 .left)
     (sym (all .before .is-word .ensures) ∙ all .if3 .left)
     (sym (c .before .before .is-word2 .ensures) ∙ c .before .if4 .left))
-    (c .refusal3 .ensures ns)
+    (c .refusal3 .ensures)
 
 pub on-mode-spec : {M : Type 1} → statement M
 on-mode-spec =

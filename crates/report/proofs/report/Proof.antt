@@ -3,7 +3,6 @@ use mathlib.Core.Path.{sym, subst}
 use mathlib.Core.List.{List}
 use Prim.Native.Nat.{ℕ}
 use lib.Seq.{length-take-le}
-use Rattle.roster.specs.Roster.{names}
 use Rattle.roster.specs.Judged.{Judged}
 use Rattle.report.specs.Input.{firstLine}
 use Rattle.report.proofs.InputParts.{first-line, first-within}
@@ -24,7 +23,7 @@ refusal-requires c κs = search needs
 returns : tie.Need-returns
 returns c =
     let input = c .before .before .before .args .input .now in
-    reports input (c .refusal .ensures (names (firstLine input))) (too-long input (c .before .if1 .taken))
+    reports input (c .refusal .ensures) (too-long input (c .before .if1 .taken))
 
 line-length-requires : tie.Need-line-length-requires
 line-length-requires c κs = search needs
@@ -45,7 +44,7 @@ returns-2 c =
     let judge = c .before .before .before in
     let short = judge .before .before .before in
     let input = short .before .before .args .input .now in
-    reports input (c .refusal2 .ensures (names (firstLine input)))
+    reports input (c .refusal2 .ensures)
     (roster-faulty input (short .if1 .left) (judge .judge .result) (judged judge) (c .before .if2 .taken))
 
 refusal-requires-3 : tie.Need-refusal-requires-3
@@ -56,7 +55,7 @@ returns-3 c =
     let judge = c .before .before .before .before in
     let short = judge .before .before .before in
     let input = short .before .before .args .input .now in
-    reports input (c .refusal3 .ensures (names (firstLine input)))
+    reports input (c .refusal3 .ensures)
     (many-species input (short .if1 .left) (judge .judge .result) (judged judge) (c .before .before .if2 .left) (c .before .if3 .taken))
 
 on-mode-requires : tie.Need-on-mode-requires

@@ -6,7 +6,7 @@ use borrow.Author.Tests.{not-true, not-false}
 use native.Mathlib.Omega.{arith}
 use Rattle.clusters.specs.Sets.{single}
 use Rattle.lineages.proofs.Verdicts.{Shaped, shaped-at}
-use Rattle.search.specs.Work.{LongEnough}
+use Rattle.solver.specs.Work.{LongEnough}
 use Rattle.search.proofs.Finding.{strange-is, checked, finds-shape, finds-short, finds-bad, finds-strange, finds-solved}
 use Rattle.search.proofs.search.Statement.{statement}
 use Rattle.search.proofs.search.Tie as tie

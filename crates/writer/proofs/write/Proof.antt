@@ -13,7 +13,7 @@ use Rattle.roster.specs.Roster.{names}
 use Rattle.roster.specs.Judged.{speciesMost}
 use Rattle.roster.specs.declared.Reply.{Reply}
 use Rattle.roster.proofs.Judging.{read-good, read-faulty, read-room}
-use Rattle.writer.specs.Writing.{written}
+use Rattle.texts.specs.Writing.{written}
 use Rattle.writer.proofs.WholeText.{Given, given-sixteen, given-table, given-test, given-listed, given-counts, given-length, given-room, end-room, given-stored}
 use Rattle.writer.proofs.Outcomes.{writes-faulty, writes-invalid, writes-short, writes-done}
 use Rattle.writer.proofs.write.Statement.{statement}

@@ -3,7 +3,7 @@ use Prim.Native.Nat.{_-_}
 use mathlib.Core.Path.{sym, _∙_}
 use borrow.Author.Needs.{needs}
 use native.Mathlib.Omega.{arith}
-use Rattle.lineages.proofs.Lent.{part-record, part-length}
+use Rattle.trees.proofs.Lent.{part-record, part-length}
 use Rattle.lineages.proofs.FirstBad.{whole-small, PassedTo, passed-start, passed-next, passed-found, passed-all}
 use Rattle.lineages.proofs.Told.{valid-told}
 use Rattle.lineages.proofs.checks.first_bad.Statement.{statement}

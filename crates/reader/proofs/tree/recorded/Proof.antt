@@ -3,7 +3,7 @@ use borrow.Author.Needs.{needs}
 use Prim.Native.Nat.{_+_, _-_, _*_}
 use native.Mathlib.Omega.{arith}
 use lib.ListN.{length}
-use Rattle.reader.specs.Core.{ReadsRecord}
+use Rattle.reader.specs.Work.{ReadsRecord}
 use Rattle.reader.proofs.TreeWays.{given-empty, reading-refused, stored-fit, reading-recorded}
 use Rattle.reader.proofs.tree.recorded.Statement.{statement}
 use Rattle.reader.proofs.tree.recorded.Tie as tie

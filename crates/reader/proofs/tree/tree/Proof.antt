@@ -6,9 +6,9 @@ use mathlib.Core.Bool.{true}
 use lib.ListN.{drop}
 use borrow.Author.Tests.{not-true, not-false}
 use Rattle.tokens.specs.Tokens.{nextIs}
-use Rattle.reader.specs.Core.{ReadsTree}
+use Rattle.reader.specs.Work.{ReadsTree}
 use Rattle.tokens.proofs.Places.{next-is-inside}
-use Rattle.reader.proofs.NodeWays.{Asked, NodeCall, Followed}
+use Rattle.nodes.proofs.NodeWays.{Asked, NodeCall, Followed}
 use Rattle.reader.proofs.TreeWays.{fromStart, root-refused-way, end-missing-way, species-missing-way, tree-way}
 use Rattle.reader.proofs.tree.tree.Statement.{statement}
 use Rattle.reader.proofs.tree.tree.Tie as tie

@@ -2,8 +2,8 @@
 use mathlib.Core.Path.{refl, sym, _∙_}
 use native.Mathlib.Omega.{arith}
 use Rattle.roster.specs.Roster.{names}
-use Rattle.writer.specs.Writing.{written}
-use Rattle.report.proofs.Printing.{put-then, put-length, put-report, counts-length, answer-length, Room, room-within}
+use Rattle.printing.proofs.Printing.{put-then, put-length, put-report, counts-length, answer-length, Room, room-within}
+use Rattle.texts.specs.Writing.{written}
 use Rattle.report.proofs.TreeText.{tree-length, tree-value, tree-put}
 use borrow.Author.Needs.{needs}
 use Rattle.report.proofs.print.solved.Statement.{statement}

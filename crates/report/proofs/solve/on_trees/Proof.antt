@@ -2,14 +2,15 @@
 use mathlib.Core.Path.{_≡_, sym, ap, _∙_}
 use native.Mathlib.Omega.{arith}
 use Rattle.roster.specs.Roster.{names}
-use Rattle.lineages.specs.Count.{recordsIn}
-use Rattle.report.specs.Input.{Gathered, gather as Input·gather}
-use Rattle.report.specs.Input.Gathered.{gathered, stopped}
+use Rattle.trees.specs.Records.{recordsIn}
+use Rattle.gather.specs.GeneTrees.{Gathered, gather as GeneTrees·gather}
+use Rattle.gather.specs.GeneTrees.Gathered.{gathered, stopped}
+use Rattle.gather.specs.Work.{gatheredIn}
+use Rattle.gather.specs.declared.Trees.{Trees}
+use Rattle.gather.proofs.GeneTrees.{stopped-inside}
 use Rattle.report.specs.Program.{onTrees}
-use Rattle.report.specs.Work.{gatheredIn}
-use Rattle.report.specs.declared.gather.Trees.{Trees}
 use Rattle.report.proofs.Checks.{retold}
-use Rattle.report.proofs.GeneTrees.{stopped-inside, gathered-genes, without-genes, with-some-genes}
+use Rattle.report.proofs.GeneTrees.{gathered-genes, without-genes, with-some-genes}
 use borrow.Author.Needs.{needs}
 use Rattle.report.proofs.solve.on_trees.Statement.{statement}
 use Rattle.report.proofs.solve.on_trees.Tie as tie
@@ -17,7 +18,7 @@ use Rattle.report.proofs.solve.on_trees.Tie as tie
 -- what was gathered, case by case
 was-stopped :
     (c : tie.After-number) → let args = c .before .before .before .before .before .before .before .args in
-    stopped (c .number .given .0 .0) (c .number .given .0 .1 .0) ≡ Input·gather (args .line .now) (args .trees .now)
+    stopped (c .number .given .0 .0) (c .number .given .0 .1 .0) ≡ GeneTrees·gather (args .line .now) (args .trees .now)
 was-stopped c =
     let read = c .before .before .before in
     ap (λ (r : Trees). gatheredIn (read .gather .last .1 .1 .0) r) (sym (c .number .given .1)) ∙ read .gather .ensures
@@ -25,7 +26,7 @@ was-stopped c =
 was-gathered :
     (c : tie.After-count) → let read = c .before .before .before in
     let args = read .before .before .before .before .args in
-    gathered (recordsIn (c .count .given .0 .0) (read .gather .last .1 .1 .0)) ≡ Input·gather (args .line .now) (args .trees .now)
+    gathered (recordsIn (c .count .given .0 .0) (read .gather .last .1 .1 .0)) ≡ GeneTrees·gather (args .line .now) (args .trees .now)
 was-gathered c =
     let read = c .before .before .before in
     ap (λ (r : Trees). gatheredIn (read .gather .last .1 .1 .0) r) (sym (c .count .given .1)) ∙ read .gather .ensures
@@ -65,7 +66,7 @@ returns c =
     retold ns
     (without-genes genes (args .all) (args .n) (c .before .if1 .taken)
     ∙ ap (λ (g : Gathered). onTrees g (args .shift) (args .all) (args .n)) (was-gathered counted))
-    (c .refusal2 .ensures ns)
+    (c .refusal2 .ensures)
 
 slice-aggregate-solve : tie.Need-slice-aggregate-solve
 slice-aggregate-solve c = search needs
@@ -83,7 +84,7 @@ returns-2 : tie.Need-returns-2
 returns-2 c =
     let args = c .before .before .before .before .before .before .before .before .before .args in
     let ns = names (args .line .now) in
-    retold ns (ap (λ (g : Gathered). onTrees g (args .shift) (args .all) (args .n)) (was-stopped (c .before .before))) (c .refusal .ensures ns)
+    retold ns (ap (λ (g : Gathered). onTrees g (args .shift) (args .all) (args .n)) (was-stopped (c .before .before))) (c .refusal .ensures)
 
 returns-3 : tie.Need-returns-3
 returns-3 c =

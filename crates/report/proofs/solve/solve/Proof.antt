@@ -7,10 +7,10 @@ use lib.ListN.{length, take, drop, replicate}
 use lib.Seq.{length-take-le, take-at}
 use Rattle.clusters.specs.Sets.{single, whole}
 use Rattle.roster.specs.Roster.{names}
-use Rattle.lineages.specs.Count.{recordsIn}
-use Rattle.lineages.proofs.Lent.{length-recordsIn}
-use Rattle.search.specs.Promise.{bestFor, foundBy}
-use Rattle.search.specs.declared.Found.{Found}
+use Rattle.trees.specs.Records.{recordsIn}
+use Rattle.trees.proofs.Lent.{length-recordsIn}
+use Rattle.solver.specs.Best.{bestFor, foundBy}
+use Rattle.solver.specs.declared.Found.{Found}
 use Rattle.report.specs.Program.{allowedBy}
 use Rattle.report.proofs.Checks.{retold}
 use Rattle.report.proofs.Allowed.{allowed-marked, front-fits}
@@ -97,7 +97,7 @@ returns c =
     let ns = names (args .line .now) in
     retold ns
     (searched-refused (args .n) gs (allowed (find .before .before .before)) (found-by find) (c .before .if1 .taken))
-    (c .refusal .ensures ns)
+    (c .refusal .ensures)
 
 solved-requires : tie.Need-solved-requires
 solved-requires c κs =

@@ -6,7 +6,7 @@ use mathlib.Core.List.{List}
 use lib.ListN.{length}
 use borrow.Author.Needs.{needs}
 use borrow.Author.Tests.{not-true, not-false}
-use Rattle.roster.proofs.Scans.{ended-short, too-long-run}
+use Rattle.labels.proofs.Scans.{ended-short, too-long-run}
 use Rattle.roster.proofs.Turns.{Begun, begun-none, Starts, Met, stray-first, open-end, too-many, too-long, repeated, next-within, well-ended, stray-behind, space-behind}
 use Rattle.roster.proofs.line.parse.Statement.{statement}
 use Rattle.roster.proofs.line.parse.Tie as tie

@@ -4,7 +4,7 @@ use native.Mathlib.Omega.{arith}
 use mathlib.Core.Path.{_≡_}
 use lib.ListN.{drop}
 use borrow.Author.Needs.{needs}
-use Rattle.roster.specs.Bytes.{run}
+use Rattle.labels.specs.Bytes.{run}
 use Rattle.roster.specs.Table.{nonZero}
 use Rattle.roster.proofs.Slots.{slot, name-on, name-off, name-end}
 use Rattle.roster.proofs.table.name_len.Statement.{statement}

@@ -5,9 +5,9 @@ use mathlib.Core.Path.{_≡_, sym, _∙_}
 use lib.ListN.{length, drop}
 use borrow.Author.Needs.{needs}
 use borrow.Author.Tests.{not-true, not-false}
-use Rattle.roster.specs.Bytes.{isBlank, run}
+use Rattle.labels.specs.Bytes.{isBlank, run}
+use Rattle.labels.proofs.Runs.{run-on, run-off, run-end}
 use Rattle.tokens.specs.Tokens.{blanks}
-use Rattle.roster.proofs.Runs.{run-on, run-off, run-end}
 use Rattle.tokens.proofs.cursor.blanks.Statement.{statement}
 use Rattle.tokens.proofs.cursor.blanks.Tie as tie
 

@@ -5,8 +5,8 @@ use mathlib.Core.Path.{_≡_, sym, _∙_}
 use lib.ListN.{length, drop}
 use borrow.Author.Needs.{needs}
 use borrow.Author.Tests.{not-true, not-false}
-use Rattle.roster.specs.Bytes.{isDigit, run}
-use Rattle.roster.proofs.Runs.{run-on, run-off, run-end}
+use Rattle.labels.specs.Bytes.{isDigit, run}
+use Rattle.labels.proofs.Runs.{run-on, run-off, run-end}
 use Rattle.tokens.proofs.number.digits.Statement.{statement}
 use Rattle.tokens.proofs.number.digits.Tie as tie
 

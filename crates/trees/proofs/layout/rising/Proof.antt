@@ -16,17 +16,17 @@ abbrev μ-loop : tie.MeasureT-loop
 
 returns : tie.Need-returns Inv-loop μ-loop
 returns c rising =
-    let s = c .before .before .before .before .before .before .before .before in
-    let turn = c .before .before .before .before .before .before .loop in
+    let s = c .before .before .before .before .before in
+    let turn = c .before .before .before .before .loop in
     let less = places-of-rising (s .args .r .now) (s .args .m) (s .pre .0) (s .pre .1) rising (turn .i) (omega arith) (omega arith) in
     omega arith
 
 loop-again : tie.Need-loop-again Inv-loop μ-loop
-loop-again c = (search needs, below-more _ _ (c .before .before .before .before .before .before .loop .inv .1) (λ one. omega arith))
+loop-again c = (search needs, below-more _ _ (c .before .before .before .before .loop .inv .1) (λ one. omega arith))
 
 returns-2 : tie.Need-returns-2 Inv-loop μ-loop
 returns-2 c =
-    let s = c .before .before .before in
+    let s = c .before .before in
     rising-of-places (s .args .r .now) (s .args .m) (s .pre .0) (s .pre .1) (λ i one last. c .before .loop .inv .1 i (omega arith) one)
 
 pub rising-spec : {M : Type 1} → statement M
@@ -39,10 +39,8 @@ rising-spec =
     (λ c. search needs)
     (λ c. search needs)
     (λ c. search needs)
-    (λ c κs. search needs)
     (λ c. search needs)
     (λ c. search needs)
-    (λ c κs. search needs)
     returns
     (λ c. search needs)
     (λ c. search needs)

@@ -17,17 +17,17 @@ abbrev μ-loop : tie.MeasureT-loop
 
 returns : tie.Need-returns Inv-loop μ-loop
 returns c zeros =
-    let s = c .before .before .before .before .before .before in
-    let turn = c .before .before .before .before .loop in
+    let s = c .before .before .before .before in
+    let turn = c .before .before .before .loop in
     let zero = places-of-zeros (s .args .r .now) (s .args .m) (s .pre .0) (s .pre .1) zeros (turn .i) (omega arith) (omega arith) in
     omega arith
 
 loop-again : tie.Need-loop-again Inv-loop μ-loop
-loop-again c = (search needs, below-more _ _ (c .before .before .before .before .loop .inv .1) (λ past. omega arith))
+loop-again c = (search needs, below-more _ _ (c .before .before .before .loop .inv .1) (λ past. omega arith))
 
 returns-2 : tie.Need-returns-2 Inv-loop μ-loop
 returns-2 c =
-    let s = c .before .before .before in
+    let s = c .before .before in
     zeros-of-places (s .args .r .now) (s .args .m) (s .pre .0) (s .pre .1) (λ i past end. c .before .loop .inv .1 i (omega arith) past)
 
 pub zeros-behind-spec : {M : Type 1} → statement M
@@ -40,7 +40,6 @@ zeros-behind-spec =
     (λ c. (search needs, λ k less more. absurd (omega arith)))
     (λ c. search needs)
     (λ c. search needs)
-    (λ c κs. search needs)
     returns
     (λ c. search needs)
     (λ c. search needs)

@@ -26,20 +26,19 @@ abbrev μ-pairs : tie.MeasureT-pairs
 μ-pairs r m i₀ i = m + 1 - i
 
 loop-again : tie.Need-loop-again Inv-loop μ-loop Inv-pairs μ-pairs
-loop-again c = (search needs, below-more _ _ (c .before .before .before .before .before .loop .inv .1) (λ more. here))
+loop-again c = (search needs, below-more _ _ (c .before .before .before .before .loop .inv .1) (λ more. here))
   where
     here :
-        let start = c .before .before .before .before .before .before .before .before .before .before .before in
+        let start = c .before .before .before .before .before .before .before .before .before in
         let r = start .args .r .now in
-        Nested (getD r (c .before .before .before .before .before .before .before .before .before .pairs .i) 0)
-        (getD r (c .before .before .before .before .before .loop .j) 0)
+        Nested (getD r (c .before .before .before .before .before .before .before .pairs .i) 0)
+        (getD r (c .before .before .before .before .loop .j) 0)
     here =
-        rw (c .before .before .before .before .before .before .wide .ensures, c .before .before .wide2 .ensures) at
-        (rw (not-false (c .before .agree .result) (c .if1 .left)) at (c .before .agree .ensures))
+        rw (not-false (c .before .agree .result) (c .if1 .left)) at (c .before .agree .ensures)
 
 pairs-again : tie.Need-pairs-again Inv-loop μ-loop Inv-pairs μ-pairs
 pairs-again c =
-    let pairs = c .before .before .before .before .before .pairs in
+    let pairs = c .before .before .before .before .pairs in
     (search needs, below-more _ _ (pairs .inv .1) (λ one y more last. c .before .loop .inv .1 y (omega arith) more))
 
 returns : tie.Need-returns Inv-loop μ-loop Inv-pairs μ-pairs
@@ -51,9 +50,9 @@ returns c =
     decides-yes (ltb (s .args .m) i) (lt-ltb (s .args .m) i (w .left))
     (all-agree (s .args .r .now) (s .args .m) (s .pre .0) (s .pre .1) (λ x one last. c .before .pairs .inv .1 x (omega arith) one)))
     (λ w.
-    let no = rw (w .2 .ensures, w .6 .ensures) at (rw (not-true (w .7 .result) (w .8 .taken)) at (w .7 .ensures)) in
+    let no = rw (not-true (w .5 .result) (w .6 .taken)) at (w .5 .ensures) in
     decides-no (ltb (s .args .m) i) (le-ltb (s .args .m) i (w .0 .taken))
-    (clash (s .args .r .now) (s .args .m) (s .pre .0) (s .pre .1) i (w .3 .j) (omega arith) (omega arith) (omega arith) no))
+    (clash (s .args .r .now) (s .args .m) (s .pre .0) (s .pre .1) i (w .2 .j) (omega arith) (omega arith) (omega arith) no))
     (c .pairs-test .came)
 
 pub nested-spec : {M : Type 1} → statement M
@@ -67,12 +66,12 @@ nested-spec =
     (λ c. (search needs, λ x less one. absurd (omega arith)))
     (λ c. search needs)
     (λ c. search needs)
-    (λ c κs. search needs)
+    (λ c. omega (arith, c .shared-slice-known2 .given (c .before .before .pairs .i)))
     (λ c. search needs)
     (λ c. (search needs, λ y less more. absurd (omega arith)))
     (λ c. search needs)
     (λ c. search needs)
-    (λ c κs. search needs)
+    (λ c. omega (arith, c .shared-slice-known3 .given (c .before .before .loop .j)))
     (λ c κs. search needs)
     (λ c. search needs)
     (λ c. search needs)

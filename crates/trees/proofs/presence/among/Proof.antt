@@ -17,16 +17,16 @@ abbrev μ-loop : tie.MeasureT-loop
 
 returns : tie.Need-returns Inv-loop μ-loop
 returns c =
-    let s = c .before .before .before .before .before .before in
-    let turn = c .before .before .before .before .loop in
+    let s = c .before .before .before .before in
+    let turn = c .before .before .before .loop in
     present-of-place (s .args .r .now) (s .args .m) (s .pre .0) (s .pre .1) (s .args .a) (turn .i) (search needs) (search needs) (omega arith)
 
 loop-again : tie.Need-loop-again Inv-loop μ-loop
-loop-again c = (search needs, below-more _ _ (c .before .before .before .before .loop .inv .1) (λ one e. omega arith))
+loop-again c = (search needs, below-more _ _ (c .before .before .before .loop .inv .1) (λ one e. omega arith))
 
 returns-2 : tie.Need-returns-2 Inv-loop μ-loop
 returns-2 c =
-    let s = c .before .before .before in
+    let s = c .before .before in
     absent-of-places (s .args .r .now) (s .args .m) (s .pre .0) (s .pre .1) (s .args .a) (λ i last one. c .before .loop .inv .1 i (omega arith) one)
 
 pub among-spec : {M : Type 1} → statement M
@@ -38,7 +38,7 @@ among-spec =
     (λ c. (search needs, λ k less one e. absurd (omega arith)))
     (λ c. search needs)
     (λ c. search needs)
-    (λ c κs. search needs)
+    (λ c. omega (arith, c .shared-slice-known .given (c .before .before .loop .i)))
     returns
     (λ c. search needs)
     (λ c. search needs)

@@ -20,25 +20,25 @@ abbrev μ-loop : tie.MeasureT-loop
 
 returns : tie.Need-returns Inv-loop μ-loop
 returns c all =
-    let s = c .before .before .before .before .before .before in
-    let i = c .before .before .before .before .loop .i in
+    let s = c .before .before .before .before .before in
+    let i = c .before .before .before .loop .i in
     let some = all (getD (s .args .r .now) i 0) (place-among (s .args .r .now) (s .args .m) (s .pre .0) (s .pre .1) i (search needs) (search needs)) in
     omega arith
 
 loop-again : tie.Need-loop-again Inv-loop μ-loop
 loop-again c =
-    let turn = c .before .before .before .before .before .before .loop in (
+    let turn = c .before .before .before .before .before .loop in (
       search needs,
       below-more _ _ (turn .inv .1)
-          (λ one. (omega arith, rw (c .before .before .before .wide .ensures) at (within-true _ _ (sym (c .before .within .ensures) ∙ c .if2 .taken)))),
+          (λ one. (omega arith, within-true _ _ (sym (c .before .within .ensures) ∙ c .if2 .taken))),
     )
 
 returns-2 : tie.Need-returns-2 Inv-loop μ-loop
 returns-2 c all =
-    let s = c .before .before .before .before .before .before .before .before in
-    let i = c .before .before .before .before .before .before .loop .i in
+    let s = c .before .before .before .before .before .before .before in
+    let i = c .before .before .before .before .before .loop .i in
     let some = all (getD (s .args .r .now) i 0) (place-among (s .args .r .now) (s .args .m) (s .pre .0) (s .pre .1) i (search needs) (search needs)) in
-    within-false _ _ (sym (c .before .within .ensures) ∙ c .if2 .left) (rw (c .before .before .before .wide .ensures) (some .1))
+    within-false _ _ (sym (c .before .within .ensures) ∙ c .if2 .left) (some .1)
 
 returns-3 : tie.Need-returns-3 Inv-loop μ-loop
 returns-3 c =
@@ -55,7 +55,7 @@ inside-spec =
     (λ c. (search needs, λ k less one. absurd (omega arith)))
     (λ c. search needs)
     (λ c. search needs)
-    (λ c κs. search needs)
+    (λ c. omega (arith, c .shared-slice-known2 .given (c .before .before .loop .i)))
     returns
     (λ c κs. search needs)
     (λ c. search needs)

@@ -1,0 +1,18 @@
+-- The texts of the output, and a text as the bytes of a report (01, "The program").
+use Prim.Native.Nat.{ℕ, _-_}
+use mathlib.Core.List.{List, _++_}
+use lib.ListN.{length, replicate}
+use Rattle.printing.specs.Words.{taxaText, genesText, scoreText, refusedText, atText, newline, decimal}
+use Rattle.printing.specs.declared.Report.{Report}
+
+-- a text as a report: how long it is, and zeros behind it
+unfoldable pub reportOf : List ℕ → Report
+reportOf text = record { len = length text; text = text ++ replicate (512 - length text) 0 }
+
+-- "A refusal prints one line .. : the number and the place"
+abbrev pub refusalText : ℕ → ℕ → List ℕ
+refusalText number place = refusedText ++ decimal number ++ atText ++ decimal place ++ newline
+
+-- the first two of the three lines of an answer
+abbrev pub countsText : ℕ → ℕ → ℕ → List ℕ
+countsText n m score = taxaText ++ decimal n ++ genesText ++ decimal m ++ newline ++ scoreText ++ decimal score ++ newline

@@ -1,0 +1,37 @@
+-- What the parts of the call say of a whole tree: a node and `;`, with every species, and its record.
+use Prim.Native.Nat.{ℕ, _-_, _*_, _+_, _<_}
+use mathlib.Core.Path.{_≡_}
+use mathlib.Core.List.{List}
+use lib.ListN.{length, drop}
+use Rattle.clusters.specs.Sets.{whole}
+use Rattle.trees.specs.Tree.{Tree}
+use Rattle.tokens.specs.Answers.{Answer, andThen}
+use Rattle.tokens.specs.Tokens.{nextIs, blanks, skip}
+use Rattle.nodes.specs.Reading.{readNode, ended}
+use Rattle.nodes.specs.Core.{Holds, NodeReads}
+use Rattle.nodes.specs.declared.answer.NodeRead.{NodeRead}
+use Rattle.reader.specs.Promise.{readingOf}
+use Rattle.reader.specs.declared.Reading.{Reading}
+
+-- a node and `;`, where as many parentheses may open as there is room for
+unfoldable pub treeAnswer : ℕ → List (List ℕ) → ℕ → ℕ → List ℕ → ℕ → Answer Tree
+treeAnswer k names room needed s p =
+    andThen (readNode k names room 0 s p) (λ t s p. ended (nextIs 59 (skip s)) needed t (skip s) (p + blanks s))
+
+-- the promise of `tree`
+unfoldable pub ReadsTree : List ℕ → List ℕ → ℕ → ℕ → ℕ → ℕ → List ℕ → List ℕ → NodeRead → Type 0
+ReadsTree text table count needed start room before after r =
+    (names : List (List ℕ))
+    → Holds names count table
+    → (k : ℕ)
+    → 2 * (length text - start) < k
+    → NodeReads text 0 0 before after (treeAnswer k names room needed (drop start text) start) r
+
+-- the promise of the reader of a tree with all of the species, which sorts its clusters into a record
+unfoldable pub ReadsRecord : List ℕ → List ℕ → ℕ → ℕ → ℕ → Reading → Type 0
+ReadsRecord text table count start room r =
+    (names : List (List ℕ))
+    → Holds names count table
+    → (k : ℕ)
+    → 2 * (length text - start) < k
+    → r ≡ readingOf start (treeAnswer k names room (whole count) (drop start text) start)

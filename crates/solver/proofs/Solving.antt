@@ -1,0 +1,209 @@
+-- Both tables filled for gene trees that were checked, and the answer that they give.
+use Prim.Native.Nat.{ℕ, _+_, _-_, _^_, _≤_, _<_}
+use mathlib.Core.Path.{_≡_, refl, sym, ap, _∙_}
+use mathlib.Core.Bool.{Bool}
+use mathlib.Core.Option.{Option, some, none}
+use mathlib.Core.List.{List, _++_, map}
+use native.Mathlib.Omega.{arith}
+use lib.ListN.{length, getD, drop}
+use lib.Pow.{pow-pos}
+use Rattle.clusters.specs.Sets.{whole, size}
+use Rattle.clusters.proofs.Sets.{whole-below}
+use Rattle.clusters.proofs.Sizes.{size-whole}
+use Rattle.trees.specs.Records.{recordOf, recordsIn}
+use Rattle.trees.specs.Lists.{upTo}
+use Rattle.weights.specs.Count.{weight}
+use Rattle.weights.proofs.RunningSums.{weight-small}
+use Rattle.tables.specs.BinaryTrees.{Binary, root, clustersIn}
+use Rattle.tables.specs.BinaryTrees.Binary.{tip, fork}
+use Rattle.tables.specs.WellFormed.{TreeOn}
+use Rattle.tables.specs.WellFormed.TreeOn.{two}
+use Rattle.tables.specs.Least.{best, noTree, scoreOf, scoreEntry, splitEntry, filled}
+use Rattle.tables.specs.Allowed.{allowedIn}
+use Rattle.tables.specs.Work.{Light, Weights, Fillable, Fills, Chosen, Chooses}
+use Rattle.tables.proofs.LowParts.{low-part-two, low-some}
+use Rattle.tables.proofs.Membership.{tree-root, tree-clusters}
+use Rattle.tables.proofs.Recurrence.{best-on, score-bound, best-fork}
+use Rattle.tables.proofs.Reached.{entries-few}
+use Rattle.tables.proofs.Written.{written, written-length, written-at, written-again, written-entries}
+use Rattle.solver.specs.Best.{bestFor, foundBy}
+use Rattle.solver.specs.Work.{without, Checked, Solves}
+use Rattle.solver.specs.declared.Found.{Found}
+
+-- ---- the split table leads down the best tree
+
+fork-two : {a b : ℕ} {t u : Binary} → TreeOn a (fork b t u) → 2 ≤ size a
+fork-two (two p v w) = low-part-two p
+
+module _ (w : ℕ → ℕ) (ok : ℕ → Bool) (splits : List ℕ) (entries : ℕ) (table : (b : ℕ) → b < entries → getD splits b 0 ≡ splitEntry (best w ok b)) where
+  pub best-chosen : (t : Binary) (a : ℕ) → a < entries → best w ok a ≡ some t → Chosen splits t
+  unfolding Chosen
+  best-chosen (tip b) a l e = ap (λ k. getD splits k 0) (tree-root (best-on w ok a (tip b) e)) ∙ table a l ∙ ap splitEntry e
+  best-chosen (fork b t u) a l e =
+      let on = best-on w ok a (fork b t u) e in
+      let f = best-fork w ok a (fork b t u) (fork-two on) e in
+      let here : b ≡ a = tree-root on in
+      let made : some (fork b t u) ≡ some (fork a (f .low-tree) (f .other-tree)) = sym e ∙ f .whole-best in
+      let low-is : t ≡ f .low-tree = cc in
+      let other-is : u ≡ f .other-tree = cc in
+      let low : splitEntry (best w ok a) ≡ root t = ap splitEntry e in
+      let less = f .part .less in
+      let rest : root u ≡ a - splitEntry (best w ok a) = ap root other-is ∙ f .other-root in (
+        ap (λ k. getD splits k 0) here ∙ table a l ∙ low,
+        omega (arith, low-some (f .part)),
+        omega arith,
+        omega arith,
+        best-chosen t (splitEntry (best w ok a)) (omega arith) (f .low-best ∙ ap some (sym low-is)),
+        best-chosen u (a - splitEntry (best w ok a)) (omega arith) (f .other-best ∙ ap some (sym other-is)),
+      )
+
+-- ---- both tables, for gene trees that were checked
+
+pub record Tabled (n : ℕ) (genes : List (List ℕ)) (allowed lentScores lentSplits scores splits : List ℕ) : Type 0 where
+  pub light : Light (weight genes)
+  pub scoreTable : scores ≡ filled n (λ a. scoreEntry (weight genes) (bestFor n genes allowed a)) lentScores
+  pub splitTable : splits ≡ filled n (λ a. splitEntry (bestFor n genes allowed a)) lentSplits
+
+whole-entries : (n : ℕ) {all : ℕ} → all ≡ whole n → all + 1 ≡ 2 ^ n
+unfolding whole
+whole-entries n e = omega (arith, pow-pos n)
+
+module _ {n : ℕ} {genes : List ℕ} {count : ℕ} {allowed scores splits : List ℕ} (h : Checked n genes count allowed scores splits) {all : ℕ} (is : all ≡ whole n) where
+  weights-light : Light (weight (recordsIn count genes))
+  weights-light b = omega (arith, weight-small genes b (h .few-genes) (h .countable))
+
+  pub all-few : all + 1 ≤ 65536
+  all-few = omega (arith, whole-entries n is, entries-few (h .few-species))
+
+  pub all-fits : all + 1 ≤ length scores
+  all-fits = omega (arith, whole-entries n is, h .long .scores-long)
+
+  pub all-splits : all + 1 ≤ length splits
+  all-splits = omega (arith, whole-entries n is, h .long .splits-long)
+
+  module _ {weights : List ℕ} (e : weights ≡ map (λ a. weight (recordsIn count genes) a) (upTo (all + 1)) ++ drop (all + 1) scores) where
+    is-written : weights ≡ written (λ a. weight (recordsIn count genes) a) (2 ^ n) scores
+    is-written =
+        e ∙ sym (written-entries (λ a. weight (recordsIn count genes) a) (all + 1) scores)
+        ∙ ap (λ k. written (λ a. weight (recordsIn count genes) a) k scores) (whole-entries n is)
+
+    holds-weights : Weights n (weight (recordsIn count genes)) weights
+    holds-weights b l = ap (λ t. getD t b 0) is-written ∙ written-at (λ a. weight (recordsIn count genes) a) (2 ^ n) scores b l
+
+    pub weights-fillable : Fillable n allowed weights splits
+    weights-fillable =
+        record {
+          few = h .few-species;
+          allowed-long = h .long .allowed-long;
+          scores-long =
+              let l = h .long .scores-long in
+              omega (arith, ap length is-written, written-length (λ a. weight (recordsIn count genes) a) (2 ^ n) scores l);
+          splits-long = h .long .splits-long;
+          light = λ b l. omega (arith, holds-weights b l, weights-light b);
+        }
+
+    pub tabled :
+        {scores′ splits′ : List ℕ} → Fills n allowed weights splits scores′ splits′
+        → Tabled n (recordsIn count genes) allowed scores splits scores′ splits′
+    unfolding bestFor
+    tabled {scores′} {splits′} fills =
+        let both = fills (weight (recordsIn count genes)) weights-light holds-weights in
+        record { light = weights-light; scoreTable = both .0 ∙ behind; splitTable = both .1 }
+      where
+        entry : ℕ → ℕ
+        entry a = scoreEntry (weight (recordsIn count genes)) (best (weight (recordsIn count genes)) (allowedIn n allowed) a)
+
+        behind : filled n entry weights ≡ filled n entry scores
+        behind =
+            sym (written-entries entry (2 ^ n) weights) ∙ ap (written entry (2 ^ n)) is-written
+            ∙ written-again entry (λ a. weight (recordsIn count genes) a) (2 ^ n) scores
+            ∙ written-entries entry (2 ^ n) scores
+
+-- ---- the answer
+
+module _
+    {n : ℕ} {genes : List (List ℕ)} {allowed lentScores lentSplits scores splits : List ℕ}
+    (h : Tabled n genes allowed lentScores lentSplits scores splits)
+  where
+    score-at : (b : ℕ) → b < 2 ^ n → getD scores b 0 ≡ scoreEntry (weight genes) (best (weight genes) (allowedIn n allowed) b)
+    unfolding bestFor
+    score-at b l =
+        let entry : ℕ → ℕ = λ a. scoreEntry (weight genes) (best (weight genes) (allowedIn n allowed) a) in
+        ap (λ t. getD t b 0) (h .scoreTable ∙ sym (written-entries entry (2 ^ n) lentScores)) ∙ written-at entry (2 ^ n) lentScores b l
+
+    split-at : (b : ℕ) → b < 2 ^ n → getD splits b 0 ≡ splitEntry (best (weight genes) (allowedIn n allowed) b)
+    unfolding bestFor
+    split-at b l =
+        let entry : ℕ → ℕ = λ a. splitEntry (best (weight genes) (allowedIn n allowed) a) in
+        ap (λ t. getD t b 0) (h .splitTable ∙ sym (written-entries entry (2 ^ n) lentSplits)) ∙ written-at entry (2 ^ n) lentSplits b l
+
+    module _ (few : n ≤ 16) {all : ℕ} (is : all ≡ whole n) where
+      score-all : getD scores all 0 ≡ scoreEntry (weight genes) (best (weight genes) (allowedIn n allowed) (whole n))
+      score-all = ap (λ b. getD scores b 0) is ∙ score-at (whole n) (whole-below n)
+
+      not-marked : (t : Binary) → best (weight genes) (allowedIn n allowed) (whole n) ≡ some t → getD scores all 0 ≡ noTree → ⊥
+      not-marked t e m =
+          omega (arith, score-all, ap (scoreEntry (weight genes)) e, score-bound (h .light) (best-on (weight genes) (allowedIn n allowed) (whole n) t e), size-whole n)
+
+      -- the mark stands there where there is no tree
+      no-best : getD scores all 0 ≡ noTree → best (weight genes) (allowedIn n allowed) (whole n) ≡ none
+      no-best m = go (best (weight genes) (allowedIn n allowed) (whole n)) refl
+        where
+          go : (o : Option Binary) → best (weight genes) (allowedIn n allowed) (whole n) ≡ o → o ≡ none
+          go none e = refl
+          go (some t) e = absurd (not-marked t e m)
+
+      pub solves-none : {r : Found} → getD scores all 0 ≡ noTree → r ≡ without 14 0 → Solves n genes allowed lentScores lentSplits r scores splits
+      unfolding bestFor
+      solves-none m e =
+          record {
+            reply = e ∙ sym (ap (λ o. foundBy o genes) (no-best m));
+            scoreTable = h .scoreTable;
+            splitTable = h .splitTable;
+          }
+
+      -- a tree on all species, where there is one
+      record Best : Type 0 where
+        tree : Binary
+        chosen-best : best (weight genes) (allowedIn n allowed) (whole n) ≡ some tree
+
+      a-best : (getD scores all 0 ≡ noTree → ⊥) → Best
+      a-best f = go (best (weight genes) (allowedIn n allowed) (whole n)) refl
+        where
+          go : (o : Option Binary) → best (weight genes) (allowedIn n allowed) (whole n) ≡ o → Best
+          go none e = absurd (f (score-all ∙ ap (scoreEntry (weight genes)) e))
+          go (some t) e = record { tree = t; chosen-best = e }
+
+      led-down : (b : Best) → (root (b .tree) ≡ all) × Chosen splits (b .tree)
+      led-down b = (
+        tree-root (best-on (weight genes) (allowedIn n allowed) (whole n) (b .tree) (b .chosen-best)) ∙ sym is,
+        best-chosen (weight genes) (allowedIn n allowed) splits (2 ^ n) split-at (b .tree) (whole n) (whole-below n) (b .chosen-best),
+      )
+
+      pub solves-chooses : (getD scores all 0 ≡ noTree → ⊥) → Chooses splits all 31
+      solves-chooses f =
+          let b = a-best f in
+          let led = led-down b in
+          record {
+            tree = b .tree;
+            rooted = led .0;
+            chosen = led .1;
+            fits = omega (arith, tree-clusters (best-on (weight genes) (allowedIn n allowed) (whole n) (b .tree) (b .chosen-best)), size-whole n);
+          }
+
+      pub solves-found : {r : Found} {score : ℕ} → (getD scores all 0 ≡ noTree → ⊥) → score ≡ getD scores all 0
+          → ((t : Binary) → root t ≡ all → Chosen splits t → r ≡ record { number = 0; place = 0; score = score; numbers = recordOf (clustersIn t) })
+          → Solves n genes allowed lentScores lentSplits r scores splits
+      unfolding bestFor
+      solves-found {r} {score} f e g =
+          let b = a-best f in
+          let led = led-down b in
+          let points : score ≡ scoreOf (weight genes) (b .tree) = e ∙ score-all ∙ ap (scoreEntry (weight genes)) (b .chosen-best) in
+          record {
+            reply =
+                g (b .tree) (led .0) (led .1)
+                ∙ ap (λ k. record { number = 0; place = 0; score = k; numbers = recordOf (clustersIn (b .tree)) }) points
+                ∙ sym (ap (λ o. foundBy o genes) (b .chosen-best));
+            scoreTable = h .scoreTable;
+            splitTable = h .splitTable;
+          }

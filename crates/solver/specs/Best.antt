@@ -1,0 +1,20 @@
+-- The best tree for gene trees and an allowed set, and the answer that says it (01, "The count" and "Numbers returned").
+use Prim.Native.Nat.{ℕ}
+use mathlib.Core.Option.{Option, some, none}
+use mathlib.Core.List.{List}
+use lib.ListN.{replicate}
+use Rattle.trees.specs.Records.{recordOf}
+use Rattle.weights.specs.Count.{weight}
+use Rattle.tables.specs.BinaryTrees.{Binary, clustersIn}
+use Rattle.tables.specs.Least.{best, scoreOf}
+use Rattle.tables.specs.Allowed.{allowedIn}
+use Rattle.solver.specs.declared.Found.{Found}
+
+-- the best tree on a for these gene trees and this allowed set
+unfoldable pub bestFor : ℕ → List (List ℕ) → List ℕ → ℕ → Option Binary
+bestFor n genes allowed a = best (weight genes) (allowedIn n allowed) a
+
+-- "The search returns the score and the record of its tree"; "14 | no binary tree over the allowed clusters | 0"
+abbrev pub foundBy : Option Binary → List (List ℕ) → Found
+foundBy (some t) genes = record { number = 0; place = 0; score = scoreOf (weight genes) t; numbers = recordOf (clustersIn t) }
+foundBy none genes = record { number = 14; place = 0; score = 0; numbers = replicate 32 0 }

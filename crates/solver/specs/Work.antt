@@ -1,0 +1,37 @@
+-- What the parts of the search ask of one another.
+use Prim.Native.Nat.{ℕ, _*_, _^_, _≤_}
+use mathlib.Core.Path.{_≡_}
+use mathlib.Core.List.{List}
+use lib.ListN.{length, replicate}
+use Rattle.clusters.specs.Sets.{whole}
+use Rattle.weights.specs.Count.{weight}
+use Rattle.trees.specs.Records.{recordsIn}
+use Rattle.weights.specs.Work.{AllCountable}
+use Rattle.tables.specs.Least.{scoreEntry, splitEntry, filled}
+use Rattle.solver.specs.Best.{bestFor, foundBy}
+use Rattle.solver.specs.declared.Found.{Found}
+
+-- an answer without a tree
+abbrev pub without : ℕ → ℕ → Found
+without number place = record { number = number; place = place; score = 0; numbers = replicate 32 0 }
+
+-- so many entries are there in the allowed set and in both tables
+pub record LongEnough (entries : ℕ) (allowed scores splits : List ℕ) : Type 0 where
+  pub allowed-long : entries ≤ length allowed
+  pub scores-long : entries ≤ length scores
+  pub splits-long : entries ≤ length splits
+
+-- gene trees and slices that were checked
+pub record Checked (n : ℕ) (genes : List ℕ) (count : ℕ) (allowed scores splits : List ℕ) : Type 0 where
+  pub some-species : 1 ≤ n
+  pub few-species : n ≤ 16
+  pub few-genes : count ≤ 4096
+  pub genes-long : 32 * count ≤ length genes
+  pub countable : AllCountable (recordsIn count genes)
+  pub long : LongEnough (2 ^ n) allowed scores splits
+
+-- the answer for gene trees, and both tables filled
+pub record Solves (n : ℕ) (genes : List (List ℕ)) (allowed scores splits : List ℕ) (r : Found) (scoresAfter splitsAfter : List ℕ) : Type 0 where
+  pub reply : r ≡ foundBy (bestFor n genes allowed (whole n)) genes
+  pub scoreTable : scoresAfter ≡ filled n (λ a. scoreEntry (weight genes) (bestFor n genes allowed a)) scores
+  pub splitTable : splitsAfter ≡ filled n (λ a. splitEntry (bestFor n genes allowed a)) splits

@@ -1,0 +1,51 @@
+// The best tree of gene trees that were checked: all weights, the two tables, and the record of the tree that they choose.
+mod tree;
+mod weight_table;
+
+ghost use mathlib.Core.Path.{_≡_};
+ghost use Rattle.trees.specs.Records.{recordsIn};
+ghost use Rattle.solver.specs.Work.{without, Checked, Solves};
+
+// What the search answers: number and place, the score, and the record of its tree.
+#[repr(C)]
+pub struct Found {
+    pub number: u32,
+    pub place: usize,
+    pub score: usize,
+    pub numbers: [u16; 32],
+}
+
+// The answer of a search that refuses: "score 0 .., an all-zero record".
+pub fn refused(number: u32, place: usize) -> Found
+    ensures { λ r. ⌜ r ≡ without number place ⌝ }
+{
+    let numbers = [0u16; 32];
+    Found {
+        number,
+        place,
+        score: 0,
+        numbers,
+    }
+}
+
+// Fills both tables, and answers the tree that they choose for all species. `search` calls it, behind all its checks.
+pub fn solve(
+    n: usize,
+    genes: &[u16],
+    count: usize,
+    allowed: &[u8],
+    scores: &mut [u32],
+    splits: &mut [u16],
+) -> Found
+    requires { ⌜ Checked n (now genes) count (now allowed) (now scores) (now splits) ⌝ }
+    ensures { λ r. ⌜ Solves n (recordsIn count (now (genes .entry))) (now (allowed .entry)) (now (scores .entry)) (now (splits .entry)) r (now (scores .exit)) (now (splits .exit)) ⌝ }
+{
+    let all = clusters::whole(n) as usize;
+    weight_table::fill(genes, count, all + 1, scores);
+    tables::fill(n, allowed, scores, splits);
+    let score = scores[all];
+    if score == tables::NO_TREE {
+        return refused(14, 0);
+    }
+    tree::found(splits, all, score)
+}

@@ -1,0 +1,116 @@
+-- The node of a cluster of a record as it is written: what is known between two children, and where it begins and ends.
+use Prim.Native.Nat.{ℕ, _+_, _-_, _≤_, _<_}
+use mathlib.Core.Path.{_≡_, refl, sym, ap, _∙_}
+use mathlib.Core.List.{List, [], _∷_, append-nil}
+use native.Mathlib.Omega.{arith}
+use lib.ListN.{length, set, length-append, length-set}
+use lib.Seq.{sets}
+use Rattle.clusters.specs.Sets.{Within, size, lowest}
+use Rattle.clusters.proofs.Sets.{within-below}
+use Rattle.clusters.proofs.Sizes.{size-some}
+use Rattle.clusters.proofs.LowestSpecies.{lowest-below}
+use Rattle.trees.specs.Records.{listed}
+use Rattle.trees.specs.Drawn.{drawn}
+use Rattle.trees.proofs.Children.{Hierarchy, hierarchy-of-valid, cluster-below}
+use Rattle.trees.proofs.Drawing.{drawn-leaf}
+use Rattle.texts.specs.Writing.{nodeText}
+use Rattle.printing.specs.Work.{Put}
+use Rattle.printing.proofs.Printing.{put-byte, put-rest, put-then, put-length}
+use Rattle.texts.specs.Work.{nameIn, namesIn, clusterText, Listed, ChildWith}
+use Rattle.texts.proofs.TableNames.{names-at}
+use Rattle.texts.proofs.Childwise.{listText, Rest, rest-all, rest-within, rest-none, rest-next}
+
+-- part of the node of a is written: what is left to store has the outcome that the whole text had
+pub record Begun (table r : List ℕ) (a : ℕ) (out₀ : List ℕ) (at : ℕ) (out : List ℕ) (end left mark : ℕ) : Type 0 where
+  pub todo : List ℕ
+  pub rest : Rest (namesIn 32 table) (listed r) a left mark todo
+  pub stores : sets out end todo ≡ sets out₀ at (clusterText table r a)
+  pub ends : end + length todo ≡ at + length (clusterText table r a)
+  pub long : length out ≡ length out₀
+
+-- the next child can be written, and that goes on
+pub record Onward (table r : List ℕ) (a : ℕ) (out₀ : List ℕ) (at : ℕ) (out : List ℕ) (end left mark x : ℕ) : Type 0 where
+  pub listed : Listed r x
+  pub smaller : size x < size a
+  pub some : 1 ≤ x
+  pub most : x ≤ left
+  pub room : end + 1 + length (clusterText table r x) ≤ at + length (clusterText table r a)
+  pub then : (end′ : ℕ) (out′ : List ℕ) → Put (set out end mark) (end + 1) (clusterText table r x) end′ out′ → Begun table r a out₀ at out′ end′ (left - x) 44
+
+module _ {r : List ℕ} {a : ℕ} (h : Listed r a) where
+  tree : Hierarchy (h .all) (listed r)
+  tree = hierarchy-of-valid (h .valid) (let b = h .sixteen in omega arith)
+
+  -- ---- a single species
+
+  pub lowest-sixteen : lowest a < 16
+  lowest-sixteen =
+      lowest-below 16 (h .valid .inside a (h .among) .0) (cluster-below tree (h .among))
+      (within-below (h .all) 16 (h .valid .inside a (h .among) .1) (let b = h .sixteen in omega arith))
+
+  pub leaf-text : (table : List ℕ) → size a ≡ 1 → clusterText table r a ≡ nameIn table (lowest a)
+  unfolding clusterText nodeText
+  leaf-text table e =
+      let l = lowest-sixteen in
+      rw (drawn-leaf (listed r) a e, append-nil) (names-at 32 table (lowest a) (omega arith))
+
+  -- ---- more than one
+
+  pub two-species : (size a ≡ 1 → ⊥) → 2 ≤ size a
+  two-species n = let s = size-some (h .valid .inside a (h .among) .0) in omega arith
+
+  module _ (table out₀ : List ℕ) (at : ℕ) where
+    pub begun-all : (size a ≡ 1 → ⊥) → Begun table r a out₀ at out₀ at a 40
+    unfolding clusterText
+    begun-all n = record {
+      todo = clusterText table r a;
+      rest = rest-all tree (namesIn 32 table) (h .among) n;
+      stores = refl;
+      ends = refl;
+      long = refl;
+    }
+
+    module _ {out : List ℕ} {end left mark : ℕ} (b : Begun table r a out₀ at out end left mark) where
+      pub begun-within : Within left a
+      begun-within = rest-within tree (namesIn 32 table) (h .among) (b .rest)
+
+      pub begun-room : end < at + length (clusterText table r a)
+      begun-room =
+          let e = b .ends in
+          let l = ap length (b .rest .text) in
+          let k = length-append (listText (namesIn 32 table) (λ c. drawn (listed r) c) mark (b .rest .ahead)) (41 ∷ []) in
+          omega arith
+
+      pub begun-next : {x : ℕ} → 1 ≤ left → ChildWith r a (lowest left) x → Onward table r a out₀ at out end left mark x
+      unfolding clusterText
+      begun-next {x} some c =
+          let n = rest-next tree (namesIn 32 table) (h .among) (b .rest) some (c .child) (c .holds) in
+          let e = b .ends in
+          let l = ap length (n .text) in
+          let k = length-append (nodeText (namesIn 32 table) (drawn (listed r) x)) (n .later) in
+          record {
+            listed = record { all = h .all; sixteen = h .sixteen; valid = h .valid; among = n .among };
+            smaller = n .smaller;
+            some = n .some;
+            most = n .most;
+            room = omega arith;
+            then = λ end′ out′ p.
+                let s = put-rest (n .later) (put-then (put-byte out end mark) p) in
+                record {
+                  todo = n .later;
+                  rest = n .rest;
+                  stores = s .0 ∙ ap (λ (z : List ℕ). sets out end z) (sym (n .text)) ∙ b .stores;
+                  ends = s .1 ∙ ap (λ (z : List ℕ). end + length z) (sym (n .text)) ∙ b .ends;
+                  long = put-length p ∙ simp length-set (b .long);
+                };
+          }
+
+      pub begun-end : left ≡ 0 → Put out₀ at (clusterText table r a) (end + 1) (set out end 41)
+      begun-end z =
+          let e = rest-none tree (namesIn 32 table) (h .among) (b .rest) z in
+          let l = b .ends in
+          let k = ap length e in
+          record {
+            ended = omega arith;
+            stored = ap (λ (t : List ℕ). sets out end t) (sym e) ∙ b .stores;
+          }

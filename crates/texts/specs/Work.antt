@@ -1,0 +1,42 @@
+-- What the parts of the writer ask of one another: the names in a table, and a cluster of a record that draws a tree.
+use Prim.Native.Nat.{ℕ, zero, suc, _+_, _*_, _<_}
+use mathlib.Core.List.{List, [], _∷_}
+use lib.ListN.{length, take, drop}
+use Rattle.clusters.specs.Sets.{Has}
+use Rattle.labels.specs.Bytes.{run}
+use Rattle.trees.specs.Lists.{Among}
+use Rattle.trees.specs.Records.{listed, ValidOn}
+use Rattle.trees.specs.Drawn.{children, drawn}
+use Rattle.roster.specs.Table.{nonZero}
+use Rattle.texts.specs.Writing.{label, nodeText}
+
+-- the name that stands in the i-th sixteen of a table: its bytes up to the first 0
+unfoldable pub nameIn : List ℕ → ℕ → List ℕ
+nameIn table i = take (run nonZero (take 16 (drop (16 * i) table))) (drop (16 * i) table)
+
+-- the first n names of a table
+unfoldable pub namesIn : ℕ → List ℕ → List (List ℕ)
+unfolding nameIn
+namesIn zero table = []
+namesIn (suc n) table = nameIn table 0 ∷ namesIn n (drop 16 table)
+
+-- the bytes of the labels of all names
+unfoldable pub labels : List (List ℕ) → ℕ
+labels [] = 0
+labels (w ∷ names) = length (label w) + labels names
+
+-- the text of the node of a cluster, over a table of 32 names
+unfoldable pub clusterText : List ℕ → List ℕ → ℕ → List ℕ
+clusterText table r a = nodeText (namesIn 32 table) (drawn (listed r) a)
+
+-- a is one of the clusters of a valid record of at most sixteen species
+pub record Listed (r : List ℕ) (a : ℕ) : Type 0 where
+  pub all : ℕ
+  pub sixteen : all < 65536
+  pub valid : ValidOn all r
+  pub among : Among a (listed r)
+
+-- x is the child of a that holds the species i
+pub record ChildWith (r : List ℕ) (a i x : ℕ) : Type 0 where
+  pub child : Among x (children (listed r) a)
+  pub holds : Has x i

@@ -1,0 +1,4 @@
+// The text of a node of a tree, down to its leaves, and the length of the whole.
+mod child;
+pub mod label;
+pub mod node;

@@ -1,0 +1,4 @@
+pub mod Count
+pub mod Lineages
+pub mod Marks
+pub mod Work
