@@ -20,7 +20,7 @@ use Rattle.lineages.specs.Promise.{marks}
 use Rattle.trees.proofs.UpTo.{map-upTo}
 use Rattle.tables.specs.Allowed.{allowedIn}
 use Rattle.report.specs.Input.{allWord, genesWord}
-use Rattle.report.specs.Program.{allowedBy}
+use Rattle.outcomes.specs.Outcome.{allowedBy}
 use Rattle.demands.specs.GeneTrees.{RecordsOf}
 use Rattle.demands.specs.Input.{Allows}
 use Rattle.demands.specs.Input.Allows.{every, lone, entire, shown}

@@ -36,7 +36,8 @@ use Rattle.solver.specs.declared.Found.{Found}
 use Rattle.printing.specs.Words.{taxaText, genesText, scoreText, refusedText, atText, digitsTo, decimal}
 use Rattle.gather.specs.GeneTrees.{gatherTo, gather}
 use Rattle.report.specs.Input.{lineLength, firstLine, behindLine, endsInFeed, modePlace, treesPlace}
-use Rattle.report.specs.Program.{searched, program}
+use Rattle.report.specs.Program.{program}
+use Rattle.outcomes.specs.Outcome.{searched}
 use Rattle.report.specs.Promise.{output, Reports}
 
 -- ---- what is computed: small inputs and their replies

@@ -20,9 +20,10 @@ use Rattle.search.specs.Candidates.{Candidate}
 use Rattle.search.proofs.Demand.{found-answers}
 use Rattle.printing.specs.Words.{taxaText, genesText, scoreText, newline, decimal}
 use Rattle.report.specs.Input.{firstLine, behindLine, treesPlace, allWord, genesWord}
-use Rattle.report.specs.Program.{Outcome, allowedBy, program}
-use Rattle.report.specs.Program.Outcome.{refused, solved}
-use Rattle.report.specs.Promise.{printed, output, Reports}
+use Rattle.report.specs.Program.{program}
+use Rattle.outcomes.specs.Outcome.{Outcome, allowedBy, printed}
+use Rattle.outcomes.specs.Outcome.Outcome.{refused, solved}
+use Rattle.report.specs.Promise.{output, Reports}
 use Rattle.demands.specs.GeneTrees.{RecordsOf}
 use Rattle.demands.specs.Input.{Holds}
 use Rattle.demands.specs.Signed.{Eligible, Signed}

@@ -21,8 +21,9 @@ use Rattle.reader.specs.Promise.{textMost}
 use Rattle.gather.specs.GeneTrees.{Gathered, gather}
 use Rattle.gather.specs.GeneTrees.Gathered.{gathered, stopped}
 use Rattle.report.specs.Input.{firstLine, behindLine, endsInFeed, treesPlace, allWord, genesWord}
-use Rattle.report.specs.Program.{Outcome, programMost, outcomeOf, searched, allowedBy, withGenes, onTrees, onMode, onFeeds, onSpecies, onRoster, onText, program}
-use Rattle.report.specs.Program.Outcome.{refused, solved}
+use Rattle.report.specs.Program.{onMode, onFeeds, onSpecies, onRoster, onText, program}
+use Rattle.outcomes.specs.Outcome.{Outcome, programMost, outcomeOf, searched, allowedBy, withGenes, onTrees}
+use Rattle.outcomes.specs.Outcome.Outcome.{refused, solved}
 use Rattle.demands.proofs.Gathering.{stopped-early}
 use Rattle.demands.proofs.Allowing.{modeWord}
 

@@ -22,9 +22,10 @@ use Rattle.reader.specs.Promise.{textMost}
 use Rattle.gather.specs.GeneTrees.{gather}
 use Rattle.gather.specs.GeneTrees.Gathered.{gathered}
 use Rattle.report.specs.Input.{firstLine, behindLine, endsInFeed, treesPlace, allWord, genesWord}
-use Rattle.report.specs.Program.{Outcome, programMost, searched, allowedBy, withGenes, onMode, program}
-use Rattle.report.specs.Program.Outcome.{refused, solved}
-use Rattle.report.specs.Promise.{printed, output}
+use Rattle.report.specs.Program.{onMode, program}
+use Rattle.outcomes.specs.Outcome.{Outcome, programMost, searched, allowedBy, withGenes, printed}
+use Rattle.outcomes.specs.Outcome.Outcome.{refused, solved}
+use Rattle.report.specs.Promise.{output}
 use Rattle.demands.specs.GeneTrees.{RecordsOf}
 use Rattle.demands.specs.Input.{Holds}
 use Rattle.demands.specs.Signed.{Eligible, Solvable, Unsolvable}

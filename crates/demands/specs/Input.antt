@@ -15,7 +15,7 @@ use Rattle.reader.specs.Promise.{textMost}
 use Rattle.reader.specs.Accepted.{Draws, JustBehind}
 use Rattle.gather.specs.GeneTrees.{genesMost}
 use Rattle.report.specs.Input.{allWord, genesWord}
-use Rattle.report.specs.Program.{programMost}
+use Rattle.outcomes.specs.Outcome.{programMost}
 
 -- "then trees until only blanks remain": each is drawn from the offset just behind the one before it
 pub data TreesFrom (line text : List ℕ) : ℕ → List Tree → Type 0 where

@@ -1,6 +1,6 @@
 -- The program's first checks, in their order: 2, 1, 17, then the mode.
 use Prim.Native.Nat.{ℕ, _≤_, _<_}
-use mathlib.Core.Path.{_≡_, refl, sym, ap, subst, _∙_}
+use mathlib.Core.Path.{_≡_, refl, sym, ap, _∙_}
 use mathlib.Core.Bool.{Bool, true, false}
 use mathlib.Core.List.{List}
 use native.Mathlib.Omega.{arith}
@@ -12,14 +12,12 @@ use Rattle.roster.specs.declared.Reply.{Reply}
 use Rattle.printing.specs.Texts.{reportOf}
 use Rattle.printing.specs.declared.Report.{Report}
 use Rattle.report.specs.Input.{firstLine}
-use Rattle.report.specs.Program.{Outcome, onSpecies, program}
-use Rattle.report.specs.Program.Outcome.{refused}
+use Rattle.report.specs.Program.{onSpecies, program}
+use Rattle.outcomes.specs.Outcome.{Outcome}
+use Rattle.outcomes.specs.Outcome.Outcome.{refused}
 use Rattle.report.specs.Promise.{output, Reports}
-use Rattle.report.specs.Work.{told, Roster}
-
--- the report of one outcome is that of an equal one
-pub retold : (ns : List (List ℕ)) {r : Report} {o outcome : Outcome} → o ≡ outcome → r ≡ told ns o → r ≡ told ns outcome
-retold ns {r} e is = subst (λ (o : Outcome). r ≡ told ns o) e is
+use Rattle.outcomes.proofs.Telling.{retold}
+use Rattle.outcomes.specs.Work.{told, Roster}
 
 -- the report of what the program finds is what is promised
 pub reports : (input : List ℕ) {r : Report} {outcome : Outcome} → r ≡ told (names (firstLine input)) outcome → outcome ≡ program input → Reports input r

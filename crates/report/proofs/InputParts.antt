@@ -11,9 +11,10 @@ use Rattle.roster.specs.Roster.{names, same}
 use Rattle.printing.specs.declared.Report.{Report}
 use Rattle.gather.specs.GeneTrees.{gather}
 use Rattle.report.specs.Input.{lineLength, firstLine, behindLine, endsInFeed, modePlace, treesPlace, allWord, genesWord}
-use Rattle.report.specs.Program.{onMode, onSpecies, onTrees}
-use Rattle.report.specs.Program.Outcome.{refused}
-use Rattle.report.specs.Work.{told}
+use Rattle.report.specs.Program.{onMode, onSpecies}
+use Rattle.outcomes.specs.Outcome.{onTrees}
+use Rattle.outcomes.specs.Outcome.Outcome.{refused}
+use Rattle.outcomes.specs.Work.{told}
 use Rattle.report.proofs.Bytewise.{line-within}
 
 -- what is lent from a place on

@@ -8,9 +8,10 @@ use lib.Seq.{take-at}
 use Rattle.roster.specs.Roster.{names}
 use Rattle.printing.specs.declared.Report.{Report}
 use Rattle.report.specs.Input.{firstLine}
-use Rattle.report.specs.Program.{Outcome, program}
-use Rattle.report.specs.Program.Outcome.{refused, solved}
-use Rattle.report.specs.Promise.{printed, output, Reports}
+use Rattle.report.specs.Program.{program}
+use Rattle.outcomes.specs.Outcome.{Outcome, printed}
+use Rattle.outcomes.specs.Outcome.Outcome.{refused, solved}
+use Rattle.report.specs.Promise.{output, Reports}
 use Rattle.report.specs.Forms.{Form}
 use Rattle.report.specs.Forms.Form.{refusal, answer}
 

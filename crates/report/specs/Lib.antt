@@ -2,4 +2,3 @@ pub mod Input
 pub mod Program
 pub mod Promise
 pub mod Forms
-pub mod Work

@@ -4,19 +4,10 @@ use mathlib.Core.Path.{_≡_}
 use mathlib.Core.List.{List, _++_}
 use lib.ListN.{length, replicate}
 use Rattle.roster.specs.Roster.{names}
-use Rattle.printing.specs.Words.{taxaText, genesText, scoreText, newline, decimal}
-use Rattle.printing.specs.Texts.{refusalText}
 use Rattle.printing.specs.declared.Report.{Report}
-use Rattle.texts.specs.Writing.{written}
+use Rattle.outcomes.specs.Outcome.{printed}
 use Rattle.report.specs.Input.{firstLine}
-use Rattle.report.specs.Program.{Outcome, program}
-use Rattle.report.specs.Program.Outcome.{refused, solved}
-
--- "prints species and gene trees read, the score, and the tree"; "A refusal prints one line .. : the number and the place"
-abbrev pub printed : List (List ℕ) → Outcome → List ℕ
-printed ns (refused number place) = refusalText number place
-printed ns (solved n m score r) =
-    taxaText ++ decimal n ++ genesText ++ decimal m ++ newline ++ scoreText ++ decimal score ++ newline ++ written ns r ++ newline
+use Rattle.report.specs.Program.{program}
 
 -- the output for an input
 unfoldable pub output : List ℕ → List ℕ

@@ -1,7 +1,5 @@
 // The program as a function from input bytes to output bytes.
 mod lines;
-mod print;
-mod solve;
 
 pub use printing::Report;
 ghost use mathlib.Core.Path.{_≡_};
@@ -13,11 +11,11 @@ ghost use Rattle.reader.specs.Promise.{textMost};
 ghost use Rattle.report.specs.Input.{lineLength, firstLine};
 ghost use Rattle.report.specs.Program.{onSpecies};
 ghost use Rattle.report.specs.Promise.{Reports};
-ghost use Rattle.report.specs.Work.{told, Roster};
+ghost use Rattle.outcomes.specs.Work.{told, Roster};
 use lines::is_word;
 use lines::line_length;
+use outcomes::solve::on_trees;
 use printing::refusal;
-use solve::on_trees;
 
 // The input behind a good roster line, which ends at `end` and names n species: the mode line, and the trees.
 fn on_mode(input: &[u8], end: usize, n: usize) -> Report

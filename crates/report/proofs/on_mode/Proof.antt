@@ -6,8 +6,8 @@ use lib.ListN.{length, take}
 use lib.Seq.{length-take-le}
 use Rattle.roster.specs.Roster.{names}
 use Rattle.report.specs.Input.{firstLine}
-use Rattle.report.specs.Work.{Roster}
-use Rattle.report.proofs.Checks.{retold}
+use Rattle.outcomes.specs.Work.{Roster}
+use Rattle.outcomes.proofs.Telling.{retold}
 use Rattle.report.proofs.InputParts.{from, from-length, first-line, first-within, second-within, trees-within, no-first-feed, no-second-feed, all-mode, genes-mode, other-mode}
 use borrow.Author.Needs.{needs}
 use Rattle.report.proofs.on_mode.Statement.{statement}

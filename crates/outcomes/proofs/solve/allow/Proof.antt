@@ -1,9 +1,9 @@
 -- All bytes, or those that the gene trees mark.
 use mathlib.Core.Path.{_∙_}
-use Rattle.report.proofs.Allowed.{marked}
+use Rattle.outcomes.proofs.Allowed.{marked}
 use borrow.Author.Needs.{needs}
-use Rattle.report.proofs.solve.allow.Statement.{statement}
-use Rattle.report.proofs.solve.allow.Tie as tie
+use Rattle.outcomes.proofs.solve.allow.Statement.{statement}
+use Rattle.outcomes.proofs.solve.allow.Tie as tie
 
 fill-requires : tie.Need-fill-requires
 fill-requires c κs = search needs

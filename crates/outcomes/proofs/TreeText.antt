@@ -18,7 +18,7 @@ use Rattle.writer.specs.Promise.{Writes}
 use Rattle.writer.proofs.RosterNames.{good-names}
 use Rattle.texts.proofs.Lengths.{text-most}
 use Rattle.writer.proofs.Outcomes.{writes-done, writes-once}
-use Rattle.report.specs.Work.{Roster}
+use Rattle.outcomes.specs.Work.{Roster}
 
 -- all bytes of a list from a place on
 part-behind : (n at : ℕ) (l : List ℕ) → length l ≡ n → take (n - at) (drop at l) ≡ drop at l

@@ -8,12 +8,12 @@ use Rattle.gather.specs.GeneTrees.Gathered.{gathered, stopped}
 use Rattle.gather.specs.Work.{gatheredIn}
 use Rattle.gather.specs.declared.Trees.{Trees}
 use Rattle.gather.proofs.GeneTrees.{stopped-inside}
-use Rattle.report.specs.Program.{onTrees}
-use Rattle.report.proofs.Checks.{retold}
-use Rattle.report.proofs.GeneTrees.{gathered-genes, without-genes, with-some-genes}
+use Rattle.outcomes.specs.Outcome.{onTrees}
+use Rattle.outcomes.proofs.Telling.{retold}
+use Rattle.outcomes.proofs.GeneTrees.{gathered-genes, without-genes, with-some-genes}
 use borrow.Author.Needs.{needs}
-use Rattle.report.proofs.solve.on_trees.Statement.{statement}
-use Rattle.report.proofs.solve.on_trees.Tie as tie
+use Rattle.outcomes.proofs.solve.on_trees.Statement.{statement}
+use Rattle.outcomes.proofs.solve.on_trees.Tie as tie
 
 -- what was gathered, case by case
 was-stopped :

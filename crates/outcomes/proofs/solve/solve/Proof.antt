@@ -11,13 +11,13 @@ use Rattle.trees.specs.Records.{recordsIn}
 use Rattle.trees.proofs.Lent.{length-recordsIn}
 use Rattle.solver.specs.Best.{bestFor, foundBy}
 use Rattle.solver.specs.declared.Found.{Found}
-use Rattle.report.specs.Program.{allowedBy}
-use Rattle.report.proofs.Checks.{retold}
-use Rattle.report.proofs.Allowed.{allowed-marked, front-fits}
-use Rattle.report.proofs.Searching.{entries-most, searched-refused, searched-solved, found-valid}
+use Rattle.outcomes.specs.Outcome.{allowedBy}
+use Rattle.outcomes.proofs.Telling.{retold}
+use Rattle.outcomes.proofs.Allowed.{allowed-marked, front-fits}
+use Rattle.outcomes.proofs.Searching.{entries-most, searched-refused, searched-solved, found-valid}
 use borrow.Author.Needs.{needs}
-use Rattle.report.proofs.solve.solve.Statement.{statement}
-use Rattle.report.proofs.solve.solve.Tie as tie
+use Rattle.outcomes.proofs.solve.solve.Statement.{statement}
+use Rattle.outcomes.proofs.solve.solve.Tie as tie
 
 entries : (c : tie.After-single) → c .single .result ≡ 2 ^ c .before .before .before .args .n
 unfolding single

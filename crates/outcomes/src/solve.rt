@@ -8,8 +8,8 @@ ghost use Rattle.reader.specs.Promise.{textMost};
 ghost use Rattle.trees.specs.Records.{recordsIn};
 ghost use Rattle.gather.specs.GeneTrees.{gather as GeneTrees·gather};
 ghost use Rattle.solver.specs.Best.{bestFor, foundBy};
-ghost use Rattle.report.specs.Program.{searched, allowedBy, onTrees};
-ghost use Rattle.report.specs.Work.{told, Roster, Genes, Marked};
+ghost use Rattle.outcomes.specs.Outcome.{searched, allowedBy, onTrees};
+ghost use Rattle.outcomes.specs.Work.{told, Roster, Genes, Marked};
 use crate::print::solved;
 use gather::Trees;
 use gather::gather;
@@ -70,8 +70,8 @@ fn solve(line: &[u8], n: usize, genes: &[u16], count: usize, all: bool) -> Repor
     solved(line, n, count, found.score, Record { numbers })
 }
 
-// The trees, which begin at `shift` of the input, and what is found of them.
-pub(crate) fn on_trees(line: &[u8], trees: &[u8], shift: usize, all: bool, n: usize) -> Report
+// The trees, which begin at `shift` of the input, and what is found of them. `report` calls it, with the rest of its input behind a good roster line and a mode line.
+pub fn on_trees(line: &[u8], trees: &[u8], shift: usize, all: bool, n: usize) -> Report
     requires { ⌜ Roster (now line) n ⌝ }
     requires { ⌜ shift + length (now trees) ≤ textMost ⌝ }
     ensures { λ r. ⌜ r ≡ told (names (now (line .entry))) (onTrees (GeneTrees·gather (now (line .entry)) (now (trees .entry))) shift all n) ⌝ }

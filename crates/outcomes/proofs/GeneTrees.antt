@@ -13,9 +13,9 @@ use Rattle.trees.proofs.Lent.{length-recordsIn}
 use Rattle.gather.specs.GeneTrees.{gather}
 use Rattle.gather.specs.GeneTrees.Gathered.{gathered}
 use Rattle.gather.proofs.GeneTrees.{gathered-few, gathered-valid}
-use Rattle.report.specs.Program.{withGenes, searched, allowedBy}
-use Rattle.report.specs.Program.Outcome.{refused}
-use Rattle.report.specs.Work.{Roster, Genes}
+use Rattle.outcomes.specs.Outcome.{withGenes, searched, allowedBy}
+use Rattle.outcomes.specs.Outcome.Outcome.{refused}
+use Rattle.outcomes.specs.Work.{Roster, Genes}
 
 -- the records in the lent numbers, where there is one
 pub gathered-genes :

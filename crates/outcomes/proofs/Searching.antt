@@ -18,10 +18,10 @@ use Rattle.solver.specs.declared.Found.{Found}
 use Rattle.search.specs.Candidates.{Accepted}
 use Rattle.search.proofs.Accepted.{accepts}
 use Rattle.search.proofs.RecordsOfTrees.{tree-valid, whole-narrow}
-use Rattle.report.specs.Program.{outcomeOf, searched}
-use Rattle.report.specs.Program.Outcome.{refused, solved}
-use Rattle.report.specs.Work.{Genes, Marked}
-use Rattle.report.proofs.Allowed.{valid-tests}
+use Rattle.outcomes.specs.Outcome.{outcomeOf, searched}
+use Rattle.outcomes.specs.Outcome.Outcome.{refused, solved}
+use Rattle.outcomes.specs.Work.{Genes, Marked}
+use Rattle.outcomes.proofs.Allowed.{valid-tests}
 
 -- the tables have room for twelve species
 pub entries-most : {n : ℕ} → n ≤ 12 → 2 ^ n ≤ 4096

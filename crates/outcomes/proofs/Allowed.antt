@@ -20,8 +20,8 @@ use Rattle.lineages.proofs.Verdicts.{Shaped}
 use Rattle.lineages.proofs.Calls.{marks-below, marks-done}
 use Rattle.weights.proofs.Shown.{length-marks}
 use Rattle.lineages.proofs.Outcomes.{marks-once}
-use Rattle.report.specs.Program.{allowedBy}
-use Rattle.report.specs.Work.{Genes, Marked}
+use Rattle.outcomes.specs.Outcome.{allowedBy}
+use Rattle.outcomes.specs.Work.{Genes, Marked}
 
 -- where every record is valid, the test of each passes, and none is the first bad one
 pub valid-tests : (n : ℕ) (genes : List (List ℕ)) → n ≤ 16 → AllValid n genes → (g : List ℕ) → List·Memᴰ g genes → valid (whole n) g ≡ true

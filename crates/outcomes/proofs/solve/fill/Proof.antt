@@ -7,8 +7,8 @@ use lib.ListN.{length, drop, replicate, length-set}
 use lib.Seq.{drop-length}
 use borrow.Author.Fill.{fill-none, fill-more}
 use borrow.Author.Needs.{needs}
-use Rattle.report.proofs.solve.fill.Statement.{statement}
-use Rattle.report.proofs.solve.fill.Tie as tie
+use Rattle.outcomes.proofs.solve.fill.Statement.{statement}
+use Rattle.outcomes.proofs.solve.fill.Tie as tie
 
 abbrev Inv-loop : tie.InvT-loop
 Inv-loop out₀ i₀ out i = (i ≤ length out₀) × (length out ≡ length out₀) × (out ≡ replicate i 1 ++ drop i out₀)

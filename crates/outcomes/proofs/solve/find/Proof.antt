@@ -1,9 +1,9 @@
 -- No check of the search refuses, so its reply is what it finds.
 use mathlib.Core.Path.{refl}
-use Rattle.report.proofs.Searching.{found}
+use Rattle.outcomes.proofs.Searching.{found}
 use borrow.Author.Needs.{needs}
-use Rattle.report.proofs.solve.find.Statement.{statement}
-use Rattle.report.proofs.solve.find.Tie as tie
+use Rattle.outcomes.proofs.solve.find.Statement.{statement}
+use Rattle.outcomes.proofs.solve.find.Tie as tie
 
 slice-aggregate-search : tie.Need-slice-aggregate-search
 slice-aggregate-search c = search needs

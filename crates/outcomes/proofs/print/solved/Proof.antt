@@ -4,10 +4,10 @@ use native.Mathlib.Omega.{arith}
 use Rattle.roster.specs.Roster.{names}
 use Rattle.printing.proofs.Printing.{put-then, put-length, put-report, counts-length, answer-length, Room, room-within}
 use Rattle.texts.specs.Writing.{written}
-use Rattle.report.proofs.TreeText.{tree-length, tree-value, tree-put}
+use Rattle.outcomes.proofs.TreeText.{tree-length, tree-value, tree-put}
 use borrow.Author.Needs.{needs}
-use Rattle.report.proofs.print.solved.Statement.{statement}
-use Rattle.report.proofs.print.solved.Tie as tie
+use Rattle.outcomes.proofs.print.solved.Statement.{statement}
+use Rattle.outcomes.proofs.print.solved.Tie as tie
 
 after-counts : (c : tie.After-counts) → Room 80 (c .counts .result) (c .counts .last .0)
 after-counts c =

@@ -10,8 +10,7 @@ use Rattle.printing.specs.Texts.{reportOf}
 use Rattle.printing.specs.declared.Report.{Report}
 use Rattle.trees.specs.Records.{recordsIn, AllValid}
 use Rattle.gather.specs.GeneTrees.{genesMost}
-use Rattle.report.specs.Program.{Outcome, programMost}
-use Rattle.report.specs.Promise.{printed}
+use Rattle.outcomes.specs.Outcome.{Outcome, programMost, printed}
 
 -- the report of an outcome, over the names of the roster
 abbrev pub told : List (List ℕ) → Outcome → Report

@@ -1,0 +1,5 @@
+pub mod Telling
+pub mod Allowed
+pub mod TreeText
+pub mod Searching
+pub mod GeneTrees

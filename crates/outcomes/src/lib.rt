@@ -1,0 +1,3 @@
+// From the gene trees to the report: the allowed clusters, the search, the outcome and its text.
+mod print;
+pub mod solve;
