@@ -1,6 +1,5 @@
 // Bytes that a call is lent: how many, and their fingerprint after it, by which they are compared whole.
 ghost use Prim.Native.Nat.{_≤_, _<_};
-use crate::fields::byte;
 use crate::fields::least;
 use crate::fields::number;
 use crate::show;
@@ -24,7 +23,7 @@ fn fingerprint(s: &[u8]) -> usize {
     let mut h: u64 = 7;
     let mut i = 0;
     while i < s.len() {
-        h = mixed(h, byte(s, i) as u32);
+        h = mixed(h, s[i] as u32);
         i += 1;
     }
     h as usize

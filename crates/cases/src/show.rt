@@ -32,10 +32,6 @@ pub fn answer(fault: u32, place: usize, value: usize) {
     number(value);
 }
 
-pub fn wide(x: u16) -> u32 {
-    x as u32
-}
-
 // How many numbers there are up to the last that is not 0.
 fn filled(numbers: &[u16]) -> usize
     ensures { λ r. ⌜ r ≤ length (now (numbers .entry)) ⌝ }
@@ -56,7 +52,7 @@ pub fn record_start(numbers: &[u16]) {
     let mut i = 0;
     while i < end {
         byte(b' ');
-        number(wide(numbers[i]) as usize);
+        number(numbers[i] as usize);
         i += 1;
     }
 }

@@ -3,7 +3,6 @@ ghost use Rattle.io.specs.Counts.{Counts};
 use crate::fields::least;
 use crate::lent::mixed;
 use crate::show;
-use crate::show::wide;
 
 fn scores_fingerprint(s: &[u32]) -> usize {
     let mut h: u64 = 7;
@@ -19,7 +18,7 @@ fn splits_fingerprint(s: &[u16]) -> usize {
     let mut h: u64 = 7;
     let mut i = 0;
     while i < s.len() {
-        h = mixed(h, wide(s[i]));
+        h = mixed(h, s[i] as u32);
         i += 1;
     }
     h as usize

@@ -18,8 +18,8 @@ use Rattle.nodes.specs.Reading.{leafAt, closing, readTreeTo, readTree, readNode
 use Rattle.labels.specs.Bytes.{run}
 use Rattle.labels.specs.Labels.{word, padded}
 use Rattle.roster.specs.Roster.{same, position, begins, beginnings, nameAt, names, strayAt, longAt, manyAt, againAt, openAt, faultAt, least, firstFault, faulty}
-use Rattle.tables.specs.BinaryTrees.{clustersIn, isLow, lows, each, forks, treesTo, treesOn}
-use Rattle.tables.specs.Least.{those, all, scoreOf, treesOver, leastTrees, best}
+use Rattle.splits.specs.BinaryTrees.{clustersIn, isLow, lows, each, forks, treesTo, treesOn}
+use Rattle.splits.specs.Least.{those, all, scoreOf, treesOver, leastTrees, best}
 use Rattle.tables.specs.Allowed.{allowedIn}
 use Rattle.solver.specs.Best.{bestFor}
 use Rattle.trees.specs.Drawn.{properly, maximal, placed, byLowest, children, drawnTo, drawn}

@@ -24,8 +24,8 @@ use Rattle.weights.specs.Count.{weight, score}
 use Rattle.trees.specs.Records.{recordsIn}
 use Rattle.lineages.specs.Checks.{speciesTest, countTest, speciesRecordTest, recordsTest, clusterTest, weightTests, scoreTests, markTests}
 use Rattle.lineages.specs.Promise.{Weighs, Scores, Marks, markedBy}
-use Rattle.tables.specs.BinaryTrees.{Binary}
-use Rattle.tables.specs.Least.{scoreEntry, splitEntry}
+use Rattle.splits.specs.BinaryTrees.{Binary}
+use Rattle.splits.specs.Least.{scoreEntry, splitEntry}
 use Rattle.search.specs.Promise.{allowedTest, searchTests, foundOr, filledBy, Finds}
 use Rattle.solver.specs.Best.{bestFor, foundBy}
 use Rattle.solver.specs.declared.Found.{Found}

@@ -14,7 +14,7 @@ use Rattle.roster.specs.declared.Reply.{Reply}
 use Rattle.writer.specs.Promise.{outBy}
 use Rattle.trees.specs.Records.{recordsIn}
 use Rattle.lineages.specs.Promise.{markedBy}
-use Rattle.tables.specs.BinaryTrees.{Binary}
+use Rattle.splits.specs.BinaryTrees.{Binary}
 use Rattle.search.specs.Promise.{searchTests, foundOr, filledBy, Finds}
 use Rattle.solver.specs.Best.{bestFor, foundBy}
 use Rattle.solver.specs.declared.Found.{Found}

@@ -27,8 +27,8 @@ use Rattle.weights.specs.Count.{kOf, extra, weight, score}
 use Rattle.lineages.specs.Checks.{speciesTest, countTest, speciesRecordTest, firstBad, recordsTest, clusterTest, weightTests, scoreTests, markTests}
 use Rattle.weights.specs.Marks.{shown}
 use Rattle.lineages.specs.Promise.{marks, Weighs, Scores, Marks}
-use Rattle.tables.specs.BinaryTrees.{clustersIn, isLow, lows, each, forks, treesTo, treesOn}
-use Rattle.tables.specs.Least.{those, all, scoreOf, treesOver, leastTrees, best, noTree}
+use Rattle.splits.specs.BinaryTrees.{clustersIn, isLow, lows, each, forks, treesTo, treesOn}
+use Rattle.splits.specs.Least.{those, all, scoreOf, treesOver, leastTrees, best, noTree}
 use Rattle.tables.specs.Allowed.{allowedIn}
 use Rattle.search.specs.Promise.{firstStrange, allowedTest, searchTests, Finds}
 use Rattle.solver.specs.Best.{bestFor}

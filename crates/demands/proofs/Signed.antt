@@ -14,8 +14,8 @@ use Rattle.roster.specs.Roster.{names}
 use Rattle.texts.specs.Writing.{written}
 use Rattle.writer.proofs.RoundTrip.{reads-back}
 use Rattle.weights.specs.Count.{weight}
-use Rattle.tables.specs.BinaryTrees.{clustersIn}
-use Rattle.tables.specs.Least.{scoreOf}
+use Rattle.splits.specs.BinaryTrees.{clustersIn}
+use Rattle.splits.specs.Least.{scoreOf}
 use Rattle.search.specs.Candidates.{Candidate}
 use Rattle.search.proofs.Demand.{found-answers}
 use Rattle.printing.specs.Words.{taxaText, genesText, scoreText, newline, decimal}

@@ -14,8 +14,8 @@ use Rattle.roster.specs.Roster.{names, faulty, same}
 use Rattle.roster.specs.Judged.{speciesMost}
 use Rattle.roster.proofs.Positions.{same-is}
 use Rattle.weights.specs.Count.{weight}
-use Rattle.tables.specs.BinaryTrees.{Binary, clustersIn}
-use Rattle.tables.specs.Least.{scoreOf}
+use Rattle.splits.specs.BinaryTrees.{Binary, clustersIn}
+use Rattle.splits.specs.Least.{scoreOf}
 use Rattle.solver.specs.Best.{bestFor, foundBy}
 use Rattle.reader.specs.Promise.{textMost}
 use Rattle.gather.specs.GeneTrees.{Gathered, gather}

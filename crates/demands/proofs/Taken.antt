@@ -14,8 +14,8 @@ use Rattle.trees.specs.Records.{recordOf}
 use Rattle.roster.specs.Roster.{names, faulty, same}
 use Rattle.roster.specs.Judged.{speciesMost}
 use Rattle.weights.specs.Count.{weight}
-use Rattle.tables.specs.BinaryTrees.{Binary, clustersIn}
-use Rattle.tables.specs.Least.{scoreOf}
+use Rattle.splits.specs.BinaryTrees.{Binary, clustersIn}
+use Rattle.splits.specs.Least.{scoreOf}
 use Rattle.solver.specs.Best.{bestFor}
 use Rattle.search.proofs.Demand.{found-answers, none-competes}
 use Rattle.reader.specs.Promise.{textMost}

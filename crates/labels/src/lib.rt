@@ -62,7 +62,7 @@ pub fn is_blank(b: u8) -> bool
 }
 
 // How many letters and digits stand from `at` on, up to the first other byte.
-pub fn run_of_name(text: &[u8], at: usize) -> usize
+fn run_of_name(text: &[u8], at: usize) -> usize
     ensures { λ r. ⌜ r ≡ run isName (drop at (now (text .entry))) ⌝ }
 {
     let mut i = at;

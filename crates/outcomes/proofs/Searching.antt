@@ -9,9 +9,9 @@ use lib.Pow.{pow-mono}
 use Rattle.clusters.specs.Sets.{whole}
 use Rattle.trees.specs.Records.{ValidOn, recordsIn}
 use Rattle.weights.specs.Count.{weight}
-use Rattle.tables.specs.BinaryTrees.{Binary}
+use Rattle.splits.specs.BinaryTrees.{Binary}
 use Rattle.tables.specs.Allowed.{allowedIn}
-use Rattle.tables.proofs.Recurrence.{best-on}
+use Rattle.splits.proofs.Recurrence.{best-on}
 use Rattle.search.specs.Promise.{Finds}
 use Rattle.solver.specs.Best.{bestFor, foundBy}
 use Rattle.solver.specs.declared.Found.{Found}

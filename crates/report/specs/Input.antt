@@ -10,7 +10,7 @@ use Rattle.labels.specs.Bytes.{run}
 unfoldable pub lineLength : List ℕ → ℕ
 lineLength s = run (λ b. not (eqb b 10)) s
 
--- the line at the front, and what is behind its line feed
+-- the line at the front
 unfoldable pub firstLine : List ℕ → List ℕ
 firstLine s = take (lineLength s) s
 
@@ -22,7 +22,7 @@ behindLine s = drop (lineLength s + 1) s
 unfoldable pub endsInFeed : List ℕ → Bool
 endsInFeed s = leb (lineLength s + 1) (length s)
 
--- where the mode line begins, and where the trees do
+-- where the mode line begins
 unfoldable pub modePlace : List ℕ → ℕ
 modePlace input = lineLength input + 1
 

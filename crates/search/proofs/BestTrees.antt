@@ -15,18 +15,18 @@ use Rattle.clusters.proofs.Sets.{minus-within, minus-has}
 use Rattle.clusters.proofs.LowestSpecies.{lowest-has}
 use Rattle.trees.specs.Lists.{Among, total}
 use Rattle.trees.specs.Valid.{every}
-use Rattle.tables.specs.BinaryTrees.{Binary, clustersIn, treesOn}
-use Rattle.tables.specs.BinaryTrees.Binary.{fork}
-use Rattle.tables.specs.WellFormed.{LowPart, TreeOn}
-use Rattle.tables.specs.WellFormed.TreeOn.{two}
-use Rattle.tables.specs.Order.{Earlier, Ordered}
-use Rattle.tables.specs.Least.{scoreOf, best, scoreEntry, splitEntry}
-use Rattle.tables.proofs.FirstLeast.{chosen, pick, pickAll, pickAll-same, gateBy, pickAll-least, pickAll-missed, pickAll-scores}
-use Rattle.tables.proofs.LowParts.{low-some}
-use Rattle.tables.proofs.Membership.{listed-well-formed, well-formed-listed, tree-root}
-use Rattle.tables.proofs.Enumeration.{treesOn-ordered}
+use Rattle.splits.specs.BinaryTrees.{Binary, clustersIn, treesOn}
+use Rattle.splits.specs.BinaryTrees.Binary.{fork}
+use Rattle.splits.specs.WellFormed.{LowPart, TreeOn}
+use Rattle.splits.specs.WellFormed.TreeOn.{two}
+use Rattle.splits.specs.Order.{Earlier, Ordered}
+use Rattle.splits.specs.Least.{scoreOf, best, scoreEntry, splitEntry}
+use Rattle.splits.proofs.FirstLeast.{chosen, pick, pickAll, pickAll-same, gateBy, pickAll-least, pickAll-missed, pickAll-scores}
+use Rattle.splits.proofs.LowParts.{low-some}
+use Rattle.splits.proofs.Membership.{listed-well-formed, well-formed-listed, tree-root}
+use Rattle.splits.proofs.Enumeration.{treesOn-ordered}
 use Rattle.trees.proofs.Totals.{total-same}
-use Rattle.tables.proofs.Recurrence.{gated, gated-same, best-choice, best-listed, best-on, best-fork, allowed-of-best, score-fork}
+use Rattle.splits.proofs.Recurrence.{gated, gated-same, best-choice, best-listed, best-on, best-fork, allowed-of-best, score-fork}
 use Rattle.search.proofs.DrawnBinary.{InFork, among-fork, tree-inside}
 use Rattle.search.proofs.DrawnBinary.InFork.{at-root, in-low, in-other}
 

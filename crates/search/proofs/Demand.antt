@@ -22,13 +22,12 @@ use Rattle.weights.specs.Count.{weight, score}
 use Rattle.roster.specs.Verdict.{verdict, lengthTest}
 use Rattle.weights.proofs.Sums.{score-append}
 use Rattle.trees.proofs.Lent.{records-needed, short-needed}
-use Rattle.tables.specs.BinaryTrees.{Binary, clustersIn}
-use Rattle.tables.specs.WellFormed.{TreeOn}
-use Rattle.tables.specs.Order.{Earlier}
-use Rattle.tables.specs.Least.{scoreOf, scoreEntry, splitEntry, best}
+use Rattle.splits.specs.BinaryTrees.{Binary, clustersIn}
+use Rattle.splits.specs.WellFormed.{TreeOn}
+use Rattle.splits.specs.Order.{Earlier}
+use Rattle.splits.specs.Least.{scoreOf, scoreEntry, splitEntry, best}
 use Rattle.tables.specs.Allowed.{allowedIn}
-use Rattle.tables.proofs.LowParts.{among-upTo}
-use Rattle.tables.proofs.Recurrence.{best-on}
+use Rattle.splits.proofs.Recurrence.{best-on}
 use Rattle.search.specs.Promise.{firstStrange, allowedTest, searchTests, foundOr, filledBy, Finds}
 use Rattle.solver.specs.Best.{bestFor, foundBy}
 use Rattle.solver.specs.declared.Found.{Found}
@@ -36,7 +35,7 @@ use Rattle.search.proofs.RecordsOfTrees.{tree-valid, tree-binary, tree-
 use Rattle.search.proofs.BestTrees.{Over, best-over, best-least, best-first, best-missed, best-local, LeastSplit, lemma-two}
 use Rattle.search.specs.Candidates.{Accepted, Candidate, EarlierRecord, Answer}
 use Rattle.search.proofs.Accepted.{accepted, accepts, no-fourteen}
-use Rattle.trees.proofs.UpTo.{length-map-upTo}
+use Rattle.trees.proofs.UpTo.{length-map-upTo, among-upTo}
 
 -- ---- the records that compete
 

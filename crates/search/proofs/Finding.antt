@@ -17,7 +17,7 @@ use Rattle.lineages.specs.Checks.{firstBad, recordsTest}
 use Rattle.lineages.specs.Work.{shapeTests, said}
 use Rattle.lineages.proofs.Verdicts.{verdict-first, Shaped, shape-passed}
 use Rattle.lineages.proofs.FirstBad.{checked-countable}
-use Rattle.tables.specs.Least.{scoreEntry, splitEntry}
+use Rattle.splits.specs.Least.{scoreEntry, splitEntry}
 use Rattle.search.specs.Promise.{firstStrange, allowedTest, searchTests, foundOr, filledBy, Finds}
 use Rattle.solver.specs.Best.{bestFor, foundBy}
 use Rattle.solver.specs.Work.{without, LongEnough, Checked, Solves}

@@ -17,13 +17,13 @@ use Rattle.trees.proofs.Counts.{binary-of-clusters}
 use Rattle.trees.proofs.Recorded.{count-record, listed-record, record-same, among-record, record-among, valid-of-drawn}
 use Rattle.trees.proofs.Drawing.{drawn-on, drawn-record}
 use Rattle.weights.specs.Count.{weight, score}
-use Rattle.tables.specs.BinaryTrees.{Binary, root, clustersIn, treesOn}
-use Rattle.tables.specs.BinaryTrees.Binary.{fork}
-use Rattle.tables.specs.WellFormed.{LowPart, TreeOn}
-use Rattle.tables.specs.WellFormed.TreeOn.{one, two}
-use Rattle.tables.specs.Least.{scoreOf}
-use Rattle.tables.proofs.LowParts.{low-some, low-part-two}
-use Rattle.tables.proofs.Membership.{tree-clusters, listed-well-formed, well-formed-listed}
+use Rattle.splits.specs.BinaryTrees.{Binary, root, clustersIn, treesOn}
+use Rattle.splits.specs.BinaryTrees.Binary.{fork}
+use Rattle.splits.specs.WellFormed.{LowPart, TreeOn}
+use Rattle.splits.specs.WellFormed.TreeOn.{one, two}
+use Rattle.splits.specs.Least.{scoreOf}
+use Rattle.splits.proofs.LowParts.{low-some, low-part-two}
+use Rattle.splits.proofs.Membership.{tree-clusters, listed-well-formed, well-formed-listed}
 use Rattle.search.proofs.DrawnBinary.{InFork, among-fork, fork-among, tree-inside, tree-once, drawing, drawing-on, drawing-among, among-drawing, lowTree, lowTree-on, lowTree-among, among-lowTree}
 use Rattle.search.proofs.DrawnBinary.InFork.{at-root, in-low, in-other}
 

@@ -10,9 +10,9 @@ use Rattle.trees.specs.Lists.{Among}
 use Rattle.trees.specs.Records.{listed, recordOf, ValidOn, BinaryOn, recordsIn}
 use Rattle.trees.specs.Valid.{valid}
 use Rattle.weights.specs.Count.{score}
-use Rattle.tables.specs.BinaryTrees.{Binary, clustersIn}
-use Rattle.tables.specs.Order.{Earlier}
-use Rattle.tables.specs.WellFormed.{TreeOn}
+use Rattle.splits.specs.BinaryTrees.{Binary, clustersIn}
+use Rattle.splits.specs.Order.{Earlier}
+use Rattle.splits.specs.WellFormed.{TreeOn}
 use Rattle.tables.specs.Allowed.{allowedIn}
 use Rattle.solver.specs.declared.Found.{Found}
 

@@ -11,7 +11,7 @@ use Rattle.roster.specs.Roster.{least}
 use Rattle.weights.specs.Count.{weight}
 use Rattle.roster.specs.Verdict.{Test, verdict, lengthTest}
 use Rattle.lineages.specs.Checks.{speciesTest, countTest, recordsTest}
-use Rattle.tables.specs.Least.{scoreEntry, splitEntry, filled}
+use Rattle.splits.specs.Least.{scoreEntry, splitEntry, filled}
 use Rattle.solver.specs.Best.{bestFor, foundBy}
 use Rattle.solver.specs.declared.Found.{Found}
 

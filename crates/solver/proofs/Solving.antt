@@ -14,16 +14,17 @@ use Rattle.trees.specs.Records.{recordOf, recordsIn}
 use Rattle.trees.specs.Lists.{upTo}
 use Rattle.weights.specs.Count.{weight}
 use Rattle.weights.proofs.RunningSums.{weight-small}
-use Rattle.tables.specs.BinaryTrees.{Binary, root, clustersIn}
-use Rattle.tables.specs.BinaryTrees.Binary.{tip, fork}
-use Rattle.tables.specs.WellFormed.{TreeOn}
-use Rattle.tables.specs.WellFormed.TreeOn.{two}
-use Rattle.tables.specs.Least.{best, noTree, scoreOf, scoreEntry, splitEntry, filled}
+use Rattle.splits.specs.BinaryTrees.{Binary, root, clustersIn}
+use Rattle.splits.specs.BinaryTrees.Binary.{tip, fork}
+use Rattle.splits.specs.WellFormed.{TreeOn}
+use Rattle.splits.specs.WellFormed.TreeOn.{two}
+use Rattle.splits.specs.Least.{best, noTree, scoreOf, scoreEntry, splitEntry, filled}
 use Rattle.tables.specs.Allowed.{allowedIn}
-use Rattle.tables.specs.Work.{Light, Weights, Fillable, Fills, Chosen, Chooses}
-use Rattle.tables.proofs.LowParts.{low-part-two, low-some}
-use Rattle.tables.proofs.Membership.{tree-root, tree-clusters}
-use Rattle.tables.proofs.Recurrence.{best-on, score-bound, best-fork}
+use Rattle.tables.specs.Work.{Weights, Fillable, Fills, Chosen, Chooses}
+use Rattle.splits.specs.Work.{Light}
+use Rattle.splits.proofs.LowParts.{low-part-two, low-some}
+use Rattle.splits.proofs.Membership.{tree-root, tree-clusters}
+use Rattle.splits.proofs.Recurrence.{best-on, score-bound, best-fork}
 use Rattle.tables.proofs.Reached.{entries-few}
 use Rattle.tables.proofs.Written.{written, written-length, written-at, written-again, written-entries}
 use Rattle.solver.specs.Best.{bestFor, foundBy}

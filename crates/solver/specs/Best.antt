@@ -5,8 +5,8 @@ use mathlib.Core.List.{List}
 use lib.ListN.{replicate}
 use Rattle.trees.specs.Records.{recordOf}
 use Rattle.weights.specs.Count.{weight}
-use Rattle.tables.specs.BinaryTrees.{Binary, clustersIn}
-use Rattle.tables.specs.Least.{best, scoreOf}
+use Rattle.splits.specs.BinaryTrees.{Binary, clustersIn}
+use Rattle.splits.specs.Least.{best, scoreOf}
 use Rattle.tables.specs.Allowed.{allowedIn}
 use Rattle.solver.specs.declared.Found.{Found}
 

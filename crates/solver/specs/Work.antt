@@ -7,7 +7,7 @@ use Rattle.clusters.specs.Sets.{whole}
 use Rattle.weights.specs.Count.{weight}
 use Rattle.trees.specs.Records.{recordsIn}
 use Rattle.weights.specs.Work.{AllCountable}
-use Rattle.tables.specs.Least.{scoreEntry, splitEntry, filled}
+use Rattle.splits.specs.Least.{scoreEntry, splitEntry, filled}
 use Rattle.solver.specs.Best.{bestFor, foundBy}
 use Rattle.solver.specs.declared.Found.{Found}
 

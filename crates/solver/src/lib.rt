@@ -44,7 +44,7 @@ pub fn solve(
     weight_table::fill(genes, count, all + 1, scores);
     tables::fill(n, allowed, scores, splits);
     let score = scores[all];
-    if score == tables::NO_TREE {
+    if score == splits::NO_TREE {
         return refused(14, 0);
     }
     tree::found(splits, all, score)

@@ -5,7 +5,7 @@ ghost use mathlib.Core.Path.{_≡_};
 ghost use Prim.Native.Nat.{_<_};
 ghost use lib.ListN.{length};
 ghost use Rattle.trees.specs.Records.{recordOf};
-ghost use Rattle.tables.specs.BinaryTrees.{Binary, root, clustersIn};
+ghost use Rattle.splits.specs.BinaryTrees.{Binary, root, clustersIn};
 ghost use Rattle.tables.specs.Work.{Chosen, Chooses};
 
 // The answer with the tree on all species.

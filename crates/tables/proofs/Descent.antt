@@ -10,8 +10,8 @@ use lib.Seq.{sets, length-sets, take-at}
 use Rattle.trees.specs.Lists.{Among}
 use Rattle.trees.proofs.Places.{at-among}
 use Rattle.trees.proofs.Stores.{sets-append, sets-front}
-use Rattle.tables.specs.BinaryTrees.{Binary, root, clustersIn}
-use Rattle.tables.specs.BinaryTrees.Binary.{tip, fork}
+use Rattle.splits.specs.BinaryTrees.{Binary, root, clustersIn}
+use Rattle.splits.specs.BinaryTrees.Binary.{tip, fork}
 use Rattle.tables.specs.Work.{Chosen, Chooses}
 
 -- ---- the clusters of a tree, counted and stored

@@ -13,11 +13,12 @@ use Rattle.clusters.specs.Sets.{whole}
 use Rattle.clusters.proofs.Sets.{whole-below}
 use Rattle.clusters.proofs.Sizes.{size-le}
 use Rattle.trees.specs.Lists.{upTo}
-use Rattle.tables.specs.BinaryTrees.{Binary}
-use Rattle.tables.specs.Least.{best, noTree, scoreEntry, splitEntry, filled}
+use Rattle.splits.specs.BinaryTrees.{Binary}
+use Rattle.splits.specs.Least.{best, noTree, scoreEntry, splitEntry, filled}
 use Rattle.tables.specs.Allowed.{allowedIn}
-use Rattle.tables.specs.Work.{Light, Scored, ScoresBelow, Next, Settles, Fillable, Fills}
-use Rattle.tables.proofs.Recurrence.{best-on, score-bound, entry-zero, split-zero}
+use Rattle.tables.specs.Work.{Next, Settles, Fillable, Fills}
+use Rattle.splits.specs.Work.{Light, Scored, ScoresBelow}
+use Rattle.splits.proofs.Recurrence.{best-on, score-bound, entry-zero, split-zero}
 use Rattle.tables.proofs.Written.{written, written-none, written-next, written-length, written-at, written-behind, written-entries}
 
 -- ---- 2^n entries

@@ -9,10 +9,11 @@ use lib.ListN.{getD, set}
 use lib.Seq.{set-getD}
 use Rattle.clusters.specs.Sets.{size}
 use Rattle.clusters.proofs.Sizes.{size-some}
-use Rattle.tables.specs.Least.{noTree, scoreEntry}
-use Rattle.tables.specs.Work.{BestSplit, Settles}
-use Rattle.tables.specs.declared.Split.{Split}
-use Rattle.tables.proofs.Recurrence.{entry-refused, split-refused, entry-single, split-single}
+use Rattle.splits.specs.Least.{noTree, scoreEntry}
+use Rattle.tables.specs.Work.{Settles}
+use Rattle.splits.specs.Work.{BestSplit}
+use Rattle.splits.specs.declared.Split.{Split}
+use Rattle.splits.proofs.Recurrence.{entry-refused, split-refused, entry-single, split-single}
 
 -- a split that is not the mark can be added to
 pub sum-below : {x : ℕ} → (x ≡ noTree) ⊎ (x < 16777216) → (x ≡ noTree → ⊥) → x < 16777216

@@ -1,6 +1,2 @@
-pub mod BinaryTrees
-pub mod WellFormed
-pub mod Least
-pub mod Order
 pub mod Allowed
 pub mod Work

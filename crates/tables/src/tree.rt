@@ -3,7 +3,7 @@ ghost use mathlib.Core.Path.{_≡_};
 ghost use Prim.Native.Nat.{_+_, _-_, _<_};
 ghost use lib.ListN.{length};
 ghost use lib.Seq.{sets};
-ghost use Rattle.tables.specs.BinaryTrees.{Binary, root, clustersIn};
+ghost use Rattle.splits.specs.BinaryTrees.{Binary, root, clustersIn};
 ghost use Rattle.tables.specs.Work.{Chosen, Chooses};
 
 // Stores the clusters of the tree on a from `stored` on: a, then those of its low child, then those of the other. How many are stored then.

@@ -1,5 +1,6 @@
 -- The numbers that are left fall.
 use borrow.Author.Needs.{needs}
+use native.Mathlib.Omega.{arith}
 use Prim.Native.Nat.{_≤_, _-_}
 use lib.ListN.{length}
 use Rattle.cases.proofs.show.record_start.Statement.{statement}
@@ -22,8 +23,7 @@ record-start-spec =
     (λ c κs. search needs)
     (λ c. search needs)
     (λ c. search needs)
-    (λ c κs. search needs)
-    (λ c. search needs)
+    (λ c. omega (arith, c .shared-slice-known2 .given (c .before .before .before .loop .i)))
     (λ c κs. search needs)
     (λ c. search needs)
     (λ c. search needs)

@@ -16,10 +16,10 @@ use Rattle.clusters.proofs.Parts.{part-and, part-falls, greatest-part-below}
 use Rattle.trees.specs.Lists.{Among, keep, Rising}
 use Rattle.trees.proofs.Listing.{keep-among, among-keep}
 use Rattle.trees.proofs.Order.{rising-same}
-use Rattle.tables.specs.BinaryTrees.{lows}
-use Rattle.tables.specs.WellFormed.{LowPart}
-use Rattle.tables.proofs.LowParts.{among-lows, lows-among, rising-lows, rising-keep, rising-cons}
-use Rattle.tables.proofs.Recurrence.{Choice, noChoice, consider, choice}
+use Rattle.splits.specs.BinaryTrees.{lows}
+use Rattle.splits.specs.WellFormed.{LowPart}
+use Rattle.splits.proofs.LowParts.{among-lows, lows-among, rising-lows, rising-keep, rising-cons}
+use Rattle.splits.proofs.Recurrence.{Choice, noChoice, consider, choice}
 
 -- the low parts of a from m on
 unfoldable pub lowsFrom : ℕ → ℕ → List ℕ

@@ -1,10 +1,10 @@
--- `tables::best_split` meets its contract. The invariant: what is held is the choice among the low parts that were visited.
+-- `splits::best_split` meets its contract. The invariant: what is held is the choice among the low parts that were visited.
 use borrow.Author.Needs.{needs}
 use native.Mathlib.Omega.{arith}
-use Rattle.tables.proofs.SplitChoice.{lowest-lt, lowest-le, Visited, visited-start, visited-low, visited-next, visited-end}
+use Rattle.splits.proofs.SplitChoice.{lowest-lt, lowest-le, Visited, visited-start, visited-low, visited-next, visited-end}
 use Rattle.clusters.proofs.Parts.{part-falls}
-use Rattle.tables.proofs.best_split.Statement.{statement}
-use Rattle.tables.proofs.best_split.Tie as tie
+use Rattle.splits.proofs.best_split.Statement.{statement}
+use Rattle.splits.proofs.best_split.Tie as tie
 
 abbrev Inv-loop : tie.InvT-loop
 Inv-loop scores a low rest best₀ s₀ best s = Visited scores a low rest best s

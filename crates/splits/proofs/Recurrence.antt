@@ -14,14 +14,14 @@ use Rattle.clusters.specs.Sets.{size}
 use Rattle.trees.specs.Lists.{Among, total}
 use Rattle.trees.specs.Valid.{every}
 use Rattle.trees.proofs.Totals.{total-append}
-use Rattle.tables.specs.BinaryTrees.{Binary, root, clustersIn, lows, forks, treesOn}
-use Rattle.tables.specs.BinaryTrees.Binary.{tip, fork}
-use Rattle.tables.specs.WellFormed.{LowPart, TreeOn}
-use Rattle.tables.specs.Least.{those, scoreOf, treesOver, best, noTree, scoreEntry, splitEntry}
-use Rattle.tables.specs.Work.{Light}
-use Rattle.tables.proofs.LowParts.{among-lows, low-some, low-and-rest}
-use Rattle.tables.proofs.FirstLeast.{chosen, pick, pick-none, pick-first, pick-second, pickAll, pickAll-same, pickAll-none, pickAll-each, pickAll-map, pickAll-through, pickAll-from, gateBy, pickAll-those, first-least}
-use Rattle.tables.proofs.Membership.{treesOn-single, treesOn-splits, treesOn-zero, listed-well-formed, tree-root, tree-clusters}
+use Rattle.splits.specs.BinaryTrees.{Binary, root, clustersIn, lows, forks, treesOn}
+use Rattle.splits.specs.BinaryTrees.Binary.{tip, fork}
+use Rattle.splits.specs.WellFormed.{LowPart, TreeOn}
+use Rattle.splits.specs.Least.{those, scoreOf, treesOver, best, noTree, scoreEntry, splitEntry}
+use Rattle.splits.specs.Work.{Light}
+use Rattle.splits.proofs.LowParts.{among-lows, low-some, low-and-rest}
+use Rattle.splits.proofs.FirstLeast.{chosen, pick, pick-none, pick-first, pick-second, pickAll, pickAll-same, pickAll-none, pickAll-each, pickAll-map, pickAll-through, pickAll-from, gateBy, pickAll-those, first-least}
+use Rattle.splits.proofs.Membership.{treesOn-single, treesOn-splits, treesOn-zero, listed-well-formed, tree-root, tree-clusters}
 
 -- ---- the score of a fork
 

@@ -2,8 +2,8 @@
 use Prim.Native.Nat.{ℕ, _<_}
 use mathlib.Core.Path.{_≡_}
 use mathlib.Core.List.{List, [], _∷_, List·Memᴰ}
-use Rattle.tables.specs.BinaryTrees.{Binary, root}
-use Rattle.tables.specs.BinaryTrees.Binary.{fork}
+use Rattle.splits.specs.BinaryTrees.{Binary, root}
+use Rattle.splits.specs.BinaryTrees.Binary.{fork}
 
 -- "Two trees on the same species are compared by the low part at the root, the smaller number first; then by the trees of their low children;
 -- then by those of the other children"

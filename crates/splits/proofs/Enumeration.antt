@@ -8,14 +8,14 @@ use native.Mathlib.Omega.{arith}
 use Rattle.clusters.specs.Sets.{size}
 use Rattle.trees.specs.Lists.{Rising}
 use Rattle.trees.proofs.Order.{rising-below}
-use Rattle.tables.specs.BinaryTrees.{Binary, root, lows, each, forks, treesOn}
-use Rattle.tables.specs.BinaryTrees.Binary.{tip, fork}
-use Rattle.tables.specs.WellFormed.{TreeOn}
-use Rattle.tables.specs.WellFormed.TreeOn.{one, two}
-use Rattle.tables.specs.Order.{Earlier, Ordered}
-use Rattle.tables.specs.Order.Earlier.{by-low-part, by-low-child, by-other-child}
-use Rattle.tables.proofs.LowParts.{among-lows, rising-lows, low-part-two, low-smaller, rest-smaller}
-use Rattle.tables.proofs.Membership.{Forked, among-each, among-map, among-forks, treesOn-single, treesOn-splits, listed-well-formed, well-formed-listed, tree-root}
+use Rattle.splits.specs.BinaryTrees.{Binary, root, lows, each, forks, treesOn}
+use Rattle.splits.specs.BinaryTrees.Binary.{tip, fork}
+use Rattle.splits.specs.WellFormed.{TreeOn}
+use Rattle.splits.specs.WellFormed.TreeOn.{one, two}
+use Rattle.splits.specs.Order.{Earlier, Ordered}
+use Rattle.splits.specs.Order.Earlier.{by-low-part, by-low-child, by-other-child}
+use Rattle.splits.proofs.LowParts.{among-lows, rising-lows, low-part-two, low-smaller, rest-smaller}
+use Rattle.splits.proofs.Membership.{Forked, among-each, among-map, among-forks, treesOn-single, treesOn-splits, listed-well-formed, well-formed-listed, tree-root}
 
 -- ---- a strict total order
 

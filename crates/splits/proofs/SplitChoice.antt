@@ -15,13 +15,13 @@ use Rattle.clusters.proofs.Sets.{within-refl, within-le, single-within}
 use Rattle.clusters.proofs.LowestSpecies.{lowest-has, lowest-below}
 use Rattle.clusters.proofs.Sizes.{some-of-size, size-le}
 use Rattle.clusters.proofs.Parts.{part-and, part-falls}
-use Rattle.tables.specs.WellFormed.{LowPart}
-use Rattle.tables.specs.Least.{noTree}
-use Rattle.tables.specs.Work.{Scored, Small, splitUnless, lesserSplit, betterSplit, ScoresBelow, BestSplit}
-use Rattle.tables.specs.declared.Split.{Split}
-use Rattle.tables.proofs.LowParts.{low-some}
-use Rattle.tables.proofs.Recurrence.{Choice, unless, lesser, consider, choice, choice-same, entry, best-none, entry-split, split-chosen}
-use Rattle.tables.proofs.FallingParts.{choiceFrom, choiceFrom-all, choiceFrom-lowest, choiceFrom-step, part-is-low}
+use Rattle.splits.specs.WellFormed.{LowPart}
+use Rattle.splits.specs.Least.{noTree}
+use Rattle.splits.specs.Work.{Scored, Small, splitUnless, lesserSplit, betterSplit, ScoresBelow, BestSplit}
+use Rattle.splits.specs.declared.Split.{Split}
+use Rattle.splits.proofs.LowParts.{low-some}
+use Rattle.splits.proofs.Recurrence.{Choice, unless, lesser, consider, choice, choice-same, entry, best-none, entry-split, split-chosen}
+use Rattle.splits.proofs.FallingParts.{choiceFrom, choiceFrom-all, choiceFrom-lowest, choiceFrom-step, part-is-low}
 
 -- an entry that is not the mark can be added to
 pub score-below : {x : ℕ} → (x ≡ noTree) ⊎ (x < 8388608) → (x ≡ noTree → ⊥) → x < 8388608

@@ -7,8 +7,8 @@ use lib.ListN.{drop}
 use lib.Dec.{leb}
 use Rattle.trees.specs.Valid.{every}
 use Rattle.trees.specs.Lists.{upTo, total}
-use Rattle.tables.specs.BinaryTrees.{Binary, clustersIn, treesOn, root}
-use Rattle.tables.specs.BinaryTrees.Binary.{tip, fork}
+use Rattle.splits.specs.BinaryTrees.{Binary, clustersIn, treesOn, root}
+use Rattle.splits.specs.BinaryTrees.Binary.{tip, fork}
 
 -- the tree at the front, where it passes the test
 abbrev pub keepTree : Bool → Binary → List Binary → List Binary

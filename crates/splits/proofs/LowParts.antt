@@ -3,7 +3,7 @@ use Prim.Native.Nat.{ℕ, zero, suc, _+_, _-_, _^_, _≤_, _<_}
 use mathlib.Core.Path.{_≡_, refl, sym, ap, subst}
 use mathlib.Core.Logic.{_⊎_, inl, inr}
 use mathlib.Core.Bool.{Bool, true, false}
-use mathlib.Core.List.{List, [], _∷_, _++_, List·Memᴰ·head as here, List·Memᴰ·tail as there, List·Memᴰ·not-nil, List·Memᴰ·append-cases, List·Memᴰ·eq-of-singleton, Memᴰ·append-left, Memᴰ·append-right}
+use mathlib.Core.List.{List, [], _∷_, _++_, List·Memᴰ·head as here, List·Memᴰ·tail as there, List·Memᴰ·append-cases, List·Memᴰ·eq-of-singleton}
 use native.Mathlib.Nat.{eq-zero-or-pos}
 use native.Mathlib.Decide.{decLt}
 use native.Mathlib.Omega.{arith}
@@ -15,30 +15,11 @@ use Rattle.clusters.proofs.Sizes.{size-zero, size-some, size-minus, size-single
 use Rattle.clusters.proofs.LowestSpecies.{lowest-has}
 use Rattle.trees.specs.Lists.{Among, keep, keepIf, Rising, Below, upTo}
 use Rattle.trees.proofs.Listing.{keep-among, among-keep}
-use Rattle.trees.proofs.Order.{rising-below}
-use Rattle.tables.specs.BinaryTrees.{isLow, lows}
-use Rattle.tables.specs.WellFormed.{LowPart}
 use Rattle.trees.proofs.Booleans.{both}
-
--- ---- the numbers below a bound
-
-pub among-upTo : {x : ℕ} (n : ℕ) → Among x (upTo n) → x < n
-unfolding upTo
-among-upTo zero h = absurd (List·Memᴰ·not-nil h)
-among-upTo {x} (suc n) h = go (List·Memᴰ·append-cases (upTo n) h) (λ k. among-upTo n k)
-  where
-    go : Among x (upTo n) ⊎ Among x (n ∷ []) → (Among x (upTo n) → x < n) → x < suc n
-    go (inl k) ih = let l = ih k in omega arith
-    go (inr k) ih = let e = List·Memᴰ·eq-of-singleton k in omega arith
-
-pub upTo-among : {x : ℕ} (n : ℕ) → x < n → Among x (upTo n)
-unfolding upTo
-upTo-among zero l = absurd (omega arith)
-upTo-among {x} (suc n) l = go (decLt x n) (λ k. upTo-among n k)
-  where
-    go : Dec (x < n) → (x < n → Among x (upTo n)) → Among x (upTo n ++ (n ∷ []))
-    go (yes k) ih = Memᴰ·append-left (n ∷ []) (ih k)
-    go (no f) ih = Memᴰ·append-right (upTo n) (here (omega (arith, f)))
+use Rattle.trees.proofs.Order.{rising-below}
+use Rattle.trees.proofs.UpTo.{among-upTo, upTo-among}
+use Rattle.splits.specs.BinaryTrees.{isLow, lows}
+use Rattle.splits.specs.WellFormed.{LowPart}
 
 -- ---- the tests as facts
 

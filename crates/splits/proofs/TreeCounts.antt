@@ -18,11 +18,11 @@ use Rattle.clusters.proofs.Sets.{within-true, true-within, false-within, within
 use Rattle.clusters.proofs.Sizes.{size-zero, size-minus, size-single}
 use Rattle.clusters.proofs.LowestSpecies.{lowest-has}
 use Rattle.trees.specs.Lists.{keep, keepIf, total, upTo}
-use Rattle.tables.specs.BinaryTrees.{Binary, isLow, lows, each, forks, treesTo, treesOn}
-use Rattle.tables.specs.BinaryTrees.Binary.{fork}
-use Rattle.tables.specs.WellFormed.{LowPart}
-use Rattle.tables.proofs.LowParts.{among-lows, isLow-true, true-isLow, low-and-rest}
-use Rattle.tables.proofs.Membership.{treesTo-zero, treesTo-single, treesTo-splits}
+use Rattle.splits.specs.BinaryTrees.{Binary, isLow, lows, each, forks, treesTo, treesOn}
+use Rattle.splits.specs.BinaryTrees.Binary.{fork}
+use Rattle.splits.specs.WellFormed.{LowPart}
+use Rattle.splits.proofs.LowParts.{among-lows, isLow-true, true-isLow, low-and-rest}
+use Rattle.splits.proofs.Membership.{treesTo-zero, treesTo-single, treesTo-splits}
 use Rattle.trees.proofs.Totals.{total-append, total-same}
 
 -- ---- sums over the numbers below a bound

@@ -1,11 +1,11 @@
--- `tables::better` meets its contract: one case of the definition for each way out.
+-- `splits::better` meets its contract: one case of the definition for each way out.
 use mathlib.Core.Path.{sym}
 use borrow.Author.Needs.{needs}
 use native.Mathlib.Omega.{arith}
-use Rattle.tables.proofs.LowParts.{low-some}
-use Rattle.tables.proofs.SplitChoice.{score-below, better-no-low, better-no-rest, better-less, better-more}
-use Rattle.tables.proofs.better.Statement.{statement}
-use Rattle.tables.proofs.better.Tie as tie
+use Rattle.splits.proofs.LowParts.{low-some}
+use Rattle.splits.proofs.SplitChoice.{score-below, better-no-low, better-no-rest, better-less, better-more}
+use Rattle.splits.proofs.better.Statement.{statement}
+use Rattle.splits.proofs.better.Tie as tie
 
 returns : tie.Need-returns
 returns c = sym (better-no-low _ _ _ _ (c .if1 .taken))

@@ -12,11 +12,11 @@ use borrow.Author.Tests.{eq-eqb, ne-eqb}
 use Rattle.clusters.specs.Sets.{size}
 use Rattle.clusters.proofs.Sizes.{size-zero, size-some}
 use Rattle.trees.specs.Lists.{keep, upTo}
-use Rattle.tables.specs.BinaryTrees.{Binary, root, clustersIn, lows, each, forks, treesBy, treesTo, treesOn}
-use Rattle.tables.specs.BinaryTrees.Binary.{tip, fork}
-use Rattle.tables.specs.WellFormed.{LowPart, TreeOn}
-use Rattle.tables.specs.WellFormed.TreeOn.{one, two}
-use Rattle.tables.proofs.LowParts.{among-lows, lows-among, low-smaller, rest-smaller, low-and-rest, low-part-two}
+use Rattle.splits.specs.BinaryTrees.{Binary, root, clustersIn, lows, each, forks, treesBy, treesTo, treesOn}
+use Rattle.splits.specs.BinaryTrees.Binary.{tip, fork}
+use Rattle.splits.specs.WellFormed.{LowPart, TreeOn}
+use Rattle.splits.specs.WellFormed.TreeOn.{one, two}
+use Rattle.splits.proofs.LowParts.{among-lows, lows-among, low-smaller, rest-smaller, low-and-rest, low-part-two}
 
 -- ---- what stands in a list of lists, and in a list of forks
 

@@ -8,8 +8,8 @@ use mathlib.Core.List.{List, [], _∷_, _++_, map, List·Memᴰ, List·Memᴰ·h
 use native.Mathlib.Omega.{arith}
 use lib.Dec.{leb}
 use borrow.Author.Tests.{leb-true, leb-false, le-leb, lt-leb}
-use Rattle.tables.specs.BinaryTrees.{Binary, each}
-use Rattle.tables.specs.Least.{keepTree, those, all, scoreOf, leastTrees, first}
+use Rattle.splits.specs.BinaryTrees.{Binary, each}
+use Rattle.splits.specs.Least.{keepTree, those, all, scoreOf, leastTrees, first}
 
 -- ---- the choice between two
 

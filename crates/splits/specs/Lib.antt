@@ -1,0 +1,5 @@
+pub mod BinaryTrees
+pub mod Order
+pub mod WellFormed
+pub mod Least
+pub mod Work

@@ -1,0 +1,56 @@
+-- What the functions that look for the best split ask of one another.
+use Prim.Native.Nat.{ℕ, _+_, _-_, _≤_, _<_}
+use mathlib.Core.Path.{_≡_}
+use mathlib.Core.Logic.{_⊎_}
+use mathlib.Core.Bool.{Bool, true, false, _||_}
+use mathlib.Core.Option.{none}
+use mathlib.Core.List.{List}
+use lib.ListN.{getD}
+use lib.Dec.{eqb, leb}
+use Rattle.splits.specs.Least.{best, noTree, scoreEntry, splitEntry}
+use Rattle.splits.specs.declared.Split.{Split}
+
+-- ---- weights and scores stay far below the no-tree mark
+
+-- no weight passes 131,072
+abbrev pub Light : (ℕ → ℕ) → Type 0
+Light w = (b : ℕ) → w b ≤ 131072
+
+-- each entry of the score table below a is the mark, or a score that can be added to
+abbrev pub Scored : ℕ → List ℕ → Type 0
+Scored a scores = (b : ℕ) → b < a → (getD scores b 0 ≡ noTree) ⊎ (getD scores b 0 < 8388608)
+
+-- a split has the mark for its score, or a sum that can be added to; its low part is no more than a
+pub record Small (a : ℕ) (s : Split) : Type 0 where
+  pub score : (s .score ≡ noTree) ⊎ (s .score < 16777216)
+  pub low : s .low ≤ a
+
+-- ---- the split of one cluster
+
+abbrev pub splitUnless : Bool → Split → Split → Split
+splitUnless true s other = s
+splitUnless false s other = other
+
+-- the new split where it scores no more, else the one found before
+abbrev pub lesserSplit : Bool → ℕ → ℕ → Split → Split
+lesserSplit true sum low s = record { score = sum; low = low }
+lesserSplit false sum low s = s
+
+-- of a split so far and one at a low part, whose parts have the entries x and y: the second where both are scores and their sum is no more
+unfoldable pub betterSplit : ℕ → ℕ → ℕ → Split → Split
+betterSplit x y low s = splitUnless (eqb x noTree || eqb y noTree) s (lesserSplit (leb (x + y) (s .score)) (x + y) low s)
+
+-- the score table below a holds the entries of the best trees for these weights and this allowed set
+abbrev pub ScoresBelow : (ℕ → ℕ) → (ℕ → Bool) → ℕ → List ℕ → Type 0
+ScoresBelow w ok a scores = (b : ℕ) → b < a → getD scores b 0 ≡ scoreEntry w (best w ok b)
+
+-- the split is that of the best tree on a: its low part, and the scores of both its children
+pub record SplitOfBest (w : ℕ → ℕ) (ok : ℕ → Bool) (a : ℕ) (s : Split) : Type 0 where
+  pub low : s .low ≡ splitEntry (best w ok a)
+  pub missing : s .score ≡ noTree → best w ok a ≡ none
+  pub score : (s .score ≡ noTree → ⊥) → scoreEntry w (best w ok a) ≡ w a + s .score
+
+-- the best split of a cluster of two or more species, whatever the weights and the allowed set that the entries below it come from
+pub record BestSplit (scores : List ℕ) (a : ℕ) (s : Split) : Type 0 where
+  pub small : Small a s
+  pub of-best : (w : ℕ → ℕ) (ok : ℕ → Bool) → Light w → ok a ≡ true → ScoresBelow w ok a scores → SplitOfBest w ok a s
