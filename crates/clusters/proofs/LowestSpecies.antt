@@ -8,7 +8,7 @@ use lib.Bits.{bitAnd, and-step, and-self}
 use lib.Count.{trailingZeros, under, trailing-of-zero}
 use Rattle.clusters.specs.Sets.{Has, Within, Apart, single, size, lowest}
 use Rattle.clusters.proofs.Members.{has-odd, odd-has, has-half, half-has, half-below, has-below, single-has, has-single, has-of-within, has-of-apart}
-use Rattle.clusters.proofs.Sets.{single-below, single-some}
+use Rattle.clusters.proofs.Sets.{single-below, single-some, single-within}
 use Rattle.clusters.proofs.Sizes.{size-one}
 
 -- ---- the count of trailing zeros, of any number of digits
@@ -73,6 +73,9 @@ trailing-off {a} (suc k) p l = go (trailing-off {a = a / 2} k) (ℕ-discrete (a 
 pub lowest-has : {a : ℕ} → 1 ≤ a → a < 2 ^ 32 → Has a (lowest a)
 unfolding lowest
 lowest-has p l = trailing-has 32 p l
+
+pub lowest-alone-within : {a : ℕ} → 1 ≤ a → a < 2 ^ 32 → Within (single (lowest a)) a
+lowest-alone-within {a} some below = single-within a (lowest a) (lowest-has some below)
 
 pub lowest-least : {a i : ℕ} → a < 2 ^ 32 → Has a i → lowest a ≤ i
 unfolding lowest

@@ -2,7 +2,7 @@
 use Prim.Native.Nat.{ℕ, _^_, _<_}
 use mathlib.Core.Path.{_≡_, refl, sym, ap, _∙_, subst}
 use mathlib.Core.Logic.{_⊎_, inl, inr}
-use mathlib.Core.Bool.{Bool, true, false, _||_, or-true, false≢true}
+use mathlib.Core.Bool.{Bool, true, false, _||_, false≢true}
 use mathlib.Core.List.{List, [], _∷_, map, List·Memᴰ, List·Memᴰ·head as here, List·Memᴰ·tail as there, List·Memᴰ·not-nil, List·Memᴰ·cases-cons}
 use native.Mathlib.Omega.{arith}
 use lib.ListN.{length, getD, replicate, getD-replicate}
@@ -17,6 +17,7 @@ use Rattle.trees.proofs.Recorded.{among-record, record-among}
 use Rattle.trees.proofs.ValidTest.{tells-among}
 use Rattle.weights.specs.Marks.{shown as shownIn, flag}
 use Rattle.lineages.specs.Promise.{marks}
+use Rattle.trees.proofs.Booleans.{either, or-left, or-right}
 use Rattle.trees.proofs.UpTo.{map-upTo}
 use Rattle.tables.specs.Allowed.{allowedIn}
 use Rattle.report.specs.Input.{allWord, genesWord}
@@ -24,16 +25,6 @@ use Rattle.outcomes.specs.Outcome.{allowedBy}
 use Rattle.demands.specs.GeneTrees.{RecordsOf}
 use Rattle.demands.specs.Input.{Allows}
 use Rattle.demands.specs.Input.Allows.{every, lone, entire, shown}
-
-either : (a b : Bool) → (a || b) ≡ true → (a ≡ true) ⊎ (b ≡ true)
-either true b e = inl refl
-either false b e = inr e
-
-or-left : (a b : Bool) → a ≡ true → (a || b) ≡ true
-or-left a b e = rw e
-
-or-right : (a b : Bool) → b ≡ true → (a || b) ≡ true
-or-right a b e = rw e (or-true a)
 
 -- ---- the clusters that are shown
 

@@ -26,6 +26,7 @@ use Rattle.reader.specs.Promise.{readingOf, answerTo}
 use Rattle.reader.specs.Accepted.{Draws, JustBehind}
 use Rattle.reader.proofs.Accepts.{accepted-derives, derives-accepted}
 use Rattle.nodes.proofs.Exact.{blanks-skip, skip-to, name-no-blank, run-first}
+use Rattle.nodes.proofs.MeaningContexts.{blanks-on}
 use Rattle.nodes.proofs.Sound.{skip-blanks}
 use Rattle.gather.specs.GeneTrees.{genesMost, gatherOn, gatherAt, gatherMore, gatherTo, gather}
 use Rattle.gather.specs.GeneTrees.Gathered.{gathered, stopped}
@@ -36,13 +37,9 @@ use Rattle.demands.proofs.TextFaults.{fault-of-refusal, fault-numbers}
 
 -- ---- blanks before a tree
 
-blanks-join : {s m l : List ℕ} → Blanks s m → Blanks m l → Blanks s l
-blanks-join none q = q
-blanks-join (blank e p) q = blank e (blanks-join p q)
-
 text-behind-blanks : {R : Rules} {k : ℕ} {s m rest : List ℕ} {t : Tree} → Blanks s m → Text R k m t rest → Text R k s t rest
-text-behind-blanks b (text (a-leaf gap w known behind) ends) = text (a-leaf (blanks-join b gap) w known behind) ends
-text-behind-blanks b (text (an-inner opens first comma others inner behind) ends) = text (an-inner (blanks-join b opens) first comma others inner behind) ends
+text-behind-blanks b (text (a-leaf gap w known behind) ends) = text (a-leaf (blanks-on b gap) w known behind) ends
+text-behind-blanks b (text (an-inner opens first comma others inner behind) ends) = text (an-inner (blanks-on b opens) first comma others inner behind) ends
 
 module _ (line txt : List ℕ) (at : ℕ) where
   abbrev begun : ℕ

@@ -12,24 +12,25 @@ use Rattle.trees.specs.Valid.{valid, binary}
 use Rattle.roster.specs.declared.Reply.{Reply}
 use Rattle.trees.specs.Records.{recordsIn}
 use Rattle.weights.specs.Count.{weight, score}
+use Rattle.roster.specs.Judged.{refusal, done}
 use Rattle.roster.specs.Verdict.{Test, Verdict, verdict, lengthTest, replyOf}
 use Rattle.lineages.specs.Checks.{speciesRecordTest, firstBad, recordsTest, clusterTest, weightTests, scoreTests, markTests}
 use Rattle.lineages.specs.Promise.{marks, markedBy, Weighs, Scores, Marks}
-use Rattle.lineages.specs.Work.{shapeTests, said, replied}
+use Rattle.lineages.specs.Work.{shapeTests, said}
 use Rattle.weights.specs.Work.{marksBelow}
 use Rattle.trees.proofs.Lent.{length-recordsIn}
 use Rattle.lineages.proofs.Verdicts.{verdict-first, Shaped, shape-passed}
 
 -- ---- replies
 
-refused-reply : {v : Verdict} (w number : ℕ) {place : ℕ} → v ≡ said number place → (number ≡ 0 → ⊥) → replied number place 0 ≡ replyOf v w
+refused-reply : {v : Verdict} (w number : ℕ) {place : ℕ} → v ≡ said number place → (number ≡ 0 → ⊥) → refusal number place ≡ replyOf v w
 refused-reply w number {place} e f = rw e (go number f)
   where
-    go : (k : ℕ) → (k ≡ 0 → ⊥) → replied k place 0 ≡ replyOf (said k place) w
+    go : (k : ℕ) → (k ≡ 0 → ⊥) → refusal k place ≡ replyOf (said k place) w
     go zero f = absurd (f refl)
     go (suc k) f = refl
 
-done-reply : {v : Verdict} (w : ℕ) → v ≡ said 0 0 → replied 0 0 w ≡ replyOf v w
+done-reply : {v : Verdict} (w : ℕ) → v ≡ said 0 0 → done w ≡ replyOf v w
 done-reply w e = rw e
 
 -- ---- 15
@@ -52,33 +53,33 @@ weightRest : ℕ → List ℕ → ℕ → ℕ → List Test
 weightRest n genes count a = recordsTest n (recordsIn count genes) ∷ clusterTest n a ∷ []
 
 module _ (n : ℕ) (genes : List ℕ) (count a : ℕ) (r : Reply) where
-  weighs-refused : {number place : ℕ} → verdict (weightTests n genes count a) ≡ said number place → (number ≡ 0 → ⊥) → r ≡ replied number place 0 → Weighs n genes count a r
+  weighs-refused : {number place : ℕ} → verdict (weightTests n genes count a) ≡ said number place → (number ≡ 0 → ⊥) → r ≡ refusal number place → Weighs n genes count a r
   unfolding Weighs
   weighs-refused {number} {place} e f p = p ∙ refused-reply (weight (recordsIn count genes) a) number e f
 
-  pub weighs-shape : {number : ℕ} → verdict (shapeTests n genes count) ≡ said number 0 → (number ≡ 0 → ⊥) → r ≡ replied number 0 0 → Weighs n genes count a r
+  pub weighs-shape : {number : ℕ} → verdict (shapeTests n genes count) ≡ said number 0 → (number ≡ 0 → ⊥) → r ≡ refusal number 0 → Weighs n genes count a r
   unfolding weightTests shapeTests weightRest
   weighs-shape e f p = weighs-refused (verdict-first (shapeTests n genes count) (weightRest n genes count a) e f) f p
 
   module _ (shaped : Shaped n genes count) {bad : ℕ} (found : bad ≡ firstBad n (recordsIn count genes)) where
-    pub weighs-bad : bad < count → r ≡ replied 15 bad 0 → Weighs n genes count a r
+    pub weighs-bad : bad < count → r ≡ refusal 15 bad → Weighs n genes count a r
     unfolding weightTests shapeTests weightRest
     weighs-bad l p =
         weighs-refused
         (shape-passed n genes count (weightRest n genes count a) shaped ∙ record-refused n genes count (clusterTest n a ∷ []) found l)
         (λ z. omega arith) p
 
-    pub weighs-no-cluster : count ≤ bad → (leb 1 a && ltb a (2 ^ n)) ≡ false → r ≡ replied 13 a 0 → Weighs n genes count a r
+    pub weighs-no-cluster : count ≤ bad → (leb 1 a && ltb a (2 ^ n)) ≡ false → r ≡ refusal 13 a → Weighs n genes count a r
     unfolding weightTests shapeTests weightRest verdict clusterTest
     weighs-no-cluster l e p =
         weighs-refused
         (shape-passed n genes count (weightRest n genes count a) shaped ∙ records-passed n genes count (clusterTest n a ∷ []) found l ∙ rw e)
         (λ z. omega arith) p
 
-    pub weighs-done : {v : ℕ} → count ≤ bad → (leb 1 a && ltb a (2 ^ n)) ≡ true → v ≡ weight (recordsIn count genes) a → r ≡ replied 0 0 v → Weighs n genes count a r
+    pub weighs-done : {v : ℕ} → count ≤ bad → (leb 1 a && ltb a (2 ^ n)) ≡ true → v ≡ weight (recordsIn count genes) a → r ≡ done v → Weighs n genes count a r
     unfolding Weighs weightTests shapeTests weightRest verdict clusterTest
     weighs-done l e q p =
-        p ∙ ap (λ (w : ℕ). replied 0 0 w) q
+        p ∙ ap (λ (w : ℕ). done w) q
         ∙ done-reply (weight (recordsIn count genes) a)
         (shape-passed n genes count (weightRest n genes count a) shaped ∙ records-passed n genes count (clusterTest n a ∷ []) found l ∙ rw e)
 
@@ -95,33 +96,33 @@ tree-passed n genes count species tree = rw tree
 
 module _ (n : ℕ) (genes : List ℕ) (count : ℕ) (species : List ℕ) (r : Reply) where
   scores-refused :
-      {number place : ℕ} → verdict (scoreTests n genes count species) ≡ said number place → (number ≡ 0 → ⊥) → r ≡ replied number place 0
+      {number place : ℕ} → verdict (scoreTests n genes count species) ≡ said number place → (number ≡ 0 → ⊥) → r ≡ refusal number place
       → Scores n genes count species r
   unfolding Scores
   scores-refused {number} {place} e f p = p ∙ refused-reply (score (recordsIn count genes) species) number e f
 
-  pub scores-shape : {number : ℕ} → verdict (shapeTests n genes count) ≡ said number 0 → (number ≡ 0 → ⊥) → r ≡ replied number 0 0 → Scores n genes count species r
+  pub scores-shape : {number : ℕ} → verdict (shapeTests n genes count) ≡ said number 0 → (number ≡ 0 → ⊥) → r ≡ refusal number 0 → Scores n genes count species r
   unfolding scoreTests shapeTests scoreRest
   scores-shape e f p = scores-refused (verdict-first (shapeTests n genes count) (scoreRest n genes count species) e f) f p
 
   module _ (shaped : Shaped n genes count) where
-    pub scores-no-tree : (valid (whole n) species && binary (whole n) species) ≡ false → r ≡ replied 16 0 0 → Scores n genes count species r
+    pub scores-no-tree : (valid (whole n) species && binary (whole n) species) ≡ false → r ≡ refusal 16 0 → Scores n genes count species r
     unfolding scoreTests shapeTests scoreRest verdict speciesRecordTest
     scores-no-tree e p =
         scores-refused (shape-passed n genes count (scoreRest n genes count species) shaped ∙ rw e) (λ z. omega arith) p
 
     module _ (tree : (valid (whole n) species && binary (whole n) species) ≡ true) {bad : ℕ} (found : bad ≡ firstBad n (recordsIn count genes)) where
-      pub scores-bad : bad < count → r ≡ replied 15 bad 0 → Scores n genes count species r
+      pub scores-bad : bad < count → r ≡ refusal 15 bad → Scores n genes count species r
       unfolding scoreTests shapeTests scoreRest
       scores-bad l p =
           scores-refused
           (shape-passed n genes count (scoreRest n genes count species) shaped ∙ tree-passed n genes count species tree ∙ record-refused n genes count [] found l)
           (λ z. omega arith) p
 
-      pub scores-done : {v : ℕ} → count ≤ bad → v ≡ score (recordsIn count genes) species → r ≡ replied 0 0 v → Scores n genes count species r
+      pub scores-done : {v : ℕ} → count ≤ bad → v ≡ score (recordsIn count genes) species → r ≡ done v → Scores n genes count species r
       unfolding Scores scoreTests shapeTests scoreRest verdict
       scores-done l q p =
-          p ∙ ap (λ (w : ℕ). replied 0 0 w) q
+          p ∙ ap (λ (w : ℕ). done w) q
           ∙ done-reply (score (recordsIn count genes) species)
           (shape-passed n genes count (scoreRest n genes count species) shaped ∙ tree-passed n genes count species tree ∙ records-passed n genes count [] found l)
 
@@ -143,7 +144,7 @@ long-passed n genes count out long = rw (le-ltb (length out) (2 ^ n) long)
 
 module _ (n : ℕ) (genes : List ℕ) (count : ℕ) (out : List ℕ) {r : Reply} {after : List ℕ} where
   marks-refused :
-      {number place : ℕ} → verdict (markTests n genes count out) ≡ said number place → (number ≡ 0 → ⊥) → r ≡ replied number place 0 → after ≡ out
+      {number place : ℕ} → verdict (markTests n genes count out) ≡ said number place → (number ≡ 0 → ⊥) → r ≡ refusal number place → after ≡ out
       → Marks n genes count out r after
   marks-refused {number} {place} e f p same = record {
     reply = p ∙ refused-reply 0 number e f;
@@ -155,26 +156,26 @@ module _ (n : ℕ) (genes : List ℕ) (count : ℕ) (out : List ℕ) {r : Reply}
       kept (suc k) f = refl
 
   pub marks-shape :
-      {number : ℕ} → verdict (shapeTests n genes count) ≡ said number 0 → (number ≡ 0 → ⊥) → r ≡ replied number 0 0 → after ≡ out
+      {number : ℕ} → verdict (shapeTests n genes count) ≡ said number 0 → (number ≡ 0 → ⊥) → r ≡ refusal number 0 → after ≡ out
       → Marks n genes count out r after
   unfolding markTests shapeTests markRest
   marks-shape e f p same = marks-refused (verdict-first (shapeTests n genes count) (markRest n genes count out) e f) f p same
 
   module _ (shaped : Shaped n genes count) where
-    pub marks-short : length out < 2 ^ n → r ≡ replied 12 0 0 → after ≡ out → Marks n genes count out r after
+    pub marks-short : length out < 2 ^ n → r ≡ refusal 12 0 → after ≡ out → Marks n genes count out r after
     unfolding markTests shapeTests markRest verdict lengthTest
     marks-short l p same =
         marks-refused (shape-passed n genes count (markRest n genes count out) shaped ∙ rw (lt-ltb (length out) (2 ^ n) l)) (λ z. omega arith) p same
 
     module _ (long : 2 ^ n ≤ length out) {bad : ℕ} (found : bad ≡ firstBad n (recordsIn count genes)) where
-      pub marks-bad : bad < count → r ≡ replied 15 bad 0 → after ≡ out → Marks n genes count out r after
+      pub marks-bad : bad < count → r ≡ refusal 15 bad → after ≡ out → Marks n genes count out r after
       unfolding markTests shapeTests markRest
       marks-bad l p same =
           marks-refused
           (shape-passed n genes count (markRest n genes count out) shaped ∙ long-passed n genes count out long ∙ record-refused n genes count [] found l)
           (λ z. omega arith) p same
 
-      pub marks-done : count ≤ bad → after ≡ marksBelow (2 ^ n) (recordsIn count genes) ++ drop (2 ^ n) out → r ≡ replied 0 0 0 → Marks n genes count out r after
+      pub marks-done : count ≤ bad → after ≡ marksBelow (2 ^ n) (recordsIn count genes) ++ drop (2 ^ n) out → r ≡ done 0 → Marks n genes count out r after
       unfolding markTests shapeTests markRest verdict
       marks-done l marked p =
           let e = shape-passed n genes count (markRest n genes count out) shaped ∙ long-passed n genes count out long ∙ records-passed n genes count [] found l in

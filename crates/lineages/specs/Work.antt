@@ -1,8 +1,7 @@
--- What the parts of the calls ask of one another: the checks of shape, and replies.
+-- What the parts of the calls ask of one another: the checks of shape.
 use Prim.Native.Nat.{ℕ, _*_}
 use mathlib.Core.List.{List, [], _∷_}
 use lib.ListN.{length}
-use Rattle.roster.specs.declared.Reply.{Reply}
 use Rattle.roster.specs.Verdict.{Test, Verdict, lengthTest}
 use Rattle.lineages.specs.Checks.{speciesTest, countTest}
 
@@ -13,7 +12,3 @@ shapeTests n genes count = speciesTest n ∷ countTest count ∷ lengthTest (len
 -- what tests say, by number and place
 abbrev pub said : ℕ → ℕ → Verdict
 said number place = record { number = number; place = place }
-
--- a reply, by number, place and value
-abbrev pub replied : ℕ → ℕ → ℕ → Reply
-replied number place value = record { number = number; place = place; value = value }

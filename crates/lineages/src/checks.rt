@@ -44,7 +44,7 @@ pub fn first_bad(n: usize, genes: &[u16], count: usize) -> usize
     while i < count {
         let start = 32 * i;
         let end = start + 32;
-        if trees::valid(&genes[start..end], all) {
+        if records::valid(&genes[start..end], all) {
             i += 1;
         } else {
             return i;
@@ -71,8 +71,8 @@ pub(crate) fn is_species_tree(n: usize, species: &[u16]) -> bool
     ensures { λ r. ⌜ r ≡ (valid (whole n) (now (species .entry)) && binary (whole n) (now (species .entry))) ⌝ }
 {
     let all = clusters::whole(n);
-    if trees::valid(species, all) {
-        return trees::binary(species, all);
+    if records::valid(species, all) {
+        return records::binary(species, all);
     }
     false
 }

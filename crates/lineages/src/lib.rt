@@ -2,31 +2,9 @@
 pub mod checks;
 
 use roster::Reply;
-ghost use mathlib.Core.Path.{_≡_};
+use roster::done;
+use roster::refused;
 ghost use Rattle.lineages.specs.Promise.{Weighs, Scores, Marks};
-ghost use Rattle.lineages.specs.Work.{replied};
-
-// The reply of a call that refuses: "0 for any other value".
-fn refused(number: u32, place: usize) -> Reply
-    ensures { λ r. ⌜ r ≡ replied number place 0 ⌝ }
-{
-    Reply {
-        number,
-        place,
-        value: 0,
-    }
-}
-
-// The reply of a call that is done.
-fn done(value: usize) -> Reply
-    ensures { λ r. ⌜ r ≡ replied 0 0 value ⌝ }
-{
-    Reply {
-        number: 0,
-        place: 0,
-        value,
-    }
-}
 
 // The weight of a cluster: the sum over all gene trees of its extra lineages.
 pub fn weight(n: usize, genes: &[u16], count: usize, cluster: usize) -> Reply

@@ -8,6 +8,7 @@ use lib.ListN.{length, getD, take, drop, set, replicate, length-drop, length-set
 use lib.Seq.{drop-cons, take-suc-set, drop-set-lt, set-split, set-getD, take-at, drop-drop, drop-append-add, length-take-le, getD-take}
 use Rattle.trees.specs.Lists.{insert, sorted}
 use Rattle.trees.specs.Records.{recordOf}
+use Rattle.trees.proofs.Order.{length-sorted}
 
 -- ---- one insertion
 
@@ -102,16 +103,6 @@ module _ {start : List ℕ} {held x : ℕ} {l : List ℕ} {c i : ℕ} (long : he
 
 -- ---- all of them
 
-insert-length : (x : ℕ) (l : List ℕ) → length (insert x l) ≡ suc (length l)
-unfolding insert
-insert-length x [] = refl
-insert-length x (y ∷ l) = ap suc (insert-length (max x y) l)
-
-sorted-length : (l : List ℕ) → length (sorted l) ≡ length l
-unfolding sorted
-sorted-length [] = refl
-sorted-length (x ∷ l) = insert-length x (sorted l) ∙ ap suc (sorted-length l)
-
 -- the list with those of cs in rising order behind its first number, and the rest as it was
 unfoldable pub filled : List ℕ → List ℕ → List ℕ
 filled l cs = take 1 l ++ (sorted cs ++ drop (suc (length cs)) l)
@@ -126,7 +117,7 @@ pub filled-next : (x held : ℕ) (l cs : List ℕ) → length cs ≡ held → he
 unfolding filled sorted
 filled-next x held [] cs e long = absurd (omega arith)
 filled-next x held (h ∷ l) cs e long =
-    let n : length (sorted cs) ≡ held = sorted-length cs ∙ e in
+    let n : length (sorted cs) ≡ held = length-sorted cs ∙ e in
     let d = drop (length cs) l in
     let front : take held (sorted cs ++ d) ≡ sorted cs = take-at (sorted cs) d held n in
     let past : held + 2 ≡ suc (length (sorted cs) + 1) = omega arith in

@@ -11,7 +11,7 @@ use borrow.Author.Tests.{leb-true, le-leb}
 use Rattle.clusters.specs.Sets.{Has, Within, single, lowest}
 use Rattle.clusters.proofs.Members.{has-of-within, within-of-has, single-has, union-has-left}
 use Rattle.clusters.proofs.Sets.{within-le, within-trans, single-within, union-within, apart-union-sum, apart-within, minus-within, minus-apart, minus-has, has-minus, apart-sym}
-use Rattle.clusters.proofs.LowestSpecies.{lowest-has}
+use Rattle.clusters.proofs.LowestSpecies.{lowest-alone-within}
 use Rattle.clusters.proofs.Parts.{part-and, part-falls, greatest-part-below}
 use Rattle.trees.specs.Lists.{Among, keep, Rising}
 use Rattle.trees.proofs.Listing.{keep-among, among-keep}
@@ -59,7 +59,7 @@ module _ (a : ℕ) (some : 1 ≤ a) (below : a < 2 ^ 32) where
   rest = a - single (lowest a)
 
   only-within : Within (single (lowest a)) a
-  only-within = single-within a (lowest a) (lowest-has some below)
+  only-within = lowest-alone-within some below
 
   -- the lowest species with any part of the rest but all of it is a low part
   pub part-is-low : {s : ℕ} → Within s (a - single (lowest a)) → s < a - single (lowest a) → LowPart a (single (lowest a) + s)

@@ -10,9 +10,9 @@ use native.Mathlib.Omega.{arith}
 use borrow.Author.Tests.{eqb-true, eq-eqb}
 use Rattle.clusters.specs.Sets.{Has, Within, has, within, size, single, lowest}
 use Rattle.clusters.proofs.Members.{has-some, single-has}
-use Rattle.clusters.proofs.Sets.{within-true, true-within, within-le, single-within}
+use Rattle.clusters.proofs.Sets.{within-true, true-within, within-le}
 use Rattle.clusters.proofs.Sizes.{size-zero, size-some, size-minus, size-single}
-use Rattle.clusters.proofs.LowestSpecies.{lowest-has}
+use Rattle.clusters.proofs.LowestSpecies.{lowest-alone-within}
 use Rattle.trees.specs.Lists.{Among, keep, keepIf, Rising, Below, upTo}
 use Rattle.trees.proofs.Listing.{keep-among, among-keep}
 use Rattle.trees.proofs.Booleans.{both}
@@ -76,7 +76,7 @@ low-part-two {a} {low} p = omega (arith, low-and-rest p, size-some (low-some p),
 pub lowest-alone : {a : ℕ} → a < 2 ^ 32 → 2 ≤ size a → LowPart a (single (lowest a))
 lowest-alone {a} l two =
     let some = some-of a two (eq-zero-or-pos a) in
-    let w = single-within a (lowest a) (lowest-has some l) in
+    let w = lowest-alone-within some l in
     record {
       inside = w;
       holds = single-has (lowest a);

@@ -11,8 +11,8 @@ use lib.ListN.{getD}
 use mathlib.Core.List.{List}
 use borrow.Author.Tests.{eq-eqb, ne-eqb, le-leb, lt-leb}
 use Rattle.clusters.specs.Sets.{Within, single, size, lowest}
-use Rattle.clusters.proofs.Sets.{within-refl, within-le, single-within}
-use Rattle.clusters.proofs.LowestSpecies.{lowest-has, lowest-below}
+use Rattle.clusters.proofs.Sets.{within-refl, within-le}
+use Rattle.clusters.proofs.LowestSpecies.{lowest-below, lowest-alone-within}
 use Rattle.clusters.proofs.Sizes.{some-of-size, size-le}
 use Rattle.clusters.proofs.Parts.{part-and, part-falls}
 use Rattle.splits.specs.WellFormed.{LowPart}
@@ -96,7 +96,7 @@ pub lowest-lt : {a : ℕ} → a < 2 ^ 32 → 2 ≤ size a → lowest a < 32
 lowest-lt {a} below two = lowest-below 32 (some-of-size (omega arith)) below below
 
 pub lowest-le : {a : ℕ} → a < 2 ^ 32 → 2 ≤ size a → single (lowest a) ≤ a
-lowest-le {a} below two = within-le (single-within a (lowest a) (lowest-has (some-of-size (omega arith)) below))
+lowest-le {a} below two = within-le (lowest-alone-within (some-of-size (omega arith)) below)
 
 pub visited-start : {a low rest : ℕ} (scores : List ℕ) → a < 2 ^ 32 → 2 ≤ size a → low ≡ single (lowest a) → rest ≡ a - low
     → Visited scores a low rest (record { score = noTree; low = 0 }) rest

@@ -14,9 +14,9 @@ use lib.Count.{ones, ones-step}
 use borrow.Author.Tests.{eq-eqb, ne-eqb}
 use Rattle.clusters.specs.Sets.{Has, Within, within, size, single, lowest}
 use Rattle.clusters.proofs.Members.{has-odd, odd-has, has-half, half-has, half-below, has-of-within, within-of-has, has-dec, single-has, has-single}
-use Rattle.clusters.proofs.Sets.{within-true, true-within, false-within, within-refl, within-le, single-within, has-minus, minus-has, half-within, within-dec, within-trans, minus-within, minus-below}
+use Rattle.clusters.proofs.Sets.{within-true, true-within, false-within, within-refl, within-le, has-minus, minus-has, half-within, within-dec, within-trans, minus-within, minus-below}
 use Rattle.clusters.proofs.Sizes.{size-zero, size-minus, size-single}
-use Rattle.clusters.proofs.LowestSpecies.{lowest-has}
+use Rattle.clusters.proofs.LowestSpecies.{lowest-has, lowest-alone-within}
 use Rattle.trees.specs.Lists.{keep, keepIf, total, upTo}
 use Rattle.splits.specs.BinaryTrees.{Binary, isLow, lows, each, forks, treesTo, treesOn}
 use Rattle.splits.specs.BinaryTrees.Binary.{fork}
@@ -195,7 +195,7 @@ module _ (a : ℕ) (l : 1 ≤ a) (below : a < 2 ^ 32) where
   lowest-in = lowest-has l below
 
   lowest-alone-in : Within (single (lowest a)) a
-  lowest-alone-in = single-within a (lowest a) lowest-in
+  lowest-alone-in = lowest-alone-within l below
 
   -- a part of a holds its lowest species, or is a part of the rest
   with-or-without : (x v : ℕ) → only (within x a) v ≡ only (isLow a x) v + only (within x (a - single (lowest a))) v

@@ -1,4 +1,4 @@
--- What the parts of the writer ask of one another: the names in a table, and a cluster of a record that draws a tree.
+-- What the functions that write a node ask of one another: the names in a table, and a cluster of a record that draws a tree.
 use Prim.Native.Nat.{ℕ, zero, suc, _+_, _*_, _<_}
 use mathlib.Core.List.{List, [], _∷_}
 use lib.ListN.{length, take, drop}

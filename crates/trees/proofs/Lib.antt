@@ -2,7 +2,6 @@ pub mod Booleans
 pub mod Bounds
 pub mod Children
 pub mod Counts
-pub mod Deciding
 pub mod Drawing
 pub mod EqualPieces
 pub mod Form
@@ -12,7 +11,6 @@ pub mod Listing
 pub mod LowestOrder
 pub mod Nodes
 pub mod Order
-pub mod Pairs
 pub mod Places
 pub mod Present
 pub mod Recorded

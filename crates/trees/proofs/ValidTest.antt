@@ -16,7 +16,7 @@ use Rattle.trees.specs.Lists.{Among, Below, Rising, some}
 use Rattle.trees.specs.Records.{count, listed, Nested, ValidOn, BinaryOn}
 use Rattle.trees.specs.Valid.{every, among, belowFirst, rising, singlesFrom, nested, valid, binary}
 use Rattle.trees.specs.Decides.{Decides}
-use Rattle.trees.proofs.Booleans.{both}
+use Rattle.trees.proofs.Booleans.{both, or-left, or-right}
 
 -- ---- tests that tell whether a statement holds
 
@@ -40,23 +40,15 @@ tells-and {a} {b} {P} {Q} d e = record { holds = λ h. let k = both a b h in (d 
     joined false b h k = h
 
 tells-or : {a b : Bool} {P Q : Type 0} → Tells a P → Tells b Q → Tells (a || b) (P ⊎ Q)
-tells-or {a} {b} {P} {Q} d e = record { holds = λ h. one a b h (d .holds) (e .holds); told = λ h. either h }
+tells-or {a} {b} {P} {Q} d e = record { holds = λ h. one a b h (d .holds) (e .holds); told = λ h. told h }
   where
     one : (a b : Bool) → (a || b) ≡ true → (a ≡ true → P) → (b ≡ true → Q) → P ⊎ Q
     one true b h p q = inl (p refl)
     one false b h p q = inr (q h)
 
-    left : (a b : Bool) → a ≡ true → (a || b) ≡ true
-    left true b h = refl
-    left false b h = absurd (false≢true h)
-
-    right : (a b : Bool) → b ≡ true → (a || b) ≡ true
-    right true b h = refl
-    right false b h = h
-
-    either : P ⊎ Q → (a || b) ≡ true
-    either (inl p) = left a b (d .told p)
-    either (inr q) = right a b (e .told q)
+    told : P ⊎ Q → (a || b) ≡ true
+    told (inl p) = or-left a b (d .told p)
+    told (inr q) = or-right a b (e .told q)
 
 tells-if : {a b : Bool} {P Q : Type 0} → Tells a P → Tells b Q → Tells (not a || b) (P → Q)
 tells-if {a} {b} {P} {Q} d e = record { holds = λ h p. e .holds (pass a b h (d .told p)); told = λ f. back a b (d .holds) (λ p. e .told (f p)) }

@@ -1,20 +1,8 @@
 // A record written back as tree text, in the one form.
-ghost use mathlib.Core.Path.{_≡_};
-ghost use Rattle.roster.specs.Judged.{refusal};
 ghost use Rattle.writer.specs.Promise.{Writes};
 use roster::Reply;
+use roster::refused;
 use trees::Record;
-
-// A refused call: number and place, and no value.
-fn refused(number: u32, place: usize) -> Reply
-    ensures { λ q. ⌜ q ≡ refusal number place ⌝ }
-{
-    Reply {
-        number: number,
-        place: place,
-        value: 0,
-    }
-}
 
 // Writes the text of the tree into out, and answers its length. What is refused leaves out as it was: the length is judged before a byte is written.
 pub fn write(line: &[u8], tree: Record, out: &mut [u8]) -> Reply
@@ -29,7 +17,7 @@ pub fn write(line: &[u8], tree: Record, out: &mut [u8]) -> Reply
     let table = roster.table;
     let all = clusters::whole(n);
     let numbers = tree.numbers;
-    if !trees::valid(&numbers, all) {
+    if !records::valid(&numbers, all) {
         return refused(15, 0);
     }
     let length = texts::label::text_length(&table, n, numbers[0] as usize);

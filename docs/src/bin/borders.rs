@@ -26,7 +26,7 @@ fn text_borders(c: &mut Cases) {
     let on = |c: &mut Cases, line: &[u8], texts: &[&[u8]]| texts.iter().for_each(|text| c.read(line, text, 0));
     on(c, b"a b c", &[b"((a,b),c);", b"(c,(b,a));", b"(a,b,c);", b"", b";", b"((a),b,c);", b"(a,b,c)", b"(a,b,c) ;rest", b"  \t\r\n", b"x", b"x-", b"(a,a", b"(a,b);"]);
     on(c, b"a b", &[
-        b"(a::70,b:0.5:9);", b"(a:,b);", b"(a,b)1.5;", b"(a,b)1;", b"(a,b)a;", b"(a,b) b :1 ;", b"()", b"(a,)", b"((a,b))", b"(a;b)", b"a;", b"a:;",
+        b"(a::70,b:0.5:9);", b"(a:,b);", b"(a:)", b"(a,b)1.5;", b"(a,b)1;", b"(a,b)a;", b"(a,b) b :1 ;", b"()", b"(a,)", b"((a,b))", b"(a;b)", b"a;", b"a:;",
         b"( a , b ) ;", b"(a,b)c d;", b"(a b);", b"(a,b", b"(a,b)", b"(a,b):", b"(a,b)::", b"(a,b)::1", b"(a,b);;", b"(a,b))", b"(,b)", b"(a,(b);", b"a,b;",
         b"(a,b)'x';", b"(a,b)[x];", b"(a_,b);", b"(ab,b);", b"(a,b)\0;", b"(a,b)\xc3\xa9;", b")", b",", b":", b".", b"-a", b"(a,b):1:2:3;",
     ]);

@@ -1,0 +1,35 @@
+// Which 32 numbers are a valid record, and whether it is a binary tree's.
+mod layout;
+mod nesting;
+mod presence;
+
+ghost use mathlib.Core.Path.{_≡_};
+ghost use Prim.Native.Nat.{_<_};
+ghost use lib.ListN.{length};
+ghost use Rattle.trees.specs.Decides.{Decides};
+ghost use Rattle.trees.specs.Records.{ValidOn, BinaryOn};
+
+// Whether r is a valid record of a tree whose whole set is s. `writer` and `lineages` ask it of 32 numbers and a set of at most 16 species.
+pub fn valid(r: &[u16], s: u32) -> bool
+    requires { ⌜ length (now r) ≡ 32 ⌝ }
+    requires { ⌜ s < 65536 ⌝ }
+    ensures { λ result. ⌜ Decides result (ValidOn s (now (r .entry))) ⌝ }
+{
+    if layout::formed(r) {
+        let m = r[0] as usize;
+        if presence::inside(r, m, s) {
+            if presence::complete(r, m, s) {
+                return nesting::nested(r, m);
+            }
+        }
+    }
+    false
+}
+
+// Whether r has as many clusters as a binary tree on s. `lineages` asks it of 32 numbers.
+pub fn binary(r: &[u16], s: u32) -> bool
+    requires { ⌜ length (now r) ≡ 32 ⌝ }
+    ensures { λ result. ⌜ Decides result (BinaryOn s (now (r .entry))) ⌝ }
+{
+    r[0] as u32 + 1 == 2 * clusters::size(s)
+}
