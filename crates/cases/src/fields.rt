@@ -124,3 +124,10 @@ pub fn number(case: &[u8], k: usize) -> usize {
     let read = decimal(field(case, k), 0);
     read.value
 }
+
+// How many bytes, or entries of a table, the k-th field of a case says that the call is lent.
+pub fn lent_size(case: &[u8], k: usize) -> usize
+    ensures { λ r. ⌜ r ≤ 65600 ⌝ }
+{
+    least(number(case, k), 65600)
+}

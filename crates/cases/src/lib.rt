@@ -1,8 +1,5 @@
-// A stored case taken apart: its fields, numbers and bytes; the room that its call is lent; and the showing of answers.
+// A stored case taken apart: its fields, numbers and bytes, and the room that its call is lent.
 pub mod fields;
-pub mod lent;
 pub mod packed;
 pub mod room;
-pub mod show;
-pub mod tables;
 mod token;

@@ -6,7 +6,6 @@ ghost use Rattle.io.specs.Counts.{Counts};
 use crate::fields::field;
 use crate::fields::least;
 use crate::room;
-use crate::tables::narrow;
 use crate::token::Token;
 use crate::token::token_at;
 use trees::Record;
@@ -63,6 +62,19 @@ pub fn tree(case: &[u8], k: usize) -> Record {
     let mut entries = [0u16; 32];
     numbers(case, k, false, &mut entries);
     Record { numbers: entries }
+}
+
+// Puts numbers as bytes at the start of out, as far as there is room, and answers how many there are.
+fn narrow(numbers: &[u16], out: &mut [u8]) -> usize
+    ensures { λ r. ⌜ Counts r (now (out .exit)) ⌝ }
+{
+    let n = least(numbers.len(), out.len());
+    let mut i = 0;
+    while i < n {
+        out[i] = (numbers[i] % 256) as u8;
+        i += 1;
+    }
+    n
 }
 
 // The same as bytes.

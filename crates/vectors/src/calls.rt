@@ -11,7 +11,7 @@ use cases::fields::byte;
 use cases::packed::bytes;
 use cases::packed::numbers;
 use cases::room;
-use cases::show;
+use showing::show;
 
 // Runs a case whose first field is a text.
 fn run_with_text(case: &[u8], letter: u8) {

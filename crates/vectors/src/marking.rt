@@ -1,9 +1,9 @@
 // `M` species | genes | count | room: marks the clusters in so many bytes, and prints the reply and the bytes' fingerprint.
 use crate::replies;
+use cases::fields::lent_size;
 use cases::fields::number;
-use cases::lent;
 use cases::room;
-use cases::show;
+use showing::show;
 
 fn mark(case: &[u8], records: &[u16], out: &mut [u8]) {
     let reply = lineages::mark(number(case, 0), records, number(case, 2), out);
@@ -13,6 +13,6 @@ fn mark(case: &[u8], records: &[u16], out: &mut [u8]) {
 
 pub fn run(case: &[u8], records: &[u16]) {
     let mut out = room::bytes();
-    let size = lent::size(case, 3);
+    let size = lent_size(case, 3);
     mark(case, records, &mut out[0..size]);
 }

@@ -2,7 +2,7 @@
 use cases::fields::number;
 use cases::packed::bytes;
 use cases::room;
-use cases::show;
+use showing::show;
 
 pub fn run(case: &[u8], line: &[u8]) {
     let mut text = room::bytes();

@@ -1,7 +1,7 @@
 // Replies of calls on standard output.
-use cases::lent;
-use cases::show;
 use roster::Reply;
+use showing::lent;
+use showing::show;
 
 // A reply that is the whole answer.
 pub fn line(r: Reply) {

@@ -1,5 +1,5 @@
 // `P` input: prints what the program prints for it.
-use cases::show;
+use showing::show;
 
 pub fn run(input: &[u8]) {
     let report = report::report(input);

@@ -1,11 +1,11 @@
 // `F` species | genes | count | allowed | room for scores | room for splits: searches the least tree, and prints the reply, the record
 // and the fingerprints of the two tables.
+use cases::fields::lent_size;
 use cases::fields::number;
-use cases::lent;
 use cases::packed::bytes;
 use cases::room;
-use cases::show;
-use cases::tables;
+use showing::show;
+use showing::tables;
 
 fn search(case: &[u8], records: &[u16], allowed: &[u8], scores: &mut [u32], splits: &mut [u16]) {
     let found = search::search(
@@ -26,8 +26,8 @@ fn search(case: &[u8], records: &[u16], allowed: &[u8], scores: &mut [u32], spli
 fn search_in(case: &[u8], records: &[u16], allowed: &[u8]) {
     let mut scores = room::scores();
     let mut splits = room::numbers();
-    let k = lent::size(case, 4);
-    let m = lent::size(case, 5);
+    let k = lent_size(case, 4);
+    let m = lent_size(case, 5);
     search(case, records, allowed, &mut scores[0..k], &mut splits[0..m]);
 }
 

@@ -2,8 +2,8 @@
 use borrow.Author.Needs.{needs}
 use Prim.Native.Nat.{_≤_}
 use lib.ListN.{length}
-use Rattle.cases.proofs.show.filled.Statement.{statement}
-use Rattle.cases.proofs.show.filled.Tie as tie
+use Rattle.showing.proofs.show.filled.Statement.{statement}
+use Rattle.showing.proofs.show.filled.Tie as tie
 
 abbrev Inv-loop : tie.InvT-loop
 Inv-loop numbers n₀ n = n ≤ length numbers

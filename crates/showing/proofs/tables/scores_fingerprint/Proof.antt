@@ -2,8 +2,8 @@
 use borrow.Author.Needs.{needs}
 use Prim.Native.Nat.{_≤_, _<_, _-_}
 use lib.ListN.{length}
-use Rattle.cases.proofs.tables.scores_fingerprint.Statement.{statement}
-use Rattle.cases.proofs.tables.scores_fingerprint.Tie as tie
+use Rattle.showing.proofs.tables.scores_fingerprint.Statement.{statement}
+use Rattle.showing.proofs.tables.scores_fingerprint.Tie as tie
 
 abbrev Inv-loop : tie.InvT-loop
 Inv-loop s h₀ i₀ h i = (i ≤ length s) × (h < 1000003)

@@ -1,7 +1,6 @@
 // Answers on standard output.
 ghost use Prim.Native.Nat.{_≤_};
 ghost use lib.ListN.{length};
-use crate::fields::least;
 use libc::STDOUT_FILENO;
 
 pub fn text(s: &[u8]) {
@@ -15,8 +14,11 @@ pub fn byte(b: u8) {
 
 // The first count bytes of s.
 pub fn start_of(s: &[u8], count: usize) {
-    let n = least(count, s.len());
-    text(&s[0..n]);
+    if count < s.len() {
+        text(&s[0..count]);
+        return;
+    }
+    text(s);
 }
 
 pub fn number(x: usize) {

@@ -4,8 +4,8 @@ use Prim.Native.Nat.{_≤_, _-_}
 use mathlib.Core.Path.{_≡_}
 use lib.ListN.{length, length-take}
 use native.Mathlib.Omega.{arith}
-use Rattle.cases.proofs.tables.narrow.Statement.{statement}
-use Rattle.cases.proofs.tables.narrow.Tie as tie
+use Rattle.cases.proofs.packed.narrow.Statement.{statement}
+use Rattle.cases.proofs.packed.narrow.Tie as tie
 
 abbrev Inv-loop : tie.InvT-loop
 Inv-loop numbers out₀ end i₀ out i = (i ≤ end) × (end ≤ length numbers) × (length out ≡ length out₀) × (end ≤ length out₀)

@@ -1,15 +1,6 @@
-// Bytes that a call is lent: how many, and their fingerprint after it, by which they are compared whole.
-ghost use Prim.Native.Nat.{_≤_, _<_};
-use crate::fields::least;
-use crate::fields::number;
+// The fingerprint of the bytes that a call was lent, after it, by which they are compared whole.
+ghost use Prim.Native.Nat.{_<_};
 use crate::show;
-
-// How many bytes, or entries of a table, the k-th field of a case says that the call is lent.
-pub fn size(case: &[u8], k: usize) -> usize
-    ensures { λ r. ⌜ r ≤ 65600 ⌝ }
-{
-    least(number(case, k), 65600)
-}
 
 // The fingerprint h with one more number.
 pub(crate) fn mixed(h: u64, x: u32) -> u64

@@ -3,8 +3,8 @@ use borrow.Author.Needs.{needs}
 use native.Mathlib.Omega.{arith}
 use Prim.Native.Nat.{_≤_, _-_}
 use lib.ListN.{length}
-use Rattle.cases.proofs.show.record_start.Statement.{statement}
-use Rattle.cases.proofs.show.record_start.Tie as tie
+use Rattle.showing.proofs.show.record_start.Statement.{statement}
+use Rattle.showing.proofs.show.record_start.Tie as tie
 
 abbrev Inv-loop : tie.InvT-loop
 Inv-loop numbers end i₀ i = (i ≤ end) × (end ≤ length numbers)

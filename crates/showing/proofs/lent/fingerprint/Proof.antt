@@ -3,8 +3,8 @@ use borrow.Author.Needs.{needs}
 use native.Mathlib.Omega.{arith}
 use Prim.Native.Nat.{_≤_, _<_, _-_}
 use lib.ListN.{length}
-use Rattle.cases.proofs.lent.fingerprint.Statement.{statement}
-use Rattle.cases.proofs.lent.fingerprint.Tie as tie
+use Rattle.showing.proofs.lent.fingerprint.Statement.{statement}
+use Rattle.showing.proofs.lent.fingerprint.Tie as tie
 
 abbrev Inv-loop : tie.InvT-loop
 Inv-loop s h₀ i₀ h i = (i ≤ length s) × (h < 1000003)

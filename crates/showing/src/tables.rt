@@ -1,6 +1,4 @@
-// The fingerprints of the two tables that the search is lent, after it; and numbers as bytes.
-ghost use Rattle.io.specs.Counts.{Counts};
-use crate::fields::least;
+// The fingerprints of the two tables that the search was lent, after it.
 use crate::lent::mixed;
 use crate::show;
 
@@ -31,17 +29,4 @@ pub fn show(scores: &[u32], splits: &[u16]) {
     show::byte(b' ');
     show::number(splits_fingerprint(splits));
     show::byte(b'\n');
-}
-
-// Puts numbers as bytes at the start of out, as far as there is room, and answers how many there are.
-pub fn narrow(numbers: &[u16], out: &mut [u8]) -> usize
-    ensures { λ r. ⌜ Counts r (now (out .exit)) ⌝ }
-{
-    let end = least(numbers.len(), out.len());
-    let mut i = 0;
-    while i < end {
-        out[i] = (numbers[i] % 256) as u8;
-        i += 1;
-    }
-    end
 }
