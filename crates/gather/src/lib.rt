@@ -26,7 +26,7 @@ fn put(genes: &mut [u16], count: usize, numbers: [u16; 32])
     }
 }
 
-// Reads trees until only blanks remain, and puts their records into `genes`. `report` calls it, with numbers for 512 records.
+// Reads trees until only blanks remain, and puts their records into `genes`. `outcomes` calls it, with numbers for 512 records.
 pub fn gather(line: &[u8], trees: &[u8], genes: &mut [u16]) -> Trees
     requires { ⌜ length (now genes) ≡ 16384 ⌝ }
     ensures { λ r. ⌜ gatheredIn (now (genes .exit)) r ≡ GeneTrees·gather (now (line .entry)) (now (trees .entry)) ⌝ }

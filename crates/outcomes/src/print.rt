@@ -3,7 +3,7 @@ ghost use mathlib.Core.Path.{_≡_};
 ghost use Rattle.clusters.specs.Sets.{whole};
 ghost use Rattle.trees.specs.Records.{ValidOn};
 ghost use Rattle.roster.specs.Roster.{names};
-ghost use Rattle.outcomes.specs.Outcome.Outcome.{solved as Program·solved};
+ghost use Rattle.outcomes.specs.Outcome.Outcome.{solved as Outcome·solved};
 ghost use Rattle.outcomes.specs.Work.{told, Roster};
 use printing::Report;
 use printing::counts;
@@ -14,7 +14,7 @@ use trees::Record;
 pub(crate) fn solved(line: &[u8], n: usize, count: usize, score: usize, tree: Record) -> Report
     requires { ⌜ Roster (now line) n ⌝ }
     requires { ⌜ ValidOn (whole n) (tree .numbers) ⌝ }
-    ensures { λ r. ⌜ r ≡ told (names (now (line .entry))) (Program·solved n count score (tree .numbers)) ⌝ }
+    ensures { λ r. ⌜ r ≡ told (names (now (line .entry))) (Outcome·solved n count score (tree .numbers)) ⌝ }
 {
     let mut text = [0u8; 512];
     let at = counts(&mut text, n, count, score);

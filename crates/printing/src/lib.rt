@@ -13,7 +13,7 @@ pub struct Report {
     pub text: [u8; 512],
 }
 
-// Puts the word behind the first `at` bytes, and answers where it ends. `texts` and `report` call it too, with a name and with a line feed that there is room for.
+// Puts the word behind the first `at` bytes, and answers where it ends. `texts` and `outcomes` call it too, with a name and with a line feed that there is room for.
 pub fn word(out: &mut [u8], at: usize, word: &[u8]) -> usize
     requires { ⌜ at + length (now word) ≤ length (now out) ⌝ }
     ensures { λ end. ⌜ Put (now (out .entry)) at (now (word .entry)) end (now (out .exit)) ⌝ }
@@ -60,7 +60,7 @@ pub fn refusal(number: u32, place: usize) -> Report
     Report { len, text }
 }
 
-// The lines of species and gene trees read, and of the score; answers where they end. `report` calls it, with the bytes of a report.
+// The lines of species and gene trees read, and of the score; answers where they end. `outcomes` calls it, with the bytes of a report.
 pub fn counts(out: &mut [u8], n: usize, count: usize, score: usize) -> usize
     requires { ⌜ length (now out) ≡ 512 ⌝ }
     ensures { λ end. ⌜ Put (now (out .entry)) 0 (countsText n count score) end (now (out .exit)) ⌝ }

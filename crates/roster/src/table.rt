@@ -23,7 +23,7 @@ fn stands_at(table: &[u8], i: usize, name: [u8; 16]) -> bool
     true
 }
 
-// The species of a name: where it stands among the first `count` of the table, or `count`. `nodes` calls it, with the table that `parse` filled.
+// The species of a name: where it stands among the first `count` of the table, or `count`. `nodes` calls it with the table that `parse` filled, which has sixteen bytes for each of the names counted.
 pub fn species(table: &[u8], count: usize, name: [u8; 16]) -> usize
     requires { ⌜ 16 * count ≤ length (now table) ⌝ }
     ensures { λ r. ⌜ r ≡ position name (slots count (now (table .entry))) ⌝ }
@@ -51,7 +51,7 @@ pub(crate) fn enter(table: &mut [u8], i: usize, name: [u8; 16])
     }
 }
 
-// The length of the i-th name of the table. `texts` calls it, with the table that `parse` filled.
+// The length of the i-th name of the table. `texts` calls it with the table that `parse` filled, which has sixteen bytes for each of 32 species.
 pub fn name_len(table: &[u8], i: usize) -> usize
     requires { ⌜ 16 * i + 16 ≤ length (now table) ⌝ }
     ensures { λ r. ⌜ r ≡ run nonZero (take 16 (drop (16 * i) (now (table .entry)))) ⌝ }

@@ -27,6 +27,7 @@ pub record Small (a : ℕ) (s : Split) : Type 0 where
 
 -- ---- the split of one cluster
 
+-- the first split where a part has no tree, else the other
 abbrev pub splitUnless : Bool → Split → Split → Split
 splitUnless true s other = s
 splitUnless false s other = other
