@@ -6,6 +6,7 @@ use native.Mathlib.Omega.{arith}
 use borrow.Author.Needs.{needs}
 use Rattle.clusters.specs.Sets.{single, lowest}
 use Rattle.texts.proofs.Largest.{Largest, lowest-thirty-two, single-largest, larger-next, largest-next, largest-child}
+use Rattle.texts.proofs.NodeText.{lowest-sixteen}
 use Rattle.texts.proofs.child.child.Statement.{statement}
 use Rattle.texts.proofs.child.child.Tie as tie
 
@@ -15,10 +16,12 @@ Inv-loop cluster left species numbers m largest₀ i₀ largest i = (1 ≤ i) ×
 abbrev μ-loop : tie.MeasureT-loop
 μ-loop cluster left species numbers m largest₀ i₀ largest i = m + 1 - i
 
+-- of what is left and of the cluster itself, so that a child looked for by the cluster is refused by what the loop holds
 single-requires : tie.Need-single-requires Inv-loop μ-loop
 single-requires c κs =
     let s = c .before in
     let l = lowest-thirty-two (s .pre .0) (s .args .left) (s .pre .1 .1 .0) (s .pre .1 .1 .1) (s .pre .1 .0) in
+    let k = lowest-sixteen (s .pre .0) in
     omega (arith, c .lowest .ensures)
 
 loop-holds : tie.Need-loop-holds Inv-loop μ-loop
