@@ -2,11 +2,20 @@
    command that runs it. Prints each answer; docs/src/README.md says how a case and its answer are written. */
 #define _POSIX_C_SOURCE 200809L
 #include <signal.h>
+#include <stddef.h>
 #include <stdio.h>
 #include <stdlib.h>
 #include <string.h>
 
 #include "speciestree.h"
+
+/* The layouts that callers were built with: a division by zero does not compile. */
+enum {
+    layout_of_record = 1 / (sizeof(st_Record) == 64),
+    layout_of_reply = 1 / (offsetof(st_Reply, number) == 0 && offsetof(st_Reply, place) == 8 && offsetof(st_Reply, value) == 16),
+    layout_of_reading = 1 / (offsetof(st_Reading, place) == 8 && offsetof(st_Reading, next) == 16 && offsetof(st_Reading, numbers) == 24),
+    layout_of_found = 1 / (offsetof(st_Found, place) == 8 && offsetof(st_Found, score) == 16 && offsetof(st_Found, numbers) == 24)
+};
 
 /* What lent buffers hold before a call. */
 enum { byte_before = 238, score_before = 7, split_before = 9 };
