@@ -270,7 +270,9 @@ static void run_program(void) {
     Bytes input = bytes(0);
     fflush(stdout);
     FILE *to = popen(program, "w");
-    if (to == NULL || fwrite(input.at, 1, input.length, to) != input.length || pclose(to) != 0) stop("the program did not run");
+    if (to == NULL) stop("the program is not run");
+    fwrite(input.at, 1, input.length, to); /* the program need not read all of it */
+    if (pclose(to) != 0) stop("the program ends with a fault");
 }
 
 static const struct {
