@@ -1,10 +1,15 @@
-/* The library for C: crates/capi/src/lib.rt has the same names, with the promise of each. Link target/staticlib/libcapi.a,
-   which `rt staticlib capi` writes. A slice is a pointer and a length. Numbers and places are those of docs/RULES.md. */
+/* The library for C and C++: crates/capi/src/lib.rt has the same names, with the promise of each. Link target/staticlib/libcapi.a,
+   which `rt staticlib capi` writes. A slice is a pointer and a length. docs/CALLS.md says of each call what it refuses, with which
+   number and place, and what then stands in the lent buffers. */
 #ifndef SPECIESTREE_H
 #define SPECIESTREE_H
 
 #include <stddef.h>
 #include <stdint.h>
+
+#ifdef __cplusplus
+extern "C" {
+#endif
 
 /* A tree's record: the count, the clusters in rising order, zeros. */
 typedef struct {
@@ -49,7 +54,12 @@ st_Reply st_score(size_t n, const uint16_t *genes, size_t genes_length, size_t c
 /* value: 0 */
 st_Reply st_mark(size_t n, const uint16_t *genes, size_t genes_length, size_t count, uint8_t *out, size_t out_length);
 
+/* the score and the record of the first least-scoring tree; both tables are filled */
 st_Found st_search(size_t n, const uint16_t *genes, size_t genes_length, size_t count, const uint8_t *allowed, size_t allowed_length,
                    uint32_t *scores, size_t scores_length, uint16_t *splits, size_t splits_length);
+
+#ifdef __cplusplus
+}
+#endif
 
 #endif

@@ -5,6 +5,7 @@ pub mod reader;
 pub mod report;
 pub mod roster;
 pub mod search;
+pub mod seeded;
 pub mod trees;
 pub mod writer;
 

@@ -45,3 +45,8 @@ pub fn names(line: &[u8]) -> Result<Vec<Vec<u8>>, Refusal> {
         None => Ok(found.iter().map(|(_, name)| name.to_vec()).collect()),
     }
 }
+
+/// The line that has these names.
+pub fn joined(names: &[Vec<u8>]) -> Vec<u8> {
+    names.join(&b' ')
+}

@@ -1,23 +1,19 @@
 //! Times this version's search at 16 species and 2,000 gene trees with all clusters allowed, and writes the gene records to the
 //! file that its argument names, as sixteen-bit numbers, for docs/src/timing.c to time the proved one on the same input.
+use reference::seeded::Seeded;
 use std::time::Instant;
 
 const SPECIES: usize = 16;
 const TREES: usize = 2000;
 
-fn below(seed: &mut u64, n: usize) -> usize {
-    *seed = seed.wrapping_mul(6364136223846793005).wrapping_add(1442695040888963407);
-    ((*seed >> 33) % n as u64) as usize
-}
-
 /// The clusters of a random binary tree: two of the parts are joined until one is left.
-fn tree(seed: &mut u64) -> [u16; 32] {
+fn tree(s: &mut Seeded) -> [u16; 32] {
     let mut parts: Vec<u16> = (0..SPECIES).map(|i| 1 << i).collect();
     let mut clusters = parts.clone();
     while parts.len() > 1 {
-        let at = below(seed, parts.len());
+        let at = s.below(parts.len());
         let a = parts.swap_remove(at);
-        let at = below(seed, parts.len());
+        let at = s.below(parts.len());
         let b = parts.swap_remove(at);
         parts.push(a | b);
         clusters.push(a | b);
@@ -26,8 +22,8 @@ fn tree(seed: &mut u64) -> [u16; 32] {
 }
 
 fn main() {
-    let mut seed = 20_261_115;
-    let genes: Vec<u16> = (0..TREES).flat_map(|_| tree(&mut seed)).collect();
+    let mut s = Seeded::new(20_261_115);
+    let genes: Vec<u16> = (0..TREES).flat_map(|_| tree(&mut s)).collect();
     if let Some(path) = std::env::args().nth(1) {
         let bytes: Vec<u8> = genes.iter().flat_map(|x| x.to_le_bytes()).collect();
         std::fs::write(path, bytes).unwrap();

@@ -1,14 +1,8 @@
-//! Prints the case file: the borders of document 01 by hand, then cases from a fixed seed.
-//! With a word behind it, only the calls whose letters are in the word.
-use std::io::Write;
-
-struct Cases {
-    seed: u64,
-    lines: Vec<Vec<u8>>,
-}
+//! Names, trees and texts from a seed: good ones, and damaged ones.
+use crate::trees::{record, Record};
 
 /// A drawn tree: a species, or children.
-enum Tree {
+pub enum Tree {
     Leaf(usize),
     Node(Vec<Tree>),
 }
@@ -28,26 +22,36 @@ impl Tree {
         }
     }
 
-    fn record(&self) -> [u16; 32] {
+    pub fn record(&self) -> Record {
         let mut found = Vec::new();
         self.clusters(&mut found);
-        reference::trees::record(&found)
+        record(&found)
     }
 }
 
 const LETTERS: &[u8] = b"abcdefghijklmnopqrstuvwxyzABCDEFGHIJKLMNOPQRSTUVWXYZ0123456789";
 
-impl Cases {
-    fn below(&mut self, n: usize) -> usize {
+/// A source of numbers that a seed fixes.
+pub struct Seeded {
+    seed: u64,
+}
+
+impl Seeded {
+    pub fn new(seed: u64) -> Seeded {
+        Seeded { seed }
+    }
+
+    /// A number below n.
+    pub fn below(&mut self, n: usize) -> usize {
         self.seed = self.seed.wrapping_mul(6364136223846793005).wrapping_add(1442695040888963407);
         ((self.seed >> 33) % n as u64) as usize
     }
 
-    fn one_in(&mut self, n: usize) -> bool {
+    pub fn one_in(&mut self, n: usize) -> bool {
         self.below(n) == 0
     }
 
-    fn names(&mut self, n: usize) -> Vec<Vec<u8>> {
+    pub fn names(&mut self, n: usize) -> Vec<Vec<u8>> {
         let mut names: Vec<Vec<u8>> = Vec::new();
         while names.len() < n {
             let length = if self.one_in(6) { 15 } else { 1 + self.below(4) };
@@ -59,7 +63,7 @@ impl Cases {
         names
     }
 
-    fn tree(&mut self, mut species: Vec<usize>, binary: bool) -> Tree {
+    pub fn tree(&mut self, mut species: Vec<usize>, binary: bool) -> Tree {
         if species.len() == 1 {
             return Tree::Leaf(species[0]);
         }
@@ -78,7 +82,7 @@ impl Cases {
         Tree::Node(children)
     }
 
-    fn blanks(&mut self, text: &mut Vec<u8>) {
+    pub fn blanks(&mut self, text: &mut Vec<u8>) {
         while self.one_in(8) {
             text.push(b" \t\n\r"[self.below(4)]);
         }
@@ -128,18 +132,23 @@ impl Cases {
         self.behind(text);
     }
 
-    fn text(&mut self, names: &[Vec<u8>]) -> Vec<u8> {
+    /// The record of a tree, and a text that draws it.
+    pub fn drawn(&mut self, names: &[Vec<u8>]) -> (Record, Vec<u8>) {
         let binary = self.one_in(2);
         let tree = self.tree((0..names.len()).collect(), binary);
         let mut text = Vec::new();
         self.draw(names, &tree, &mut text);
         self.blanks(&mut text);
         text.push(b';');
-        text
+        (tree.record(), text)
+    }
+
+    pub fn text(&mut self, names: &[Vec<u8>]) -> Vec<u8> {
+        self.drawn(names).1
     }
 
     /// One to three bytes changed, dropped or put in.
-    fn damaged(&mut self, mut text: Vec<u8>) -> Vec<u8> {
+    pub fn damaged(&mut self, mut text: Vec<u8>) -> Vec<u8> {
         const BYTES: &[u8] = b"(),;:. a0bz9\t\n-_'[\0\xff";
         for _ in 0..1 + self.below(3) {
             let at = self.below(text.len() + 1);
@@ -158,11 +167,11 @@ impl Cases {
         text
     }
 
-    fn gene(&mut self, n: usize, binary: bool) -> [u16; 32] {
+    pub fn gene(&mut self, n: usize, binary: bool) -> Record {
         self.tree((0..n).collect(), binary).record()
     }
 
-    fn spoiled(&mut self, mut r: [u16; 32]) -> [u16; 32] {
+    pub fn spoiled(&mut self, mut r: Record) -> Record {
         let (i, j) = (self.below(32), self.below(32));
         match self.below(5) {
             0 => r.swap(i, j),
@@ -172,124 +181,5 @@ impl Cases {
             _ => r[i] = r[j],
         }
         r
-    }
-
-    fn add(&mut self, call: u8, fields: &[Vec<u8>]) {
-        let mut line = vec![call];
-        line.extend(fields.join(&b'|'));
-        self.lines.push(line);
-    }
-
-    fn judge(&mut self, line: &[u8]) {
-        self.add(b'J', &[escaped(line)]);
-    }
-
-    fn read(&mut self, line: &[u8], text: &[u8], start: usize) {
-        self.add(b'R', &[escaped(line), escaped(text), decimal(start)]);
-    }
-
-    fn write(&mut self, line: &[u8], r: &[u16; 32], out: usize) {
-        self.add(b'W', &[escaped(line), numbers(r), decimal(out)]);
-    }
-
-    fn weight(&mut self, n: usize, genes: &[u16], count: usize, cluster: usize) {
-        self.add(b'K', &[decimal(n), numbers(genes), decimal(count), decimal(cluster)]);
-    }
-
-    fn score(&mut self, n: usize, genes: &[u16], count: usize, species: &[u16; 32]) {
-        self.add(b'S', &[decimal(n), numbers(genes), decimal(count), numbers(species)]);
-    }
-
-    fn mark(&mut self, n: usize, genes: &[u16], count: usize, out: usize) {
-        self.add(b'M', &[decimal(n), numbers(genes), decimal(count), decimal(out)]);
-    }
-
-    fn search(&mut self, n: usize, genes: &[u16], count: usize, allowed: &[u16], scores: usize, splits: usize) {
-        self.add(b'F', &[decimal(n), numbers(genes), decimal(count), numbers(allowed), decimal(scores), decimal(splits)]);
-    }
-
-    fn report(&mut self, input: &[u8]) {
-        self.add(b'P', &[escaped(input)]);
-    }
-}
-
-fn decimal(x: usize) -> Vec<u8> {
-    x.to_string().into_bytes()
-}
-
-/// Bytes in the form of the case file, with long runs of one byte folded.
-fn escaped(bytes: &[u8]) -> Vec<u8> {
-    let mut out = Vec::new();
-    let mut at = 0;
-    while at < bytes.len() {
-        let b = bytes[at];
-        if (33..127).contains(&b) && b != b'\\' && b != b'|' || b == b' ' {
-            out.push(b);
-        } else {
-            out.extend(format!("\\{b:02x}").bytes());
-        }
-        let same = bytes[at..].iter().take_while(|&&x| x == b).count();
-        if same > 8 {
-            out.extend(format!("\\*{}.", same - 1).bytes());
-            at += same;
-        } else {
-            at += 1;
-        }
-    }
-    out
-}
-
-/// Numbers in the form of the case file, with repeated numbers and repeated records folded.
-fn numbers(values: &[u16]) -> Vec<u8> {
-    let mut out = Vec::new();
-    let mut at = 0;
-    while at < values.len() {
-        if at % 32 == 0 && at >= 32 {
-            let record = &values[at - 32..at];
-            let same = values[at..].chunks(32).take_while(|c| *c == record).count();
-            if same > 0 {
-                out.extend(format!("#{same}").bytes());
-                at += 32 * same;
-                continue;
-            }
-        }
-        if !out.is_empty() {
-            out.push(b' ');
-        }
-        out.extend(values[at].to_string().bytes());
-        let end = (at / 32 + 1) * 32;
-        let same = values[at..values.len().min(if values.len() % 32 == 0 { end } else { usize::MAX })]
-            .iter()
-            .take_while(|&&x| x == values[at])
-            .count();
-        if same > 2 {
-            out.extend(format!("*{}", same - 1).bytes());
-            at += same;
-        } else {
-            at += 1;
-        }
-    }
-    out
-}
-
-fn joined(names: &[Vec<u8>]) -> Vec<u8> {
-    names.join(&b' ')
-}
-
-fn rec(clusters: &[u16]) -> [u16; 32] {
-    reference::trees::record(clusters)
-}
-
-include!("borders.rs");
-
-fn main() {
-    let wanted = std::env::args().nth(1).unwrap_or_else(|| "JRWKSMFP".to_string());
-    let mut cases = Cases { seed: 20_261_115, lines: Vec::new() };
-    borders(&mut cases);
-    drawn(&mut cases);
-    let mut out = std::io::stdout().lock();
-    for line in cases.lines.iter().filter(|line| wanted.as_bytes().contains(&line[0])) {
-        out.write_all(line).unwrap();
-        out.write_all(b"\n").unwrap();
     }
 }

@@ -1,5 +1,9 @@
-/// The borders of document 01 and the points that are easy to misread.
-fn borders(c: &mut Cases) {
+//! The borders of document 01 and the points that are easy to misread.
+use crate::lines::Cases;
+use reference::roster::joined;
+use reference::trees::record;
+
+pub fn borders(c: &mut Cases) {
     roster_borders(c);
     text_borders(c);
     limit_borders(c);
@@ -28,10 +32,11 @@ fn text_borders(c: &mut Cases) {
     on(c, b"a b", &[
         b"(a::70,b:0.5:9);", b"(a:,b);", b"(a:)", b"(a,b)1.5;", b"(a,b)1;", b"(a,b)a;", b"(a,b) b :1 ;", b"()", b"(a,)", b"((a,b))", b"(a;b)", b"a;", b"a:;",
         b"( a , b ) ;", b"(a,b)c d;", b"(a b);", b"(a,b", b"(a,b)", b"(a,b):", b"(a,b)::", b"(a,b)::1", b"(a,b);;", b"(a,b))", b"(,b)", b"(a,(b);", b"a,b;",
-        b"(a,b)'x';", b"(a,b)[x];", b"(a_,b);", b"(ab,b);", b"(a,b)\0;", b"(a,b)\xc3\xa9;", b")", b",", b":", b".", b"-a", b"(a,b):1:2:3;",
+        b"(a:123456789012,b);", b"(a:1234567890123,b);", b"(a::123456789012,b:1.2345678901)x:123456789012:123456789012;", b"(a,b:123456789012);", b"(a:123456789012 ,b);",
+        b"(a:12345678901.,b);", b"(a,b)'x';", b"(a,b)[x];", b"(a_,b);", b"(ab,b);", b"(a,b)\0;", b"(a,b)\xc3\xa9;", b")", b",", b":", b".", b"-a", b"(a,b):1:2:3;",
     ]);
     on(c, b"a", &[
-        b"a;", b"(a);", b"a:0;", b"a:00.00;", b"a:::1;", b"a::1:2;", b"a:1::2;", b"a: :1;", b"a : : 1 ;", b"a :1 : 2 ;", b"a:123456789012;", b"a:1234567890123;",
+        b"a;", b"(a);", b"a:0;", b"a:00.00;", b"a:::1;", b"a::1:2;", b"a:1::2;", b"a: :1;", b"a : : 1 ;", b"a :1 : 2 ;", b"a:123456789012;", b"a:123456789012,", b"a:1234567890123;",
         b"a:123456789012.;", b"a:12345678901.;", b"a:12345678901.,", b"a:12345678901.5;", b"a:1234567890.5;", b"a:1.2345678901;", b"a:1.23456789012;", b"a:1.2345678901.;",
         b"a:1. 5;", b"a:1 .5;", b"a:1.", b"a:1", b"a:.5;", b"a:1..2;", b"a:1.2.3;", b"a:-1;", b"a:1e5;", b"a:x;", b"a:1a;", b"a::", b"a:1:", b"a:12 3;", b"a::123456789012;",
         b"a::1234567890123;", b"A;", b"aa;", b"a a;", b"a(;", b"a", b"a ",
@@ -96,21 +101,21 @@ fn limit_borders(c: &mut Cases) {
 }
 
 fn writer_borders(c: &mut Cases) {
-    c.write(b"a b c", &rec(&[1, 2, 3, 4, 7]), 10);
-    c.write(b"a b c", &rec(&[1, 2, 4, 6, 7]), 64);
+    c.write(b"a b c", &record(&[1, 2, 3, 4, 7]), 10);
+    c.write(b"a b c", &record(&[1, 2, 4, 6, 7]), 64);
     for out in [0, 1, 2, 3] {
-        c.write(b"a", &rec(&[1]), out);
+        c.write(b"a", &record(&[1]), out);
     }
     for out in [8, 9, 10, 11] {
-        c.write(b"a b c d", &rec(&[1, 2, 4, 8, 15]), out);
+        c.write(b"a b c d", &record(&[1, 2, 4, 8, 15]), out);
     }
     let names: Vec<Vec<u8>> = (0..16u8).map(|i| [vec![b'a' + i], vec![b'9'; 14]].concat()).collect();
     let mut comb: Vec<u16> = (0..16).map(|i| 1 << i).collect();
     comb.extend((1..16).map(|i| ((1u32 << (i + 1)) - 1) as u16));
     for out in [285, 286, 287, 512] {
-        c.write(&joined(&names), &rec(&comb), out);
+        c.write(&joined(&names), &record(&comb), out);
     }
-    for (line, r) in [(&b"a a"[..], rec(&[1, 2, 3])), (b"a b", rec(&[1, 2])), (b"a b", [0; 32]), (b"a b", rec(&[1, 2, 4, 7])), (b"", [0; 32])] {
+    for (line, r) in [(&b"a a"[..], record(&[1, 2, 3])), (b"a b", record(&[1, 2])), (b"a b", [0; 32]), (b"a b", record(&[1, 2, 4, 7])), (b"", [0; 32])] {
         c.write(line, &r, 0);
         c.write(line, &r, 64);
     }
@@ -118,7 +123,7 @@ fn writer_borders(c: &mut Cases) {
 
 /// The records of the examples: `((a,b),(c,d));`, `(((a,b),c),d);`, `((a,c),(b,d));`, `(a,b,c,d);`.
 fn example_records() -> [[u16; 32]; 4] {
-    [rec(&[1, 2, 3, 4, 8, 12, 15]), rec(&[1, 2, 3, 4, 7, 8, 15]), rec(&[1, 2, 4, 5, 8, 10, 15]), rec(&[1, 2, 4, 8, 15])]
+    [record(&[1, 2, 3, 4, 8, 12, 15]), record(&[1, 2, 3, 4, 7, 8, 15]), record(&[1, 2, 4, 5, 8, 10, 15]), record(&[1, 2, 4, 8, 15])]
 }
 
 fn count_borders(c: &mut Cases) {
@@ -128,7 +133,7 @@ fn count_borders(c: &mut Cases) {
             c.score(4, &gene, 1, &species);
         }
     }
-    let bad = rec(&[1, 2, 3, 5, 8, 15]);
+    let bad = record(&[1, 2, 3, 5, 8, 15]);
     let cut = &balanced[..31];
     // each refusal with and without the ones behind it in the order
     for (n, genes, count) in [(0usize, &bad[..], 0usize), (17, &bad, 0), (4, &bad, 0), (4, &bad, 4097), (4, &bad, usize::MAX), (4, cut, 1), (4, &bad, 1), (4, &balanced, 1), (4, &balanced, 2), (usize::MAX, cut, 4097), (3, &balanced, 1), (5, &balanced, 1)] {
@@ -157,23 +162,23 @@ fn count_borders(c: &mut Cases) {
     c.weight(4, &two, 1, 6);
     c.weight(4, &two, 2, 6);
     c.mark(4, &[crossed, star].concat(), 2, 16);
-    c.mark(1, &rec(&[1]), 1, 2);
+    c.mark(1, &record(&[1]), 1, 2);
 }
 
 fn search_borders(c: &mut Cases) {
     let [balanced, _, crossed, _] = example_records();
     let three = |xs: &[[u16; 32]]| xs.concat();
-    let (ab, ac, bc) = (rec(&[1, 2, 3, 4, 7]), rec(&[1, 2, 4, 5, 7]), rec(&[1, 2, 4, 6, 7]));
+    let (ab, ac, bc) = (record(&[1, 2, 3, 4, 7]), record(&[1, 2, 4, 5, 7]), record(&[1, 2, 4, 6, 7]));
     c.search(3, &three(&[ab, ab, ac]), 3, &[1; 8], 8, 8);
     c.search(3, &three(&[ab, ac, bc]), 3, &[1; 8], 9, 10);
     let own: Vec<u16> = (0..16).map(|a| [1, 2, 3, 4, 8, 15].contains(&a) as u16).collect();
-    c.search(4, &rec(&[1, 2, 3, 4, 8, 15]), 1, &own, 16, 16);
+    c.search(4, &record(&[1, 2, 3, 4, 8, 15]), 1, &own, 16, 16);
     let pair: Vec<u16> = (0..16).map(|a| (a == 3 || a == 12) as u16).collect();
     c.search(4, &crossed, 1, &pair, 16, 16);
-    c.search(1, &rec(&[1]), 1, &[1, 1], 2, 2);
-    c.search(1, &rec(&[1]), 1, &[0, 0], 3, 3);
-    c.search(2, &rec(&[1, 2, 3]), 1, &[0; 4], 4, 4);
-    let bad = rec(&[1, 2, 3, 5, 8, 15]);
+    c.search(1, &record(&[1]), 1, &[1, 1], 2, 2);
+    c.search(1, &record(&[1]), 1, &[0, 0], 3, 3);
+    c.search(2, &record(&[1, 2, 3]), 1, &[0; 4], 4, 4);
+    let bad = record(&[1, 2, 3, 5, 8, 15]);
     for first in [0, 1, 2, 255] {
         let mut allowed = [1u16; 17];
         allowed[0] = first;
@@ -198,7 +203,7 @@ fn search_borders(c: &mut Cases) {
 fn program_borders(c: &mut Cases) {
     for input in [
         &b"a b c\nall\n((a,b),c);\n((a,c),b);\n"[..], b"a b c d\nall\n(a,(b,(c,d)));\n(((a,c),b),d);\n(((a,d),b),c);", b"a b c d\ngenes\n(a,(b,(c,d)));\n(((a,c),b),d);\n(((a,d),b),c);",
-        b"a b c d\ngenes\n((a,b),c,d);", b"a b c d\ngenes\n((a,b),c,d);((a,b),(c,d));", b"a\nall\na;", b"a\ngenes\na;", b"", b"\n", b"a", b"a b", b"a b\n", b"a b\nall", b"a b\n all\n", b"a b\nall\r\n",
+        b"a b c d\ngenes\n((a,b),c,d);", b"a b c d\ngenes\n((a,b),c,d);((a,b),(c,d));", b"a\nall\na;", b"a\ngenes\na;", b"", b"\n", b"a", b"a b", b"a b\n", b"a b\nall", b"a b\nALL", b"a b\nallgenes", b"a b\nmost(a,b);", b"a  b\nmost", b"a b c d e f g h i j k l m\nmost", b"a b\n all\n", b"a b\nall\r\n",
         b"a b\nALL\n", b"a b\n\n", b"a b\nall\n", b"a b\ngenes\n \t\r\n", b"a b\nallgenes\n", b"a b\ngene\n", b"a b\ngenes \n", b"a  b\nall\n", b"a b\nall\n(a,b);(a,x);", b"a b\nall\n(a,b); a;", b"a b\nall\n(a,b)",
         b"a b c d e f g h i j k l m", b"a b c d e f g h i j k l m\nall\n", b"a b c d e f g h i j k l m n o p q\nall\n", b"a b\nall\n(a,b);;", b"a b\r\nall\n(a,b);",
         b"a b\nall\n(a,b):1234567890123;", b"a b\nall\n(a,b)abcdefghijklmnop;", b"a b\nall\n(b,a);(a,a);", b"a b\ngenes\n((a),b);", b"a b\nall\n((((((((((((((((a,b);",
@@ -216,87 +221,5 @@ fn program_borders(c: &mut Cases) {
         input.resize(size, b'\n');
         c.report(&input);
         c.report(&vec![b' '; size]);
-    }
-}
-
-/// Cases from the seed: good and damaged rosters, texts, records and inputs.
-fn drawn(c: &mut Cases) {
-    for _ in 0..400 {
-        let n = 1 + c.below(18);
-        let names = c.names(n);
-        let line = joined(&names);
-        let line = if c.one_in(2) { c.damaged(line) } else { line };
-        c.judge(&line);
-    }
-    for _ in 0..1500 {
-        let n = 1 + c.below(16);
-        let names = c.names(n);
-        // one in eight draws all species but the last, and one in eight the first in place of the last
-        let mut drawn = names.clone();
-        match c.below(8) {
-            0 if n > 1 => drop(drawn.pop()),
-            1 => drawn[n - 1] = names[0].clone(),
-            _ => (),
-        }
-        let good = c.text(&drawn);
-        let text = if c.one_in(4) { good } else { c.damaged(good) };
-        let before = c.below(4);
-        let text = [&b"(;)x"[..before], &text, b"(a"].concat();
-        c.read(&joined(&names), &text, before);
-    }
-    for _ in 0..400 {
-        let n = 1 + c.below(16);
-        let names = c.names(n);
-        let line = joined(&names);
-        let binary = c.one_in(2);
-        let good = c.gene(n, binary);
-        let r = if c.one_in(4) { c.spoiled(good) } else { good };
-        let length = names.iter().map(|name| name.len()).sum::<usize>() + 2 * good[0] as usize - n;
-        let out = (length + c.below(4)).saturating_sub(1);
-        c.write(&line, &r, out);
-    }
-    for _ in 0..300 {
-        let n = 1 + c.below(16);
-        let count = 1 + c.below(6);
-        let binary = c.one_in(2);
-        let mut genes: Vec<u16> = (0..count).flat_map(|_| c.gene(n, binary)).collect();
-        if c.one_in(6) {
-            let at = 32 * c.below(count);
-            let bad = c.spoiled(genes[at..at + 32].try_into().unwrap());
-            genes[at..at + 32].copy_from_slice(&bad);
-        }
-        let species = c.gene(n, true);
-        let species = if c.one_in(8) { c.spoiled(species) } else { species };
-        let cluster = if c.one_in(8) { c.below(1 << 17) } else { 1 + c.below((1 << n) - 1) };
-        c.weight(n, &genes, count, cluster);
-        c.score(n, &genes, count, &species);
-        if n <= 10 {
-            c.mark(n, &genes, count, (1 << n) + 3);
-        }
-    }
-    for _ in 0..250 {
-        let n = 1 + c.below(8);
-        let count = 1 + c.below(5);
-        let genes: Vec<u16> = (0..count).flat_map(|_| c.gene(n, false)).collect();
-        let dense = 1 + c.below(6);
-        let allowed: Vec<u16> = (0..1 << n).map(|_| if c.one_in(dense) { 1 } else { (dense == 1) as u16 }).collect();
-        c.search(n, &genes, count, &allowed, (1 << n) + 2, (1 << n) + 1);
-    }
-    for n in [12usize, 16] {
-        let genes: Vec<u16> = (0..20).flat_map(|_| c.gene(n, true)).collect();
-        c.search(n, &genes, 20, &vec![1; 1 << n], 1 << n, 1 << n);
-    }
-    for _ in 0..150 {
-        let n = 1 + c.below(6);
-        let names = c.names(n);
-        let mode = if c.one_in(2) { &b"\nall\n"[..] } else { b"\ngenes\n" };
-        let mut input = [&joined(&names), mode].concat();
-        for _ in 0..c.below(6) {
-            let text = c.text(&names);
-            input.extend_from_slice(&text);
-            c.blanks(&mut input);
-        }
-        let input = if c.one_in(3) { c.damaged(input) } else { input };
-        c.report(&input);
     }
 }

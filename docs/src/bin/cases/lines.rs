@@ -1,0 +1,105 @@
+//! The lines of the case file: a call with its fields, packed as README.md says.
+
+#[derive(Default)]
+pub struct Cases {
+    pub lines: Vec<Vec<u8>>,
+}
+
+impl Cases {
+    fn add(&mut self, call: u8, fields: &[Vec<u8>]) {
+        let mut line = vec![call];
+        line.extend(fields.join(&b'|'));
+        self.lines.push(line);
+    }
+
+    pub fn judge(&mut self, line: &[u8]) {
+        self.add(b'J', &[escaped(line)]);
+    }
+
+    pub fn read(&mut self, line: &[u8], text: &[u8], start: usize) {
+        self.add(b'R', &[escaped(line), escaped(text), decimal(start)]);
+    }
+
+    pub fn write(&mut self, line: &[u8], r: &[u16; 32], out: usize) {
+        self.add(b'W', &[escaped(line), numbers(r), decimal(out)]);
+    }
+
+    pub fn weight(&mut self, n: usize, genes: &[u16], count: usize, cluster: usize) {
+        self.add(b'K', &[decimal(n), numbers(genes), decimal(count), decimal(cluster)]);
+    }
+
+    pub fn score(&mut self, n: usize, genes: &[u16], count: usize, species: &[u16; 32]) {
+        self.add(b'S', &[decimal(n), numbers(genes), decimal(count), numbers(species)]);
+    }
+
+    pub fn mark(&mut self, n: usize, genes: &[u16], count: usize, out: usize) {
+        self.add(b'M', &[decimal(n), numbers(genes), decimal(count), decimal(out)]);
+    }
+
+    pub fn search(&mut self, n: usize, genes: &[u16], count: usize, allowed: &[u16], scores: usize, splits: usize) {
+        self.add(b'F', &[decimal(n), numbers(genes), decimal(count), numbers(allowed), decimal(scores), decimal(splits)]);
+    }
+
+    pub fn report(&mut self, input: &[u8]) {
+        self.add(b'P', &[escaped(input)]);
+    }
+}
+
+fn decimal(x: usize) -> Vec<u8> {
+    x.to_string().into_bytes()
+}
+
+/// Bytes in the form of the case file, with long runs of one byte folded.
+fn escaped(bytes: &[u8]) -> Vec<u8> {
+    let mut out = Vec::new();
+    let mut at = 0;
+    while at < bytes.len() {
+        let b = bytes[at];
+        if (33..127).contains(&b) && b != b'\\' && b != b'|' || b == b' ' {
+            out.push(b);
+        } else {
+            out.extend(format!("\\{b:02x}").bytes());
+        }
+        let same = bytes[at..].iter().take_while(|&&x| x == b).count();
+        if same > 8 {
+            out.extend(format!("\\*{}.", same - 1).bytes());
+            at += same;
+        } else {
+            at += 1;
+        }
+    }
+    out
+}
+
+/// Numbers in the form of the case file, with repeated numbers and repeated records folded.
+fn numbers(values: &[u16]) -> Vec<u8> {
+    let mut out = Vec::new();
+    let mut at = 0;
+    while at < values.len() {
+        if at % 32 == 0 && at >= 32 {
+            let record = &values[at - 32..at];
+            let same = values[at..].chunks(32).take_while(|c| *c == record).count();
+            if same > 0 {
+                out.extend(format!("#{same}").bytes());
+                at += 32 * same;
+                continue;
+            }
+        }
+        if !out.is_empty() {
+            out.push(b' ');
+        }
+        out.extend(values[at].to_string().bytes());
+        let end = (at / 32 + 1) * 32;
+        let same = values[at..values.len().min(if values.len() % 32 == 0 { end } else { usize::MAX })]
+            .iter()
+            .take_while(|&&x| x == values[at])
+            .count();
+        if same > 2 {
+            out.extend(format!("*{}", same - 1).bytes());
+            at += same;
+        } else {
+            at += 1;
+        }
+    }
+    out
+}
