@@ -3,7 +3,8 @@ use mathlib.Core.Path.{sym}
 use borrow.Author.Needs.{needs}
 use native.Mathlib.Omega.{arith}
 use Rattle.splits.proofs.LowParts.{low-some}
-use Rattle.splits.proofs.SplitChoice.{score-below, better-no-low, better-no-rest, better-less, better-more}
+use Rattle.splits.proofs.Recurrence.{better-no-low, better-no-rest, better-less, better-more}
+use Rattle.splits.proofs.SplitChoice.{score-below}
 use Rattle.splits.proofs.better.Statement.{statement}
 use Rattle.splits.proofs.better.Tie as tie
 
