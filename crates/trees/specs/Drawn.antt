@@ -41,12 +41,12 @@ children cs a = byLowest (maximal (keep (λ x. properly x a) cs))
 abbrev pub bare : Behind
 bare = record { name = []; distance = []; support = [] }
 
--- the node over a list of children; a list of fewer than two has none, and a leaf stands in
+-- the trees of a first cluster and of those behind it, in their order
 abbrev pub forestOver : (ℕ → Tree) → ℕ → List ℕ → Forest
 forestOver draw a [] = last (draw a)
 forestOver draw a (b ∷ l) = more (draw a) (forestOver draw b l)
 
--- the node over two or more children
+-- the node over two or more children; over fewer there is none, and the child, or a leaf, stands in
 abbrev pub nodeOver : (ℕ → Tree) → List ℕ → Tree
 nodeOver draw [] = leaf 0 bare
 nodeOver draw (a ∷ []) = draw a
