@@ -22,10 +22,14 @@ abbrev pub before : Bool → ℕ → ℕ → List ℕ → List ℕ → List ℕ
 before true x y l done = x ∷ y ∷ l
 before false x y l done = y ∷ done
 
+-- the lowest species of x is no higher than that of y
+abbrev pub lower : ℕ → ℕ → Bool
+lower x y = leb (lowest x) (lowest y)
+
 -- a cluster put in its place by lowest species
 unfoldable pub placed : ℕ → List ℕ → List ℕ
 placed x [] = x ∷ []
-placed x (y ∷ l) = before (leb (lowest x) (lowest y)) x y l (placed x l)
+placed x (y ∷ l) = before (lower x y) x y l (placed x l)
 
 -- "in rising order of their lowest species"
 unfoldable pub byLowest : List ℕ → List ℕ

@@ -26,10 +26,10 @@ add-if3 c =
     omega arith
 
 returns-3 : tie.Need-returns-3
-returns-3 c = sym (better-less _ _ _ _ (c .before .before .before .before .if1 .left) (c .before .before .if2 .left) (omega arith))
+returns-3 c = sym (better-less _ _ _ _ (c .before .before .before .if1 .left) (c .before .if2 .left) (omega arith))
 
 returns-4 : tie.Need-returns-4
-returns-4 c = sym (better-more _ _ _ _ (c .before .before .before .before .if1 .left) (c .before .before .if2 .left) (omega arith))
+returns-4 c = sym (better-more _ _ _ _ (c .before .before .before .if1 .left) (c .before .if2 .left) (omega arith))
 
 pub better-spec : {M : Type 1} → statement M
 better-spec =
