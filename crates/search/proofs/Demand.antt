@@ -18,7 +18,7 @@ use Rattle.trees.proofs.Bounds.{whole-below-sixteen}
 use Rattle.trees.proofs.Recorded.{record-among, among-record}
 use Rattle.weights.specs.Count.{weight, score}
 use Rattle.roster.specs.Verdict.{verdict}
-use Rattle.weights.proofs.Sums.{score-append}
+use Rattle.weights.proofs.Sums.{score-append, Reordered, score-reordered}
 use Rattle.splits.specs.BinaryTrees.{Binary, clustersIn}
 use Rattle.splits.specs.WellFormed.{TreeOn}
 use Rattle.splits.specs.Order.{Earlier}
@@ -227,6 +227,15 @@ pub more-gene-trees : {n : ℕ} {genes genes′ : List ℕ} {count count′ : �
     → Accepted n genes count allowed scores splits → Accepted n genes′ count′ allowed scores′ splits′
     → (r .number ≡ q .number) × (r .score ≤ q .score)
 more-gene-trees m = no-score-falls (score-more m)
+
+-- and in any order, the old ones too
+pub more-gene-trees-in-any-order :
+    {n : ℕ} {genes genes′ : List ℕ} {count count′ : ℕ} {allowed scores splits scores′ splits′ : List ℕ} {r q : Found} {s p s′ p′ : List ℕ} {all : List (List ℕ)}
+    → Sublist (recordsIn count genes) all → Reordered all (recordsIn count′ genes′)
+    → Finds n genes count allowed scores splits r s p → Finds n genes′ count′ allowed scores′ splits′ q s′ p′
+    → Accepted n genes count allowed scores splits → Accepted n genes′ count′ allowed scores′ splits′
+    → (r .number ≡ q .number) × (r .score ≤ q .score)
+more-gene-trees-in-any-order m o = no-score-falls (λ c. omega (arith, score-more m c, score-reordered c o))
 
 -- ---- source document 001, Lemma 2, for the tables of a call
 

@@ -3,7 +3,7 @@ use Prim.Native.Nat.{ℕ, zero, suc, _+_, _*_, _^_, _≤_, _<_}
 use mathlib.Core.Path.{_≡_, refl, sym, ap, ap₂, _∙_}
 use mathlib.Core.Logic.{_⊎_, _↔_}
 use mathlib.Core.Bool.{Bool, not}
-use mathlib.Core.List.{List, [], _∷_, map, List·Memᴰ·head as here, List·Memᴰ·tail as there}
+use mathlib.Core.List.{List, map}
 use native.Mathlib.Decide.{decLe}
 use native.Mathlib.Omega.{arith}
 use lib.Dec.{leb, ltb}
@@ -12,15 +12,16 @@ use lib.Seq.{getD-take, take-at, drop-at}
 use borrow.Author.Tests.{le-ltb, le-leb, lt-leb}
 use Rattle.clusters.specs.Sets.{whole}
 use Rattle.clusters.proofs.Sets.{within-le, whole-below}
-use Rattle.trees.specs.Lists.{Among, upTo}
+use Rattle.trees.specs.Lists.{upTo}
 use Rattle.trees.specs.Records.{recordsIn}
 use Rattle.trees.proofs.Lent.{records-needed, short-needed}
-use Rattle.trees.proofs.UpTo.{length-map-upTo, among-upTo}
+use Rattle.trees.proofs.UpTo.{length-map-upTo}
 use Rattle.roster.specs.Roster.{least, firstOr}
 use Rattle.roster.specs.Verdict.{verdict, lengthTest}
 use Rattle.weights.specs.Count.{weight}
 use Rattle.splits.specs.Least.{scoreEntry, splitEntry, best}
 use Rattle.tables.specs.Allowed.{allowedIn}
+use Rattle.tables.proofs.Written.{same-entries}
 use Rattle.solver.specs.Best.{bestFor}
 use Rattle.solver.specs.declared.Found.{Found}
 use Rattle.search.specs.Promise.{firstStrange, allowedTest, searchTests, filledBy, Finds}
@@ -62,20 +63,13 @@ least-same test other p zero h = refl
 least-same test other p (suc k) h =
     ap₂ (λ b m. firstOr b p m) (h p (omega arith) (omega arith)) (least-same test other (suc p) k (λ a l m. h a (omega arith) (omega arith)))
 
-map-same : (f g : ℕ → ℕ) (l : List ℕ) → ((a : ℕ) → Among a l → f a ≡ g a) → map f l ≡ map g l
-map-same f g [] h = refl
-map-same f g (x ∷ l) h = ap₂ _∷_ (h x (here refl)) (map-same f g l (λ a m. h a (there m)))
-
 leb-same : (x y m : ℕ) → (x ≤ m) ↔ (y ≤ m) → leb x m ≡ leb y m
-leb-same x y m h = go (decLe x m)
+leb-same x y m h = go (decLe x m) (decLe y m)
   where
-    go : Dec (x ≤ m) → leb x m ≡ leb y m
-    go (yes p) = le-leb x m p ∙ sym (le-leb y m (h .0 p))
-    go (no p) = lt-leb x m (omega arith) ∙ sym (lt-leb y m (go′ (decLe y m)))
-      where
-        go′ : Dec (y ≤ m) → m < y
-        go′ (yes q) = absurd (p (h .1 q))
-        go′ (no q) = omega arith
+    go : Dec (x ≤ m) → Dec (y ≤ m) → leb x m ≡ leb y m
+    go (yes p) d = le-leb x m p ∙ sym (le-leb y m (h .0 p))
+    go (no p) (yes q) = absurd (p (h .1 q))
+    go (no p) (no q) = lt-leb x m (omega arith) ∙ sym (lt-leb y m (omega arith))
 
 -- two tables that are filled with the same entries
 filled-same :
@@ -84,7 +78,7 @@ filled-same :
 filled-same n zero zero entry entry′ lent after lent′ after′ e e′ z z′ same = record {
   entries =
       ap (take (2 ^ n)) e ∙ take-at (map entry (upTo (2 ^ n))) (drop (2 ^ n) lent) (2 ^ n) (length-map-upTo entry (2 ^ n))
-      ∙ map-same entry entry′ (upTo (2 ^ n)) (λ a m. same a (among-upTo (2 ^ n) m))
+      ∙ same-entries entry entry′ (2 ^ n) same
       ∙ sym (ap (take (2 ^ n)) e′ ∙ take-at (map entry′ (upTo (2 ^ n))) (drop (2 ^ n) lent′) (2 ^ n) (length-map-upTo entry′ (2 ^ n)));
   beyond = ap (drop (2 ^ n)) e ∙ drop-at (map entry (upTo (2 ^ n))) (drop (2 ^ n) lent) (2 ^ n) (length-map-upTo entry (2 ^ n));
   beyond′ = ap (drop (2 ^ n)) e′ ∙ drop-at (map entry′ (upTo (2 ^ n))) (drop (2 ^ n) lent′) (2 ^ n) (length-map-upTo entry′ (2 ^ n));
