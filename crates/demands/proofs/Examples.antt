@@ -4,6 +4,7 @@ use mathlib.Core.Path.{_≡_, refl}
 use mathlib.Core.Bool.{true}
 use mathlib.Core.List.{List, [], _∷_}
 use lib.Count.{ones, onesIn, trailingZeros}
+use lib.ListN.{replicate}
 use Rattle.demands.specs.Examples.{Row}
 use Rattle.demands.specs.Examples.Row.{recorded, counted, scored, searched}
 use Rattle.demands.specs.Examples.Allowed.{every, own, only}
@@ -55,8 +56,8 @@ examples =
     let star : List ℕ = 40 ∷ 97 ∷ 44 ∷ 98 ∷ 44 ∷ 99 ∷ 44 ∷ 100 ∷ 41 ∷ 59 ∷ [] in
     -- `((a,b),c,d);`
     let ab-star : List ℕ = 40 ∷ 40 ∷ 97 ∷ 44 ∷ 98 ∷ 41 ∷ 44 ∷ 99 ∷ 44 ∷ 100 ∷ 41 ∷ 59 ∷ [] in
-    -- `((a,b),c);` | record 5, 1, 2, 3, 4, 7
-    recorded abc ab-c (1 ∷ 2 ∷ 3 ∷ 4 ∷ 7 ∷ [])
+    -- `((a,b),c);` | record 5, 1, 2, 3, 4, 7, and 26 zeros
+    recorded abc ab-c (5 ∷ 1 ∷ 2 ∷ 3 ∷ 4 ∷ 7 ∷ replicate 26 0)
     -- that tree, cluster 5 | k = 2
     ∷ counted abc ab-c 5 2
     -- that tree, cluster 7 | k = 1

@@ -1,10 +1,13 @@
--- "What the promises have to shut out": no function that meets a promise on all inputs is one of 01's wrong versions.
-use Prim.Native.Nat.{ℕ, _-_}
+-- "What the promises have to shut out": no function that meets a promise on all that a machine can hand over is one of 01's wrong versions there.
+use Prim.Native.Nat.{ℕ, _-_, _^_, _<_}
 use mathlib.Core.Path.{_≡_, refl, sym, ap, _∙_}
 use mathlib.Core.List.{List, [], _∷_, _++_}
+use mathlib.Core.Bool.{true}
 use native.Mathlib.Omega.{arith}
 use lib.Count.{ones, onesIn, trailingZeros}
+use lib.Dec.{ltb}
 use lib.ListN.{length, take, getD, replicate}
+use borrow.Author.Tests.{ltb-true}
 use Rattle.clusters.specs.Sets.{whole, single, union, has, within, apart, size, lowest}
 use Rattle.labels.specs.Bytes.{run}
 use Rattle.labels.specs.Labels.{word, padded}
@@ -30,6 +33,7 @@ use Rattle.lineages.specs.Promise.{marks, Weighs, Scores, Marks}
 use Rattle.splits.specs.BinaryTrees.{clustersIn, isLow, lows, each, forks, treesTo, treesOn}
 use Rattle.splits.specs.Least.{those, all, scoreOf, treesOver, leastTrees, best, noTree}
 use Rattle.tables.specs.Allowed.{allowedIn}
+use Rattle.search.proofs.BestTrees.{every-among}
 use Rattle.search.specs.Promise.{firstStrange, allowedTest, searchTests, Finds}
 use Rattle.solver.specs.Best.{bestFor}
 use Rattle.solver.specs.declared.Found.{Found}
@@ -39,6 +43,7 @@ use Rattle.report.specs.Input.{lineLength, firstLine, behindLine, endsInFeed, m
 use Rattle.report.specs.Program.{program}
 use Rattle.outcomes.specs.Outcome.{searched}
 use Rattle.report.specs.Promise.{output, Reports}
+use Rattle.demands.specs.Handed.{Slice, Bytes, AnyRecord, ToRead, ToWrite, GeneTrees, ToWeigh, ToScore, ToMark, ToSearch}
 
 -- ---- what is computed: small inputs and their replies
 
@@ -51,6 +56,10 @@ a-text = 97 ∷ 59 ∷ []
 
 a-record : List ℕ
 a-record = recordOf (1 ∷ [])
+
+-- two bytes to write into
+room : List ℕ
+room = 9 ∷ 9 ∷ []
 
 -- the records of `((a,b),c);` and `((a,c),b);`
 ab-c : List ℕ
@@ -76,8 +85,8 @@ unfolding a-line a-text a-record Reads ones onesIn trailingZeros whole single un
     nameAt names strayAt longAt manyAt againAt openAt faultAt least firstFault faulty keep some insert sorted recordOf cluster clusters
 read-a r p = p
 
-write-a : (r : Reply) (after : List ℕ) → Writes a-line a-record (0 ∷ 0 ∷ []) r after → (r ≡ record { number = 0; place = 0; value = 2 }) × (after ≡ a-text)
-unfolding a-line a-text a-record ones onesIn trailingZeros whole single union has within apart size lowest run word upTo same position begins
+write-a : (r : Reply) (after : List ℕ) → Writes a-line a-record room r after → (r ≡ record { number = 0; place = 0; value = 2 }) × (after ≡ a-text)
+unfolding a-line a-text a-record room ones onesIn trailingZeros whole single union has within apart size lowest run word upTo same position begins
     beginnings nameAt names strayAt longAt manyAt againAt openAt faultAt least firstFault faulty keep some insert sorted recordOf cluster every among
     rising singlesFrom nested valid properly maximal placed byLowest children drawnTo drawn treeText written nodeText verdict lengthTest rosterTest
     recordTest writeTests
@@ -109,8 +118,8 @@ unfolding ab-c ac-b Scores scoreTests speciesRecordTest ones onesIn trailingZero
     speciesTest countTest firstBad recordsTest
 score-unlike r p = p
 
-mark-one : (r : Reply) (after : List ℕ) → Marks 1 a-record 1 (9 ∷ 9 ∷ []) r after → (r ≡ record { number = 0; place = 0; value = 0 }) × (after ≡ 0 ∷ 1 ∷ [])
-unfolding a-record markTests shown marks upTo ones onesIn trailingZeros whole single union has within apart size lowest keep some insert sorted
+mark-one : (r : Reply) (after : List ℕ) → Marks 1 a-record 1 room r after → (r ≡ record { number = 0; place = 0; value = 0 }) × (after ≡ 0 ∷ 1 ∷ [])
+unfolding a-record room markTests shown marks upTo ones onesIn trailingZeros whole single union has within apart size lowest keep some insert sorted
     recordOf properly maximal every among rising singlesFrom nested valid binary verdict lengthTest kOf extra total weight score pieces speciesTest
     countTest firstBad recordsTest
 mark-one r after p = (p .reply, p .bytes)
@@ -165,197 +174,311 @@ unfolding lineLength firstLine behindLine endsInFeed modePlace treesPlace gather
     beginnings nameAt names strayAt longAt manyAt againAt openAt faultAt firstFault faulty cluster clusters upTo least keep
 no-output = refl
 
+-- ---- these inputs can be handed over
+
+-- seen by computing
+slice-told : (bound : ℕ) (l : List ℕ) → every (λ x. ltb x bound) l ≡ true → length l < 65536 → Slice bound l
+slice-told bound l e h = record { below = λ x m. ltb-true x bound (every-among (λ x. ltb x bound) l e x m); long = omega arith }
+
+a-line-handed : Bytes a-line
+unfolding a-line every
+a-line-handed = slice-told (2 ^ 8) a-line refl (omega arith)
+
+a-text-handed : Bytes a-text
+unfolding a-text every
+a-text-handed = slice-told (2 ^ 8) a-text refl (omega arith)
+
+a-record-handed : AnyRecord a-record
+unfolding a-record recordOf sorted insert every
+a-record-handed = record { numbers = slice-told (2 ^ 16) a-record refl (omega arith); thirty-two = refl }
+
+ab-c-handed : AnyRecord ab-c
+unfolding ab-c recordOf sorted insert every
+ab-c-handed = record { numbers = slice-told (2 ^ 16) ab-c refl (omega arith); thirty-two = refl }
+
+to-read-a : ToRead a-line a-text 0
+to-read-a = record { line-bytes = a-line-handed; text-bytes = a-text-handed; start-size = omega arith }
+
+room-handed : Bytes room
+unfolding room every
+room-handed = slice-told (2 ^ 8) room refl (omega arith)
+
+to-write-a : ToWrite a-line a-record room
+to-write-a = record { line-bytes = a-line-handed; tree-record = a-record-handed; out-bytes = room-handed }
+
+alike-handed : GeneTrees 3 (ab-c ++ ab-c) 2
+unfolding ab-c recordOf sorted insert every
+alike-handed = record {
+  species-size = omega arith;
+  genes-numbers = slice-told (2 ^ 16) (ab-c ++ ab-c) refl (omega arith);
+  count-size = omega arith;
+}
+
+unlike-handed : GeneTrees 3 (ab-c ++ ac-b) 2
+unfolding ab-c ac-b recordOf sorted insert every
+unlike-handed = record {
+  species-size = omega arith;
+  genes-numbers = slice-told (2 ^ 16) (ab-c ++ ac-b) refl (omega arith);
+  count-size = omega arith;
+}
+
+to-mark-one : ToMark 1 a-record 1 room
+to-mark-one = record {
+  gene-trees = record { species-size = omega arith; genes-numbers = a-record-handed .numbers; count-size = omega arith };
+  out-bytes = room-handed;
+}
+
+-- a search on three species with every cluster allowed
+to-search : (genes : List ℕ) (count : ℕ) → GeneTrees 3 genes count → ToSearch 3 genes count every-cluster lent lent
+unfolding every-cluster lent every
+to-search genes count h = record {
+  gene-trees = h;
+  allowed-bytes = slice-told (2 ^ 8) every-cluster refl (omega arith);
+  scores-numbers = slice-told (2 ^ 32) lent refl (omega arith);
+  splits-numbers = slice-told (2 ^ 16) lent refl (omega arith);
+}
+
+to-search-ab-c : ToSearch 3 ab-c 1 every-cluster lent lent
+to-search-ab-c = to-search ab-c 1 (record { species-size = omega arith; genes-numbers = ab-c-handed .numbers; count-size = omega arith })
+
+to-search-ac-b : ToSearch 3 ac-b 1 every-cluster lent lent
+unfolding ac-b recordOf sorted insert every
+to-search-ac-b = to-search ac-b 1 (record { species-size = omega arith; genes-numbers = slice-told (2 ^ 16) ac-b refl (omega arith); count-size = omega arith })
+
+to-search-both : ToSearch 3 (ab-c ++ ac-b) 2 every-cluster lent lent
+to-search-both = to-search (ab-c ++ ac-b) 2 unlike-handed
+
+a-input-handed : Bytes a-input
+unfolding a-input every
+a-input-handed = slice-told (2 ^ 8) a-input refl (omega arith)
+
+no-input-handed : Bytes []
+unfolding every
+no-input-handed = slice-told (2 ^ 8) [] refl (omega arith)
+
 -- ---- the roster
 
-module _ (f : List ℕ → Reply) (meets : (line : List ℕ) → Judged line (f line)) where
+module _ (f : List ℕ → Reply) (meets : (line : List ℕ) → Bytes line → Judged line (f line)) where
   -- "one that turns everything away"
-  pub judge-does-not-refuse-all : ((line : List ℕ) → f line .number ≡ 0 → ⊥) → ⊥
-  judge-does-not-refuse-all away = away a-line (ap (λ (r : Reply). r .number) (judge-a (f a-line) (meets a-line)))
+  pub judge-does-not-refuse-all : ((line : List ℕ) → Bytes line → f line .number ≡ 0 → ⊥) → ⊥
+  judge-does-not-refuse-all away = away a-line a-line-handed (ap (λ (r : Reply). r .number) (judge-a (f a-line) (meets a-line a-line-handed)))
 
 -- ---- reading
 
-module _ (f : List ℕ → List ℕ → ℕ → Reading) (meets : (line text : List ℕ) (start : ℕ) → Reads line text start (f line text start)) where
+module _ (f : List ℕ → List ℕ → ℕ → Reading)
+    (meets : (line text : List ℕ) (start : ℕ) → ToRead line text start → Reads line text start (f line text start)) where
+  read-of-a : f a-line a-text 0 ≡ record { number = 0; place = 0; next = 2; numbers = a-record }
+  read-of-a = read-a (f a-line a-text 0) (meets a-line a-text 0 to-read-a)
+
   -- "one that turns everything away (demand 2 for reading ..)"
-  pub read-does-not-refuse-all : ((line text : List ℕ) (start : ℕ) → f line text start .number ≡ 0 → ⊥) → ⊥
-  read-does-not-refuse-all away = away a-line a-text 0 (ap (λ (r : Reading). r .number) (read-a (f a-line a-text 0) (meets a-line a-text 0)))
+  pub read-does-not-refuse-all : ((line text : List ℕ) (start : ℕ) → ToRead line text start → f line text start .number ≡ 0 → ⊥) → ⊥
+  read-does-not-refuse-all away = away a-line a-text 0 to-read-a (ap (λ (r : Reading). r .number) read-of-a)
 
   -- "one that does nothing": it reads no byte
-  pub read-does-something : ((line text : List ℕ) (start : ℕ) → f line text start .next ≡ start) → ⊥
-  read-does-something stays =
-      omega (arith, ap (λ (r : Reading). r .next) (read-a (f a-line a-text 0) (meets a-line a-text 0)), stays a-line a-text 0)
+  pub read-does-something : ((line text : List ℕ) (start : ℕ) → ToRead line text start → f line text start .next ≡ start) → ⊥
+  read-does-something stays = omega (arith, ap (λ (r : Reading). r .next) read-of-a, stays a-line a-text 0 to-read-a)
 
 -- ---- writing
 
 module _ (f : List ℕ → List ℕ → List ℕ → Reply) (after : List ℕ → List ℕ → List ℕ → List ℕ)
-    (meets : (line tree out : List ℕ) → Writes line tree out (f line tree out) (after line tree out)) where
+    (meets : (line tree out : List ℕ) → ToWrite line tree out → Writes line tree out (f line tree out) (after line tree out)) where
+  written-a : (f a-line a-record room ≡ record { number = 0; place = 0; value = 2 }) × (after a-line a-record room ≡ a-text)
+  written-a = write-a (f a-line a-record room) (after a-line a-record room) (meets a-line a-record room to-write-a)
+
   -- "one that turns everything away"
-  pub write-does-not-refuse-all : ((line tree out : List ℕ) → f line tree out .number ≡ 0 → ⊥) → ⊥
-  write-does-not-refuse-all away =
-      let room : List ℕ = 0 ∷ 0 ∷ [] in
-      away a-line a-record room
-      (ap (λ (r : Reply). r .number) (write-a (f a-line a-record room) (after a-line a-record room) (meets a-line a-record room) .0))
+  pub write-does-not-refuse-all : ((line tree out : List ℕ) → ToWrite line tree out → f line tree out .number ≡ 0 → ⊥) → ⊥
+  write-does-not-refuse-all away = away a-line a-record room to-write-a (ap (λ (r : Reply). r .number) (written-a .0))
 
   -- "one that does nothing (1, which fixes every buffer)": it leaves the lent bytes as they were
-  pub write-does-something : ((line tree out : List ℕ) → after line tree out ≡ out) → ⊥
-  unfolding a-text
-  write-does-something keeps =
-      let room : List ℕ = 0 ∷ 0 ∷ [] in
-      let e = write-a (f a-line a-record room) (after a-line a-record room) (meets a-line a-record room) .1 in
-      let k = keeps a-line a-record room in
-      omega (arith, ap (λ (l : List ℕ). getD l 0 0) (sym e ∙ k))
+  pub write-does-something : ((line tree out : List ℕ) → ToWrite line tree out → after line tree out ≡ out) → ⊥
+  unfolding a-text room
+  write-does-something keeps = omega (arith, ap (λ (l : List ℕ). getD l 0 0) (sym (written-a .1) ∙ keeps a-line a-record room to-write-a))
 
 -- ---- the weight
 
-module _ (f : ℕ → List ℕ → ℕ → ℕ → Reply) (meets : (n : ℕ) (genes : List ℕ) (count a : ℕ) → Weighs n genes count a (f n genes count a)) where
+module _ (f : ℕ → List ℕ → ℕ → ℕ → Reply)
+    (meets : (n : ℕ) (genes : List ℕ) (count a : ℕ) → ToWeigh n genes count a → Weighs n genes count a (f n genes count a)) where
+  to-weigh-alike : ToWeigh 3 (ab-c ++ ab-c) 2 3
+  to-weigh-alike = record { gene-trees = alike-handed; cluster-size = omega arith }
+
+  to-weigh-unlike : ToWeigh 3 (ab-c ++ ac-b) 2 3
+  to-weigh-unlike = record { gene-trees = unlike-handed; cluster-size = omega arith }
+
+  weighed-alike : f 3 (ab-c ++ ab-c) 2 3 ≡ record { number = 0; place = 0; value = 0 }
+  weighed-alike = weigh-alike (f 3 (ab-c ++ ab-c) 2 3) (meets 3 (ab-c ++ ab-c) 2 3 to-weigh-alike)
+
+  weighed-unlike : f 3 (ab-c ++ ac-b) 2 3 ≡ record { number = 0; place = 0; value = 1 }
+  weighed-unlike = weigh-unlike (f 3 (ab-c ++ ac-b) 2 3) (meets 3 (ab-c ++ ac-b) 2 3 to-weigh-unlike)
+
   -- "one that turns everything away"
-  pub weight-does-not-refuse-all : ((n : ℕ) (genes : List ℕ) (count a : ℕ) → f n genes count a .number ≡ 0 → ⊥) → ⊥
-  weight-does-not-refuse-all away = away 3 (ab-c ++ ab-c) 2 3 (ap (λ (r : Reply). r .number) (weigh-alike (f 3 (ab-c ++ ab-c) 2 3) (meets 3 (ab-c ++ ab-c) 2 3)))
+  pub weight-does-not-refuse-all : ((n : ℕ) (genes : List ℕ) (count a : ℕ) → ToWeigh n genes count a → f n genes count a .number ≡ 0 → ⊥) → ⊥
+  weight-does-not-refuse-all away = away 3 (ab-c ++ ab-c) 2 3 to-weigh-alike (ap (λ (r : Reply). r .number) weighed-alike)
 
   -- "one that counts the first gene tree and passes over the others (2's sum over all)"
   pub weight-counts-every-gene-tree :
-      ((n : ℕ) (genes genes′ : List ℕ) (count a : ℕ) → take 32 genes ≡ take 32 genes′ → f n genes count a .number ≡ 0 → f n genes′ count a .number ≡ 0
-      → f n genes count a .value ≡ f n genes′ count a .value) → ⊥
+      ((n : ℕ) (genes genes′ : List ℕ) (count a : ℕ) → ToWeigh n genes count a → ToWeigh n genes′ count a → take 32 genes ≡ take 32 genes′
+      → f n genes count a .number ≡ 0 → f n genes′ count a .number ≡ 0 → f n genes count a .value ≡ f n genes′ count a .value) → ⊥
   unfolding ab-c ac-b recordOf sorted insert
   weight-counts-every-gene-tree first-only =
-      let x = weigh-alike (f 3 (ab-c ++ ab-c) 2 3) (meets 3 (ab-c ++ ab-c) 2 3) in
-      let y = weigh-unlike (f 3 (ab-c ++ ac-b) 2 3) (meets 3 (ab-c ++ ac-b) 2 3) in
-      let e = first-only 3 (ab-c ++ ab-c) (ab-c ++ ac-b) 2 3 refl (ap (λ (r : Reply). r .number) x) (ap (λ (r : Reply). r .number) y) in
-      omega (arith, ap (λ (r : Reply). r .value) x, ap (λ (r : Reply). r .value) y, e)
+      let e = first-only 3 (ab-c ++ ab-c) (ab-c ++ ac-b) 2 3 to-weigh-alike to-weigh-unlike refl
+      (ap (λ (r : Reply). r .number) weighed-alike) (ap (λ (r : Reply). r .number) weighed-unlike) in
+      omega (arith, ap (λ (r : Reply). r .value) weighed-alike, ap (λ (r : Reply). r .value) weighed-unlike, e)
 
   -- "one that reports an invented" number: the same for all
-  pub weight-is-not-invented : (w : ℕ) → ((n : ℕ) (genes : List ℕ) (count a : ℕ) → f n genes count a .number ≡ 0 → f n genes count a .value ≡ w) → ⊥
+  pub weight-is-not-invented :
+      (w : ℕ) → ((n : ℕ) (genes : List ℕ) (count a : ℕ) → ToWeigh n genes count a → f n genes count a .number ≡ 0 → f n genes count a .value ≡ w) → ⊥
   weight-is-not-invented w always =
-      let x = weigh-alike (f 3 (ab-c ++ ab-c) 2 3) (meets 3 (ab-c ++ ab-c) 2 3) in
-      let y = weigh-unlike (f 3 (ab-c ++ ac-b) 2 3) (meets 3 (ab-c ++ ac-b) 2 3) in
-      let e = always 3 (ab-c ++ ab-c) 2 3 (ap (λ (r : Reply). r .number) x) in
-      let d = always 3 (ab-c ++ ac-b) 2 3 (ap (λ (r : Reply). r .number) y) in
-      omega (arith, ap (λ (r : Reply). r .value) x, ap (λ (r : Reply). r .value) y, e, d)
+      let e = always 3 (ab-c ++ ab-c) 2 3 to-weigh-alike (ap (λ (r : Reply). r .number) weighed-alike) in
+      let d = always 3 (ab-c ++ ac-b) 2 3 to-weigh-unlike (ap (λ (r : Reply). r .number) weighed-unlike) in
+      omega (arith, ap (λ (r : Reply). r .value) weighed-alike, ap (λ (r : Reply). r .value) weighed-unlike, e, d)
 
 -- ---- the score
 
 module _
     (f : ℕ → List ℕ → ℕ → List ℕ → Reply)
-    (meets : (n : ℕ) (genes : List ℕ) (count : ℕ) (species : List ℕ) → Scores n genes count species (f n genes count species))
+    (meets : (n : ℕ) (genes : List ℕ) (count : ℕ) (species : List ℕ) → ToScore n genes count species → Scores n genes count species (f n genes count species))
   where
+    to-score-alike : ToScore 3 (ab-c ++ ab-c) 2 ab-c
+    to-score-alike = record { gene-trees = alike-handed; species-record = ab-c-handed }
+
+    to-score-unlike : ToScore 3 (ab-c ++ ac-b) 2 ab-c
+    to-score-unlike = record { gene-trees = unlike-handed; species-record = ab-c-handed }
+
+    scored-alike : f 3 (ab-c ++ ab-c) 2 ab-c ≡ record { number = 0; place = 0; value = 0 }
+    scored-alike = score-alike (f 3 (ab-c ++ ab-c) 2 ab-c) (meets 3 (ab-c ++ ab-c) 2 ab-c to-score-alike)
+
+    scored-unlike : f 3 (ab-c ++ ac-b) 2 ab-c ≡ record { number = 0; place = 0; value = 1 }
+    scored-unlike = score-unlike (f 3 (ab-c ++ ac-b) 2 ab-c) (meets 3 (ab-c ++ ac-b) 2 ab-c to-score-unlike)
+
     -- "one that turns everything away (demand 2 for .. scoring)"
-    pub score-does-not-refuse-all : ((n : ℕ) (genes : List ℕ) (count : ℕ) (species : List ℕ) → f n genes count species .number ≡ 0 → ⊥) → ⊥
-    score-does-not-refuse-all away =
-        away 3 (ab-c ++ ab-c) 2 ab-c (ap (λ (r : Reply). r .number) (score-alike (f 3 (ab-c ++ ab-c) 2 ab-c) (meets 3 (ab-c ++ ab-c) 2 ab-c)))
+    pub score-does-not-refuse-all :
+        ((n : ℕ) (genes : List ℕ) (count : ℕ) (species : List ℕ) → ToScore n genes count species → f n genes count species .number ≡ 0 → ⊥) → ⊥
+    score-does-not-refuse-all away = away 3 (ab-c ++ ab-c) 2 ab-c to-score-alike (ap (λ (r : Reply). r .number) scored-alike)
 
     -- "one that counts the first gene tree and passes over the others (2's sum over all)"
     pub score-counts-every-gene-tree :
-        ((n : ℕ) (genes genes′ : List ℕ) (count : ℕ) (species : List ℕ) → take 32 genes ≡ take 32 genes′
-        → f n genes count species .number ≡ 0 → f n genes′ count species .number ≡ 0 → f n genes count species .value ≡ f n genes′ count species .value) → ⊥
+        ((n : ℕ) (genes genes′ : List ℕ) (count : ℕ) (species : List ℕ) → ToScore n genes count species → ToScore n genes′ count species
+        → take 32 genes ≡ take 32 genes′ → f n genes count species .number ≡ 0 → f n genes′ count species .number ≡ 0
+        → f n genes count species .value ≡ f n genes′ count species .value) → ⊥
     unfolding ab-c ac-b recordOf sorted insert
     score-counts-every-gene-tree first-only =
-        let x = score-alike (f 3 (ab-c ++ ab-c) 2 ab-c) (meets 3 (ab-c ++ ab-c) 2 ab-c) in
-        let y = score-unlike (f 3 (ab-c ++ ac-b) 2 ab-c) (meets 3 (ab-c ++ ac-b) 2 ab-c) in
-        let e = first-only 3 (ab-c ++ ab-c) (ab-c ++ ac-b) 2 ab-c refl (ap (λ (r : Reply). r .number) x) (ap (λ (r : Reply). r .number) y) in
-        omega (arith, ap (λ (r : Reply). r .value) x, ap (λ (r : Reply). r .value) y, e)
+        let e = first-only 3 (ab-c ++ ab-c) (ab-c ++ ac-b) 2 ab-c to-score-alike to-score-unlike refl
+        (ap (λ (r : Reply). r .number) scored-alike) (ap (λ (r : Reply). r .number) scored-unlike) in
+        omega (arith, ap (λ (r : Reply). r .value) scored-alike, ap (λ (r : Reply). r .value) scored-unlike, e)
 
     -- "one that reports an invented score (2)": the same for all trees
     pub score-is-not-invented :
-        (c : ℕ) → ((n : ℕ) (genes : List ℕ) (count : ℕ) (species : List ℕ) → f n genes count species .number ≡ 0 → f n genes count species .value ≡ c) → ⊥
+        (c : ℕ)
+        → ((n : ℕ) (genes : List ℕ) (count : ℕ) (species : List ℕ) → ToScore n genes count species → f n genes count species .number ≡ 0
+        → f n genes count species .value ≡ c) → ⊥
     score-is-not-invented c always =
-        let x = score-alike (f 3 (ab-c ++ ab-c) 2 ab-c) (meets 3 (ab-c ++ ab-c) 2 ab-c) in
-        let y = score-unlike (f 3 (ab-c ++ ac-b) 2 ab-c) (meets 3 (ab-c ++ ac-b) 2 ab-c) in
-        let e = always 3 (ab-c ++ ab-c) 2 ab-c (ap (λ (r : Reply). r .number) x) in
-        let d = always 3 (ab-c ++ ac-b) 2 ab-c (ap (λ (r : Reply). r .number) y) in
-        omega (arith, ap (λ (r : Reply). r .value) x, ap (λ (r : Reply). r .value) y, e, d)
+        let e = always 3 (ab-c ++ ab-c) 2 ab-c to-score-alike (ap (λ (r : Reply). r .number) scored-alike) in
+        let d = always 3 (ab-c ++ ac-b) 2 ab-c to-score-unlike (ap (λ (r : Reply). r .number) scored-unlike) in
+        omega (arith, ap (λ (r : Reply). r .value) scored-alike, ap (λ (r : Reply). r .value) scored-unlike, e, d)
 
 -- ---- marking
 
 module _ (f : ℕ → List ℕ → ℕ → List ℕ → Reply) (after : ℕ → List ℕ → ℕ → List ℕ → List ℕ)
-    (meets : (n : ℕ) (genes : List ℕ) (count : ℕ) (out : List ℕ) → Marks n genes count out (f n genes count out) (after n genes count out)) where
+    (meets : (n : ℕ) (genes : List ℕ) (count : ℕ) (out : List ℕ) → ToMark n genes count out
+    → Marks n genes count out (f n genes count out) (after n genes count out)) where
+  marked-one : (f 1 a-record 1 room ≡ record { number = 0; place = 0; value = 0 }) × (after 1 a-record 1 room ≡ 0 ∷ 1 ∷ [])
+  marked-one = mark-one (f 1 a-record 1 room) (after 1 a-record 1 room) (meets 1 a-record 1 room to-mark-one)
+
   -- "one that turns everything away"
-  pub mark-does-not-refuse-all : ((n : ℕ) (genes : List ℕ) (count : ℕ) (out : List ℕ) → f n genes count out .number ≡ 0 → ⊥) → ⊥
-  mark-does-not-refuse-all away =
-      let room : List ℕ = 9 ∷ 9 ∷ [] in
-      away 1 a-record 1 room (ap (λ (r : Reply). r .number) (mark-one (f 1 a-record 1 room) (after 1 a-record 1 room) (meets 1 a-record 1 room) .0))
+  pub mark-does-not-refuse-all :
+      ((n : ℕ) (genes : List ℕ) (count : ℕ) (out : List ℕ) → ToMark n genes count out → f n genes count out .number ≡ 0 → ⊥) → ⊥
+  mark-does-not-refuse-all away = away 1 a-record 1 room to-mark-one (ap (λ (r : Reply). r .number) (marked-one .0))
 
   -- "one that does nothing (1, which fixes every buffer)": it leaves the lent bytes as they were
-  pub mark-does-something : ((n : ℕ) (genes : List ℕ) (count : ℕ) (out : List ℕ) → after n genes count out ≡ out) → ⊥
-  mark-does-something keeps =
-      let room : List ℕ = 9 ∷ 9 ∷ [] in
-      let e = mark-one (f 1 a-record 1 room) (after 1 a-record 1 room) (meets 1 a-record 1 room) .1 in
-      omega (arith, ap (λ (l : List ℕ). getD l 0 0) (sym e ∙ keeps 1 a-record 1 room))
+  pub mark-does-something : ((n : ℕ) (genes : List ℕ) (count : ℕ) (out : List ℕ) → ToMark n genes count out → after n genes count out ≡ out) → ⊥
+  unfolding room
+  mark-does-something keeps = omega (arith, ap (λ (l : List ℕ). getD l 0 0) (sym (marked-one .1) ∙ keeps 1 a-record 1 room to-mark-one))
 
 -- ---- the search
 
 module _ (f : ℕ → List ℕ → ℕ → List ℕ → List ℕ → List ℕ → Found) (s p : ℕ → List ℕ → ℕ → List ℕ → List ℕ → List ℕ → List ℕ)
-    (meets : (n : ℕ) (genes : List ℕ) (count : ℕ) (allowed scores splits : List ℕ)
+    (meets : (n : ℕ) (genes : List ℕ) (count : ℕ) (allowed scores splits : List ℕ) → ToSearch n genes count allowed scores splits
     → Finds n genes count allowed scores splits (f n genes count allowed scores splits) (s n genes count allowed scores splits) (p n genes count allowed scores splits)) where
   found-ab-c : f 3 ab-c 1 every-cluster lent lent ≡ record { number = 0; place = 0; score = 0; numbers = ab-c }
-  found-ab-c = find-ab-c _ _ _ (meets 3 ab-c 1 every-cluster lent lent)
+  found-ab-c = find-ab-c _ _ _ (meets 3 ab-c 1 every-cluster lent lent to-search-ab-c)
 
   found-ac-b : f 3 ac-b 1 every-cluster lent lent ≡ record { number = 0; place = 0; score = 0; numbers = ac-b }
-  found-ac-b = find-ac-b _ _ _ (meets 3 ac-b 1 every-cluster lent lent)
+  found-ac-b = find-ac-b _ _ _ (meets 3 ac-b 1 every-cluster lent lent to-search-ac-b)
+
+  found-both : f 3 (ab-c ++ ac-b) 2 every-cluster lent lent ≡ record { number = 0; place = 0; score = 1; numbers = ab-c }
+  found-both = find-both _ _ _ (meets 3 (ab-c ++ ac-b) 2 every-cluster lent lent to-search-both)
 
   -- "one that turns everything away (.. the exactly-when of 3 for searching)": by 14 or by any number
   pub search-does-not-refuse-all :
-      ((n : ℕ) (genes : List ℕ) (count : ℕ) (allowed scores splits : List ℕ) → f n genes count allowed scores splits .number ≡ 0 → ⊥) → ⊥
-  search-does-not-refuse-all away = away 3 ab-c 1 every-cluster lent lent (ap (λ (r : Found). r .number) found-ab-c)
+      ((n : ℕ) (genes : List ℕ) (count : ℕ) (allowed scores splits : List ℕ) → ToSearch n genes count allowed scores splits
+      → f n genes count allowed scores splits .number ≡ 0 → ⊥) → ⊥
+  search-does-not-refuse-all away = away 3 ab-c 1 every-cluster lent lent to-search-ab-c (ap (λ (r : Found). r .number) found-ab-c)
 
   -- "one that returns one fixed tree (3's least score)"
   pub search-has-no-fixed-tree :
       (tree : List ℕ)
-      → ((n : ℕ) (genes : List ℕ) (count : ℕ) (allowed scores splits : List ℕ) → f n genes count allowed scores splits .number ≡ 0
-      → f n genes count allowed scores splits .numbers ≡ tree) → ⊥
+      → ((n : ℕ) (genes : List ℕ) (count : ℕ) (allowed scores splits : List ℕ) → ToSearch n genes count allowed scores splits
+      → f n genes count allowed scores splits .number ≡ 0 → f n genes count allowed scores splits .numbers ≡ tree) → ⊥
   unfolding ab-c ac-b recordOf sorted insert
   search-has-no-fixed-tree tree fixed =
-      let x = fixed 3 ab-c 1 every-cluster lent lent (ap (λ (r : Found). r .number) found-ab-c) in
-      let y = fixed 3 ac-b 1 every-cluster lent lent (ap (λ (r : Found). r .number) found-ac-b) in
+      let x = fixed 3 ab-c 1 every-cluster lent lent to-search-ab-c (ap (λ (r : Found). r .number) found-ab-c) in
+      let y = fixed 3 ac-b 1 every-cluster lent lent to-search-ac-b (ap (λ (r : Found). r .number) found-ac-b) in
       let e : ab-c ≡ ac-b = sym (ap (λ (r : Found). r .numbers) found-ab-c) ∙ x ∙ sym y ∙ ap (λ (r : Found). r .numbers) found-ac-b in
       omega (arith, ap (λ (l : List ℕ). getD l 3 0) e)
 
   -- "one that does nothing (1, which fixes every buffer ..)": it leaves both tables as they were lent
   pub search-fills-the-score-table :
-      ((n : ℕ) (genes : List ℕ) (count : ℕ) (allowed scores splits : List ℕ) → s n genes count allowed scores splits ≡ scores) → ⊥
+      ((n : ℕ) (genes : List ℕ) (count : ℕ) (allowed scores splits : List ℕ) → ToSearch n genes count allowed scores splits
+      → s n genes count allowed scores splits ≡ scores) → ⊥
   unfolding lent
   search-fills-the-score-table keeps =
-      let e = find-tables _ _ _ (meets 3 ab-c 1 every-cluster lent lent) .0 in
-      omega (arith, ap (λ (l : List ℕ). getD l 0 0) (sym e ∙ keeps 3 ab-c 1 every-cluster lent lent))
+      let e = find-tables _ _ _ (meets 3 ab-c 1 every-cluster lent lent to-search-ab-c) .0 in
+      omega (arith, ap (λ (l : List ℕ). getD l 0 0) (sym e ∙ keeps 3 ab-c 1 every-cluster lent lent to-search-ab-c))
 
   pub search-fills-the-split-table :
-      ((n : ℕ) (genes : List ℕ) (count : ℕ) (allowed scores splits : List ℕ) → p n genes count allowed scores splits ≡ splits) → ⊥
+      ((n : ℕ) (genes : List ℕ) (count : ℕ) (allowed scores splits : List ℕ) → ToSearch n genes count allowed scores splits
+      → p n genes count allowed scores splits ≡ splits) → ⊥
   unfolding lent
   search-fills-the-split-table keeps =
-      let e = find-tables _ _ _ (meets 3 ab-c 1 every-cluster lent lent) .1 in
-      omega (arith, ap (λ (l : List ℕ). getD l 0 0) (sym e ∙ keeps 3 ab-c 1 every-cluster lent lent))
+      let e = find-tables _ _ _ (meets 3 ab-c 1 every-cluster lent lent to-search-ab-c) .1 in
+      omega (arith, ap (λ (l : List ℕ). getD l 0 0) (sym e ∙ keeps 3 ab-c 1 every-cluster lent lent to-search-ab-c))
 
   -- "one that does nothing (.. 3's least score)", "one that reports an invented score": the same for all
   pub search-has-no-invented-score :
       (c : ℕ)
-      → ((n : ℕ) (genes : List ℕ) (count : ℕ) (allowed scores splits : List ℕ) → f n genes count allowed scores splits .number ≡ 0
-      → f n genes count allowed scores splits .score ≡ c) → ⊥
+      → ((n : ℕ) (genes : List ℕ) (count : ℕ) (allowed scores splits : List ℕ) → ToSearch n genes count allowed scores splits
+      → f n genes count allowed scores splits .number ≡ 0 → f n genes count allowed scores splits .score ≡ c) → ⊥
   search-has-no-invented-score c always =
-      let y = find-both _ _ _ (meets 3 (ab-c ++ ac-b) 2 every-cluster lent lent) in
-      let e = always 3 ab-c 1 every-cluster lent lent (ap (λ (r : Found). r .number) found-ab-c) in
-      let d = always 3 (ab-c ++ ac-b) 2 every-cluster lent lent (ap (λ (r : Found). r .number) y) in
-      omega (arith, ap (λ (r : Found). r .score) found-ab-c, ap (λ (r : Found). r .score) y, e, d)
+      let e = always 3 ab-c 1 every-cluster lent lent to-search-ab-c (ap (λ (r : Found). r .number) found-ab-c) in
+      let d = always 3 (ab-c ++ ac-b) 2 every-cluster lent lent to-search-both (ap (λ (r : Found). r .number) found-both) in
+      omega (arith, ap (λ (r : Found). r .score) found-ab-c, ap (λ (r : Found). r .score) found-both, e, d)
 
   -- "one that counts the first gene tree and passes over the others"
   pub search-counts-every-gene-tree :
-      ((n : ℕ) (genes genes′ : List ℕ) (count count′ : ℕ) (allowed scores splits : List ℕ) → take 32 genes ≡ take 32 genes′
+      ((n : ℕ) (genes genes′ : List ℕ) (count count′ : ℕ) (allowed scores splits : List ℕ)
+      → ToSearch n genes count allowed scores splits → ToSearch n genes′ count′ allowed scores splits → take 32 genes ≡ take 32 genes′
       → f n genes count allowed scores splits .number ≡ 0 → f n genes′ count′ allowed scores splits .number ≡ 0
       → f n genes count allowed scores splits .score ≡ f n genes′ count′ allowed scores splits .score) → ⊥
   unfolding ab-c ac-b recordOf sorted insert
   search-counts-every-gene-tree first-only =
-      let y = find-both _ _ _ (meets 3 (ab-c ++ ac-b) 2 every-cluster lent lent) in
-      let e = first-only 3 ab-c (ab-c ++ ac-b) 1 2 every-cluster lent lent refl (ap (λ (r : Found). r .number) found-ab-c) (ap (λ (r : Found). r .number) y) in
-      omega (arith, ap (λ (r : Found). r .score) found-ab-c, ap (λ (r : Found). r .score) y, e)
+      let e = first-only 3 ab-c (ab-c ++ ac-b) 1 2 every-cluster lent lent to-search-ab-c to-search-both refl
+      (ap (λ (r : Found). r .number) found-ab-c) (ap (λ (r : Found). r .number) found-both) in
+      omega (arith, ap (λ (r : Found). r .score) found-ab-c, ap (λ (r : Found). r .score) found-both, e)
 
 -- ---- the program
 
-module _ (len : List ℕ → ℕ) (text : List ℕ → List ℕ) (meets : (input : List ℕ) → Reports input (record { len = len input; text = text input })) where
-  printed-text : (input o : List ℕ) → output input ≡ o → text input ≡ o ++ replicate (512 - length o) 0
+module _ (len : List ℕ → ℕ) (text : List ℕ → List ℕ)
+    (meets : (input : List ℕ) → Bytes input → Reports input (record { len = len input; text = text input })) where
+  printed-text : (input o : List ℕ) → Bytes input → output input ≡ o → text input ≡ o ++ replicate (512 - length o) 0
   unfolding Reports
-  printed-text input o e = ap (λ r. r .text) (meets input) ∙ ap (λ (o : List ℕ). o ++ replicate (512 - length o) 0) e
+  printed-text input o h e = ap (λ r. r .text) (meets input h) ∙ ap (λ (o : List ℕ). o ++ replicate (512 - length o) 0) e
 
   -- "one that turns everything away": it prints `refused ..` whatever the input
-  pub report-does-not-refuse-all : ((input : List ℕ) → getD (text input) 0 0 ≡ 114) → ⊥
-  report-does-not-refuse-all away = omega (arith, away a-input, ap (λ (l : List ℕ). getD l 0 0) (printed-text a-input _ a-output))
+  pub report-does-not-refuse-all : ((input : List ℕ) → Bytes input → getD (text input) 0 0 ≡ 114) → ⊥
+  report-does-not-refuse-all away =
+      omega (arith, away a-input a-input-handed, ap (λ (l : List ℕ). getD l 0 0) (printed-text a-input _ a-input-handed a-output))
 
   -- and one that prints `taxa ..` whatever the input
-  pub report-does-not-solve-all : ((input : List ℕ) → getD (text input) 0 0 ≡ 116) → ⊥
-  report-does-not-solve-all solves = omega (arith, solves [], ap (λ (l : List ℕ). getD l 0 0) (printed-text [] _ no-output))
+  pub report-does-not-solve-all : ((input : List ℕ) → Bytes input → getD (text input) 0 0 ≡ 116) → ⊥
+  report-does-not-solve-all solves =
+      omega (arith, solves [] no-input-handed, ap (λ (l : List ℕ). getD l 0 0) (printed-text [] _ no-input-handed no-output))

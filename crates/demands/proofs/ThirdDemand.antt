@@ -1,11 +1,11 @@
 -- The third demand: the tree that the search returns, when there is none, and how the reply changes with the allowed set and the gene trees.
-use Prim.Native.Nat.{ℕ, _≤_}
+use Prim.Native.Nat.{ℕ, _^_, _≤_, _<_}
 use mathlib.Core.Path.{_≡_, sym, _∙_, subst}
 use mathlib.Core.Logic.{_⊎_, _↔_}
 use mathlib.Core.Bool.{true}
-use mathlib.Core.List.{List, _++_}
+use mathlib.Core.List.{List}
 use Rattle.clusters.specs.Sets.{whole}
-use Rattle.trees.specs.Lists.{Among}
+use Rattle.trees.specs.Lists.{Among, Sublist}
 use Rattle.trees.specs.Records.{listed, SpeciesValid, BinaryOn, recordsIn}
 use Rattle.trees.proofs.Bounds.{whole-below-sixteen}
 use Rattle.trees.proofs.ValidTest.{valid-decides}
@@ -79,18 +79,17 @@ module _ (n : ℕ) (genes : List ℕ) (count : ℕ) (allowed scores splits : Lis
 pub allowing-more-clusters :
     (n : ℕ) (genes : List ℕ) (count : ℕ) (allowed wider scores splits scores′ splits′ : List ℕ) (r q : Found) (s p s′ p′ : List ℕ)
     → Finds n genes count allowed scores splits r s p → Finds n genes count wider scores′ splits′ q s′ p′
-    → ((a : ℕ) → allowedIn n allowed a ≡ true → allowedIn n wider a ≡ true) → Accepted n genes count wider scores′ splits′
+    → ((a : ℕ) → 1 ≤ a → a < 2 ^ n → allowedIn n allowed a ≡ true → allowedIn n wider a ≡ true) → Accepted n genes count wider scores′ splits′
     → r .number ≡ 0 → (q .number ≡ 0) × (q .score ≤ r .score)
 allowing-more-clusters n genes count allowed wider scores splits scores′ splits′ r q s p s′ p′ f g = more-allowed-clusters f g
 
 -- ---- "With the allowed set kept and all inside the limits, adding gene trees never lowers the score, nor changes whether there is a tree."
 
--- the trees `added` stand anywhere among the others
+-- the old records stand among the new ones in their order, and others stand anywhere between them
 pub adding-gene-trees :
     (n : ℕ) (genes more : List ℕ) (count count′ : ℕ) (allowed scores splits scores′ splits′ : List ℕ) (r q : Found) (s p s′ p′ : List ℕ)
-    (before added after : List (List ℕ)) → recordsIn count genes ≡ before ++ after → recordsIn count′ more ≡ before ++ (added ++ after)
+    → Sublist (recordsIn count genes) (recordsIn count′ more)
     → Finds n genes count allowed scores splits r s p → Finds n more count′ allowed scores′ splits′ q s′ p′
     → Accepted n genes count allowed scores splits → Accepted n more count′ allowed scores′ splits′
     → (r .number ≡ q .number) × (r .score ≤ q .score)
-adding-gene-trees n genes more count count′ allowed scores splits scores′ splits′ r q s p s′ p′ before added after e e′ f g =
-    more-gene-trees before added after e e′ f g
+adding-gene-trees n genes more count count′ allowed scores splits scores′ splits′ r q s p s′ p′ sub f g = more-gene-trees sub f g

@@ -23,7 +23,7 @@ pub data Allowed : Type 0 where
   own : Allowed
   only : List ℕ → Allowed
 
--- a row: a text's record; k of a cluster in a tree; a gene tree scored on a species tree; gene trees searched. The first part is the roster
+-- a row: a text's record, all 32 numbers of it; k of a cluster in a tree; a gene tree scored on a species tree; gene trees searched. The first part is the roster
 pub data Row : Type 0 where
   recorded : List ℕ → List ℕ → List ℕ → Row
   counted : List ℕ → List ℕ → ℕ → ℕ → Row
@@ -53,7 +53,7 @@ foundIn line genes allowed =
 -- the row says what the definitions give
 unfoldable pub holds : Row → Bool
 unfolding recordIn foundIn
-holds (recorded line text numbers) = same (listed (recordIn line text)) numbers
+holds (recorded line text numbers) = same (recordIn line text) numbers
 holds (counted line text a k) = eqb (kOf (listed (recordIn line text)) a) k
 holds (scored line gene species s) = eqb (score (recordIn line gene ∷ []) (recordIn line species)) s
 holds (searched line genes allowed number s text) =

@@ -1,4 +1,5 @@
 pub mod Examples
+pub mod Handed
 pub mod Outcomes
 pub mod TextFaults
 pub mod GeneTrees

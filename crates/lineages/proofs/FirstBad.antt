@@ -6,20 +6,16 @@ use mathlib.Core.Logic.{_⊎_, inl, inr}
 use mathlib.Core.List.{List, [], _∷_, List·Memᴰ, List·Memᴰ·not-nil, List·Memᴰ·cases-cons}
 use native.Mathlib.Omega.{arith}
 use lib.ListN.{length, take, drop}
-use lib.Pow.{pow-mono}
 use Rattle.clusters.specs.Sets.{whole}
-use Rattle.clusters.proofs.Sets.{whole-below, below-of-within}
+use Rattle.clusters.proofs.Sets.{below-of-within}
 use Rattle.trees.specs.Records.{GeneValid, recordsIn, AllValid}
 use Rattle.trees.specs.Valid.{valid}
+use Rattle.trees.proofs.Bounds.{whole-below-sixteen}
 use Rattle.trees.proofs.ValidTest.{valid-decides}
 use Rattle.lineages.specs.Checks.{countOn, firstBad}
 use Rattle.weights.specs.Work.{AllCountable, AllMarkable}
 use Rattle.trees.proofs.Lent.{length-recordsIn, recordsFrom, records-from-first, records-next, records-from-last}
 use Rattle.weights.proofs.Checked.{valid-countable}
-
--- the whole set of up to 16 species is a sixteen-bit number
-pub whole-small : (n : ℕ) → n ≤ 16 → whole n < 65536
-whole-small n l = omega (arith, whole-below n, pow-mono {i = n} {j = 16} l)
 
 first-bad-none : (n : ℕ) → firstBad n [] ≡ 0
 unfolding firstBad
@@ -80,7 +76,7 @@ none-bad n (x ∷ l) small h g m = go (valid (whole n) x) refl h (List·Memᴰ·
     go :
         (b : Bool) → valid (whole n) x ≡ b → suc (length l) ≤ countOn b (firstBad n l) → (g ≡ x) ⊎ List·Memᴰ g l
         → (length l ≤ firstBad n l → List·Memᴰ g l → GeneValid n g) → GeneValid n g
-    go true e k (inl p) ih = subst (λ (y : List ℕ). GeneValid n y) (sym p) (valid-decides x (whole-small n small) .holds e)
+    go true e k (inl p) ih = subst (λ (y : List ℕ). GeneValid n y) (sym p) (valid-decides x (whole-below-sixteen n small) .holds e)
     go true e k (inr p) ih = ih (omega arith) p
     go false e k p ih = absurd (omega arith)
 

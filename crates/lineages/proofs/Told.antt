@@ -14,11 +14,11 @@ use Rattle.trees.specs.Valid.{valid, binary}
 use Rattle.trees.specs.Decides.{Decides}
 use Rattle.trees.proofs.Booleans.{both}
 use Rattle.trees.proofs.ValidTest.{valid-decides, valid-reply, binary-reply}
-use Rattle.lineages.proofs.FirstBad.{whole-small}
+use Rattle.trees.proofs.Bounds.{whole-below-sixteen}
 
 -- a reply that decides whether a record is valid is the test of it
 pub valid-told : (b : Bool) {n all : ℕ} (g : List ℕ) → n ≤ 16 → all ≡ whole n → Decides b (ValidOn all g) → b ≡ valid (whole n) g
-valid-told b {n} g small e d = valid-reply b g (whole-small n small) (subst (λ (s : ℕ). Decides b (ValidOn s g)) e d)
+valid-told b {n} g small e d = valid-reply b g (whole-below-sixteen n small) (subst (λ (s : ℕ). Decides b (ValidOn s g)) e d)
 
 pub binary-told : (b : Bool) (n : ℕ) {all : ℕ} (g : List ℕ) → all ≡ whole n → Decides b (BinaryOn all g) → b ≡ binary (whole n) g
 binary-told b n g e d = binary-reply b (whole n) g (subst (λ (s : ℕ). Decides b (BinaryOn s g)) e d)
@@ -41,4 +41,4 @@ cluster-small n a small e = omega (arith, ltb-true a (2 ^ n) (both (leb 1 a) (lt
 -- a species record that was checked has the form of one
 pub species-form : (n : ℕ) (species : List ℕ) → n ≤ 16 → (valid (whole n) species && binary (whole n) species) ≡ true → Form species
 species-form n species small e =
-    valid-decides species (whole-small n small) .holds (both (valid (whole n) species) (binary (whole n) species) e .0) .form
+    valid-decides species (whole-below-sixteen n small) .holds (both (valid (whole n) species) (binary (whole n) species) e .0) .form

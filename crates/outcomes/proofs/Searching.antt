@@ -17,7 +17,8 @@ use Rattle.solver.specs.Best.{bestFor, foundBy}
 use Rattle.solver.specs.declared.Found.{Found}
 use Rattle.search.specs.Candidates.{Accepted}
 use Rattle.search.proofs.Accepted.{accepts}
-use Rattle.search.proofs.RecordsOfTrees.{tree-valid, whole-narrow}
+use Rattle.search.proofs.RecordsOfTrees.{tree-valid}
+use Rattle.trees.proofs.Bounds.{whole-below-sixteen}
 use Rattle.outcomes.specs.Outcome.{outcomeOf, searched}
 use Rattle.outcomes.specs.Outcome.Outcome.{refused, solved}
 use Rattle.outcomes.specs.Work.{Genes, Marked}
@@ -70,5 +71,5 @@ module _ (n : ℕ) (genes : List (List ℕ)) (allowed : List ℕ) {r : Found} (i
   found-valid few z = go (bestFor n genes allowed (whole n)) refl is
     where
       go : (o : Option Binary) → bestFor n genes allowed (whole n) ≡ o → r ≡ foundBy o genes → ValidOn (whole n) (r .numbers)
-      go (some t) e h = rw h (tree-valid (best-on (weight genes) (allowedIn n allowed) (whole n) t e) (whole-narrow few))
+      go (some t) e h = rw h (tree-valid (best-on (weight genes) (allowedIn n allowed) (whole n) t e) (whole-below-sixteen n few))
       go none e h = absurd (omega (arith, sym z ∙ ap (λ (f : Found). f .number) h))

@@ -135,11 +135,11 @@ pub record Answered (w : ℕ → ℕ) (o : Option Binary) (m : ℕ) : Type 0 whe
   pub score : scoreOf w tree ≤ m
 
 -- more allowed clusters: an answer stays, and its score does not rise
-pub more-allowed : (w : ℕ → ℕ) (ok may : ℕ → Bool) → ((x : ℕ) → ok x ≡ true → may x ≡ true) → (a : ℕ) (t : Binary)
+pub more-allowed : (w : ℕ → ℕ) (ok may : ℕ → Bool) (a : ℕ) → ((x : ℕ) → 1 ≤ x → Within x a → ok x ≡ true → may x ≡ true) → (t : Binary)
     → best w ok a ≡ some t → Answered w (best w may a) (scoreOf w t)
-more-allowed w ok may h a t e =
+more-allowed w ok may a h t e =
     let v = best-on w ok a t e in
-    let o : Over may t = λ x m. h x (best-over w ok a t e x m) in
+    let o : Over may t = λ x m. let i = tree-inside v x m in h x (i .0) (i .1) (best-over w ok a t e x m) in
     let r = best-there w may a t v o in
     record { tree = r .0; found = r .1; score = best-least w may a (r .0) (r .1) t v o }
 
@@ -165,12 +165,12 @@ more-weight w v h ok a t u e q =
     omega arith
 
 -- only the clusters within a are asked for
-pub best-local : (w : ℕ → ℕ) (ok may : ℕ → Bool) (a : ℕ) → ((x : ℕ) → Within x a → ok x ≡ may x) → best w ok a ≡ best w may a
+pub best-local : (w : ℕ → ℕ) (ok may : ℕ → Bool) (a : ℕ) → ((x : ℕ) → 1 ≤ x → Within x a → ok x ≡ may x) → best w ok a ≡ best w may a
 unfolding gated
 best-local w ok may a h =
     best-choice w ok a
     ∙ pickAll-same (scoreOf w) (gated ok) (gated may) (treesOn a)
-    (λ t m. ap (λ b. gateBy b t) (every-same ok may (clustersIn t) (λ x k. h x (tree-inside (listed-well-formed t a m) x k .1))))
+    (λ t m. ap (λ b. gateBy b t) (every-same ok may (clustersIn t) (λ x k. let i = tree-inside (listed-well-formed t a m) x k in h x (i .0) (i .1))))
     ∙ sym (best-choice w may a)
 
 -- and only their weights

@@ -1,51 +1,47 @@
 -- What the promise of the search gives: the reply's tree is over allowed clusters, least, and the first of the least; 14 where there is none;
 -- and how the reply changes with the allowed set and the gene trees.
-use Prim.Native.Nat.{ℕ, zero, suc, _+_, _*_, _^_, _≤_, _<_}
-use mathlib.Core.Path.{_≡_, refl, sym, ap, ap₂, _∙_, subst}
+use Prim.Native.Nat.{ℕ, zero, suc, _^_, _≤_, _<_}
+use mathlib.Core.Path.{_≡_, refl, sym, ap, _∙_, subst}
 use mathlib.Core.Logic.{_⊎_, inl, inr, _↔_}
-use mathlib.Core.Bool.{Bool, true, not}
+use mathlib.Core.Bool.{true}
 use mathlib.Core.Option.{Option, some, none}
-use mathlib.Core.List.{List, [], _∷_, _++_, map, List·Memᴰ·head as here, List·Memᴰ·tail as there}
+use mathlib.Core.List.{List, [], _∷_}
 use native.Mathlib.Omega.{arith}
-use lib.Dec.{leb, ltb}
-use lib.ListN.{length, getD, take, drop, replicate}
+use lib.ListN.{replicate}
 use lib.Pow.{pow-mono}
-use lib.Seq.{getD-take, take-at}
-use borrow.Author.Tests.{le-ltb}
 use Rattle.clusters.specs.Sets.{whole, size}
-use Rattle.clusters.proofs.Sets.{within-le, whole-below}
-use Rattle.trees.specs.Lists.{Among, upTo}
+use Rattle.clusters.proofs.Sets.{below-of-within}
+use Rattle.trees.specs.Lists.{Among, Sublist}
+use Rattle.trees.specs.Lists.Sublist.{ends, kept, added}
 use Rattle.trees.specs.Records.{listed, recordOf, recordsIn}
+use Rattle.trees.proofs.Bounds.{whole-below-sixteen}
 use Rattle.trees.proofs.Recorded.{record-among, among-record}
-use Rattle.roster.specs.Roster.{least, firstOr}
 use Rattle.weights.specs.Count.{weight, score}
-use Rattle.roster.specs.Verdict.{verdict, lengthTest}
-use Rattle.weights.proofs.Sums.{score-append}
-use Rattle.trees.proofs.Lent.{records-needed, short-needed}
+use Rattle.roster.specs.Verdict.{verdict}
+use Rattle.weights.proofs.Sums.{score-append, Reordered, score-reordered}
 use Rattle.splits.specs.BinaryTrees.{Binary, clustersIn}
 use Rattle.splits.specs.WellFormed.{TreeOn}
 use Rattle.splits.specs.Order.{Earlier}
-use Rattle.splits.specs.Least.{scoreOf, scoreEntry, splitEntry, best}
+use Rattle.splits.specs.Least.{scoreOf}
 use Rattle.tables.specs.Allowed.{allowedIn}
 use Rattle.splits.proofs.Recurrence.{best-on}
-use Rattle.search.specs.Promise.{firstStrange, allowedTest, searchTests, foundOr, filledBy, Finds}
+use Rattle.search.specs.Promise.{searchTests, foundOr, Finds}
 use Rattle.solver.specs.Best.{bestFor, foundBy}
 use Rattle.solver.specs.declared.Found.{Found}
-use Rattle.search.proofs.RecordsOfTrees.{tree-valid, tree-binary, tree-of-record, TreeOfRecord, score-of-record, whole-narrow}
-use Rattle.search.proofs.BestTrees.{Over, best-over, best-least, best-first, best-missed, best-local, LeastSplit, lemma-two}
+use Rattle.search.proofs.RecordsOfTrees.{tree-valid, tree-binary, tree-of-record, TreeOfRecord, score-of-record}
+use Rattle.search.proofs.BestTrees.{Over, best-over, best-least, best-first, best-missed, LeastSplit, lemma-two}
 use Rattle.search.specs.Candidates.{Accepted, Candidate, EarlierRecord, Answer}
 use Rattle.search.proofs.Accepted.{accepted, accepts, no-fourteen}
-use Rattle.trees.proofs.UpTo.{length-map-upTo, among-upTo}
 
 -- ---- the records that compete
 
 module _ (n : ℕ) (allowed : List ℕ) where
   -- the record of a tree over allowed clusters competes, and each that competes is such
   tree-competes : (t : Binary) → n ≤ 16 → TreeOn (whole n) t → Over (allowedIn n allowed) t → Candidate n allowed (recordOf (clustersIn t))
-  tree-competes t h v o = record { valid = tree-valid v (whole-narrow h); binary = tree-binary v; over = λ a m. o a (among-record (clustersIn t) m) }
+  tree-competes t h v o = record { valid = tree-valid v (whole-below-sixteen n h); binary = tree-binary v; over = λ a m. o a (among-record (clustersIn t) m) }
 
   competitor : (c : List ℕ) → n ≤ 16 → Candidate n allowed c → TreeOfRecord (whole n) c
-  competitor c h k = tree-of-record (whole-narrow h) (k .valid) (k .binary)
+  competitor c h k = tree-of-record (whole-below-sixteen n h) (k .valid) (k .binary)
 
   competitor-over : (c : List ℕ) (h : n ≤ 16) (k : Candidate n allowed c) → Over (allowedIn n allowed) (competitor c h k .tree)
   competitor-over c h k x m =
@@ -138,7 +134,7 @@ module _ {n : ℕ} {genes : List ℕ} {count : ℕ} {allowed scores splits : Lis
       ap (λ x. x .number) (f .reply) ∙ ap (λ m. foundOr m place found .number) q
 
   -- 0 and 14 come from the search alone
-  accepted-of : (r .number ≡ 0) ⊎ (r .number ≡ 14) → Accepted n genes count allowed scores splits
+  pub accepted-of : (r .number ≡ 0) ⊎ (r .number ≡ 14) → Accepted n genes count allowed scores splits
   accepted-of d = go (verdict (searchTests n genes count allowed scores splits) .number) refl d
     where
       go :
@@ -188,131 +184,58 @@ finds-once f g = (f .reply ∙ sym (g .reply), f .scoreTable ∙ sym (g .scoreTa
 -- an answer stays, and its score does not rise
 pub more-allowed-clusters : {n : ℕ} {genes : List ℕ} {count : ℕ} {allowed wider scores splits scores′ splits′ : List ℕ} {r q : Found} {s p s′ p′ : List ℕ}
     → Finds n genes count allowed scores splits r s p → Finds n genes count wider scores′ splits′ q s′ p′
-    → ((a : ℕ) → allowedIn n allowed a ≡ true → allowedIn n wider a ≡ true) → Accepted n genes count wider scores′ splits′
+    → ((a : ℕ) → 1 ≤ a → a < 2 ^ n → allowedIn n allowed a ≡ true → allowedIn n wider a ≡ true) → Accepted n genes count wider scores′ splits′
     → r .number ≡ 0 → (q .number ≡ 0) × (q .score ≤ r .score)
 more-allowed-clusters {n} {genes} {count} {allowed} {wider} {r = r} {q = q} f g h a e =
     let x = answer f e in
-    let k : Candidate n wider (r .numbers) = record { valid = x .competes .valid; binary = x .competes .binary; over = λ b m. h b (x .competes .over b m) } in
+    let k : Candidate n wider (r .numbers) = record {
+      valid = x .competes .valid;
+      binary = x .competes .binary;
+      over = λ b m. let i = x .competes .valid .inside b m in h b (i .0) (below-of-within n (i .1)) (x .competes .over b m);
+    } in
     let z = zero-exactly g .1 (a, (r .numbers, k)) in
     (z, subst (λ m. q .score ≤ m) (x .counted) (answer g z .least (r .numbers) k))
 
 -- ---- more gene trees
 
-score-more : (g x h : List (List ℕ)) (c : List ℕ) → score (g ++ h) c ≤ score (g ++ (x ++ h)) c
-score-more g x h c = omega (arith, score-append g h c, score-append g (x ++ h) c, score-append x h c)
-
--- anywhere in the list: whether there is a tree does not change, and the least score does not fall
-pub more-gene-trees : {n : ℕ} {genes genes′ : List ℕ} {count count′ : ℕ} {allowed scores splits scores′ splits′ : List ℕ} {r q : Found} {s p s′ p′ : List ℕ}
-    → (g x h : List (List ℕ)) → recordsIn count genes ≡ g ++ h → recordsIn count′ genes′ ≡ g ++ (x ++ h)
+-- where no tree scores less with the second gene trees: whether there is a tree does not change, and the least score does not fall
+pub no-score-falls : {n : ℕ} {genes genes′ : List ℕ} {count count′ : ℕ} {allowed scores splits scores′ splits′ : List ℕ} {r q : Found} {s p s′ p′ : List ℕ}
+    → ((c : List ℕ) → score (recordsIn count genes) c ≤ score (recordsIn count′ genes′) c)
     → Finds n genes count allowed scores splits r s p → Finds n genes′ count′ allowed scores′ splits′ q s′ p′
     → Accepted n genes count allowed scores splits → Accepted n genes′ count′ allowed scores′ splits′
     → (r .number ≡ q .number) × (r .score ≤ q .score)
-more-gene-trees {n} {genes} {genes′} {count} {count′} {allowed} {r = r} {q = q} g x h e e′ f f′ a a′ = go (replied f a) (replied f′ a′)
+no-score-falls {n} {genes} {genes′} {count} {count′} {allowed} {r = r} {q = q} more f f′ a a′ = go (replied f a) (replied f′ a′)
   where
     go : Replied n (recordsIn count genes) allowed r → Replied n (recordsIn count′ genes′) allowed q → (r .number ≡ q .number) × (r .score ≤ q .score)
     go (answered z p y) (answered z′ p′ y′) =
         let l = y .least (q .numbers) (y′ .competes) in
         let m = y′ .counted in
-        (z ∙ sym z′, omega (arith, score-more g x h (q .numbers), ap (λ k. score k (q .numbers)) e, ap (λ k. score k (q .numbers)) e′))
+        (z ∙ sym z′, omega (arith, more (q .numbers)))
     go (answered z p y) (nothing z′ p′ s′ m′ c′) = absurd (c′ (r .numbers) (y .competes))
     go (nothing z p s m c) (answered z′ p′ y′) = absurd (c (q .numbers) (y′ .competes))
     go (nothing z p s m c) (nothing z′ p′ s′ m′ c′) = (z ∙ sym z′, omega arith)
 
--- ---- entries beyond the need are not read
+score-more : {g h : List (List ℕ)} → Sublist g h → (c : List ℕ) → score g c ≤ score h c
+score-more ends c = omega arith
+score-more (kept {x = x} {l = l} {k = k} m) c = omega (arith, score-more m c, score-append (x ∷ []) l c, score-append (x ∷ []) k c)
+score-more (added {x = x} {k = k} m) c = omega (arith, score-more m c, score-append (x ∷ []) k c)
 
-least-same : (test other : ℕ → Bool) (p k : ℕ) → ((a : ℕ) → p ≤ a → a < p + k → test a ≡ other a) → least test p k ≡ least other p k
-unfolding least
-least-same test other p zero h = refl
-least-same test other p (suc k) h =
-    ap₂ (λ b m. firstOr b p m) (h p (omega arith) (omega arith)) (least-same test other (suc p) k (λ a l m. h a (omega arith) (omega arith)))
+-- gene trees put in anywhere: whether there is a tree does not change, and the least score does not fall
+pub more-gene-trees : {n : ℕ} {genes genes′ : List ℕ} {count count′ : ℕ} {allowed scores splits scores′ splits′ : List ℕ} {r q : Found} {s p s′ p′ : List ℕ}
+    → Sublist (recordsIn count genes) (recordsIn count′ genes′)
+    → Finds n genes count allowed scores splits r s p → Finds n genes′ count′ allowed scores′ splits′ q s′ p′
+    → Accepted n genes count allowed scores splits → Accepted n genes′ count′ allowed scores′ splits′
+    → (r .number ≡ q .number) × (r .score ≤ q .score)
+more-gene-trees m = no-score-falls (score-more m)
 
-map-same : (f g : ℕ → ℕ) (l : List ℕ) → ((a : ℕ) → Among a l → f a ≡ g a) → map f l ≡ map g l
-map-same f g [] h = refl
-map-same f g (x ∷ l) h = ap₂ _∷_ (h x (here refl)) (map-same f g l (λ a m. h a (there m)))
-
--- the first 2^n entries of a table that was filled
-filled-first : (n k : ℕ) (entry : ℕ → ℕ) (lent after : List ℕ) → after ≡ filledBy k n entry lent → k ≡ 0 → take (2 ^ n) after ≡ map entry (upTo (2 ^ n))
-filled-first n zero entry lent after e z =
-    ap (take (2 ^ n)) e ∙ take-at (map entry (upTo (2 ^ n))) (drop (2 ^ n) lent) (2 ^ n) (length-map-upTo entry (2 ^ n))
-filled-first n (suc k) entry lent after e z = absurd (omega arith)
-
--- two calls that agree on n, count, the gene entries and allowed bytes that are needed, and have tables long enough
-module _ (n count : ℕ) (genes genes′ allowed allowed′ scores scores′ splits splits′ : List ℕ)
-    (same-genes : take (32 * count) genes ≡ take (32 * count) genes′) (same-allowed : take (2 ^ n) allowed ≡ take (2 ^ n) allowed′)
-    (long : 2 ^ n ≤ length scores) (long′ : 2 ^ n ≤ length scores′) (wide : 2 ^ n ≤ length splits) (wide′ : 2 ^ n ≤ length splits′) where
-  same-records : recordsIn count genes ≡ recordsIn count genes′
-  same-records = sym (records-needed count genes) ∙ ap (recordsIn count) same-genes ∙ records-needed count genes′
-
-  same-byte : (a : ℕ) → a < 2 ^ n → getD allowed a 0 ≡ getD allowed′ a 0
-  same-byte a l = sym (getD-take (2 ^ n) allowed a 0 l) ∙ ap (λ b. getD b a 0) same-allowed ∙ getD-take (2 ^ n) allowed′ a 0 l
-
-  same-length : (need : ℕ) (l k : List ℕ) → take need l ≡ take need k → lengthTest (length l) need ≡ lengthTest (length k) need
-  unfolding lengthTest
-  same-length need l k e =
-      ap (λ b. record { fault = b; number = 12; place = 0 }) (sym (short-needed need l) ∙ ap (λ m. ltb (length m) need) e ∙ short-needed need k)
-
-  both-fit : (need : ℕ) (l k : List ℕ) → need ≤ length l → need ≤ length k → lengthTest (length l) need ≡ lengthTest (length k) need
-  unfolding lengthTest
-  both-fit need l k p q = rw (le-ltb (length l) need p, le-ltb (length k) need q)
-
-  same-strange : firstStrange n allowed ≡ firstStrange n allowed′
-  unfolding firstStrange
-  same-strange =
-      least-same (λ a. not (leb (getD allowed a 0) 1)) (λ a. not (leb (getD allowed′ a 0) 1)) 0 (2 ^ n)
-      (λ a l m. ap (λ b. not (leb b 1)) (same-byte a (omega arith)))
-
-  same-verdict : verdict (searchTests n genes count allowed scores splits) ≡ verdict (searchTests n genes′ count allowed′ scores′ splits′)
-  unfolding searchTests allowedTest
-  same-verdict =
-      rw (
-        same-length (32 * count) genes genes′ same-genes,
-        same-length (2 ^ n) allowed allowed′ same-allowed,
-        both-fit (2 ^ n) scores scores′ long long′,
-        both-fit (2 ^ n) splits splits′ wide wide′,
-        same-records,
-        same-strange,
-      )
-
-  same-allowed-in : (a : ℕ) → a < 2 ^ n → allowedIn n allowed a ≡ allowedIn n allowed′ a
-  unfolding allowedIn
-  same-allowed-in a l = rw (same-byte a l)
-
-  same-best : (a : ℕ) → a < 2 ^ n → bestFor n (recordsIn count genes) allowed a ≡ bestFor n (recordsIn count genes′) allowed′ a
-  unfolding bestFor
-  same-best a l =
-      best-local (weight (recordsIn count genes)) (allowedIn n allowed) (allowedIn n allowed′) a (λ x m. same-allowed-in x (let k = within-le m in omega arith))
-      ∙ ap (λ g. best (weight g) (allowedIn n allowed′) a) same-records
-
-  module _
-      {r q : Found} {s p s′ p′ : List ℕ}
-      (f : Finds n genes count allowed scores splits r s p)
-      (f′ : Finds n genes′ count allowed′ scores′ splits′ q s′ p′)
-    where
-      -- their replies are equal
-      pub same-reply : r ≡ q
-      same-reply = f .reply ∙ rw (same-verdict, same-best (whole n) (whole-below n), same-records) (sym (f′ .reply))
-
-      -- and so are the first 2^n entries of both tables, where the tables are filled
-      pub same-scores : verdict (searchTests n genes count allowed scores splits) .number ≡ 0 → take (2 ^ n) s ≡ take (2 ^ n) s′
-      same-scores z =
-          filled-first n (verdict (searchTests n genes count allowed scores splits) .number)
-          (λ a. scoreEntry (weight (recordsIn count genes)) (bestFor n (recordsIn count genes) allowed a)) scores s (f .scoreTable) z
-          ∙ map-same (λ a. scoreEntry (weight (recordsIn count genes)) (bestFor n (recordsIn count genes) allowed a))
-          (λ a. scoreEntry (weight (recordsIn count genes′)) (bestFor n (recordsIn count genes′) allowed′ a)) (upTo (2 ^ n))
-          (λ a m. ap₂ (λ g o. scoreEntry (weight g) o) same-records (same-best a (among-upTo (2 ^ n) m)))
-          ∙ sym (filled-first n (verdict (searchTests n genes′ count allowed′ scores′ splits′) .number)
-          (λ a. scoreEntry (weight (recordsIn count genes′)) (bestFor n (recordsIn count genes′) allowed′ a)) scores′ s′ (f′ .scoreTable)
-          (sym (ap (λ v. v .number) same-verdict) ∙ z))
-
-      pub same-splits : verdict (searchTests n genes count allowed scores splits) .number ≡ 0 → take (2 ^ n) p ≡ take (2 ^ n) p′
-      same-splits z =
-          filled-first n (verdict (searchTests n genes count allowed scores splits) .number)
-          (λ a. splitEntry (bestFor n (recordsIn count genes) allowed a)) splits p (f .splitTable) z
-          ∙ map-same (λ a. splitEntry (bestFor n (recordsIn count genes) allowed a)) (λ a. splitEntry (bestFor n (recordsIn count genes′) allowed′ a)) (upTo (2 ^ n))
-          (λ a m. ap splitEntry (same-best a (among-upTo (2 ^ n) m)))
-          ∙ sym (filled-first n (verdict (searchTests n genes′ count allowed′ scores′ splits′) .number)
-          (λ a. splitEntry (bestFor n (recordsIn count genes′) allowed′ a)) splits′ p′ (f′ .splitTable)
-          (sym (ap (λ v. v .number) same-verdict) ∙ z))
+-- and in any order, the old ones too
+pub more-gene-trees-in-any-order :
+    {n : ℕ} {genes genes′ : List ℕ} {count count′ : ℕ} {allowed scores splits scores′ splits′ : List ℕ} {r q : Found} {s p s′ p′ : List ℕ} {all : List (List ℕ)}
+    → Sublist (recordsIn count genes) all → Reordered all (recordsIn count′ genes′)
+    → Finds n genes count allowed scores splits r s p → Finds n genes′ count′ allowed scores′ splits′ q s′ p′
+    → Accepted n genes count allowed scores splits → Accepted n genes′ count′ allowed scores′ splits′
+    → (r .number ≡ q .number) × (r .score ≤ q .score)
+more-gene-trees-in-any-order m o = no-score-falls (λ c. omega (arith, score-more m c, score-reordered c o))
 
 -- ---- source document 001, Lemma 2, for the tables of a call
 

@@ -4,4 +4,5 @@ pub mod RecordsOfTrees
 pub mod BestTrees
 pub mod Accepted
 pub mod Demand
+pub mod Unread
 pub mod Finding

@@ -5,14 +5,14 @@ use mathlib.Core.List.{List, [], _∷_, map, List·Memᴰ, List·Memᴰ·head as
 use native.Mathlib.Decide.{decLe}
 use native.Mathlib.Omega.{arith}
 use lib.ListN.{length}
-use lib.Pow.{pow-mono}
 use Rattle.clusters.specs.Sets.{Within, whole, size, lowest}
 use Rattle.clusters.proofs.Members.{has-of-within, has-of-apart}
-use Rattle.clusters.proofs.Sets.{within-antisym, within-le, within-apart, apart-within, minus-apart, whole-below}
+use Rattle.clusters.proofs.Sets.{within-antisym, within-le, within-apart, apart-within, minus-apart}
 use Rattle.trees.specs.Lists.{Among, sorted, insert, total}
 use Rattle.trees.specs.Records.{count, listed, recordOf, ValidOn, BinaryOn}
 use Rattle.trees.specs.Tree.{Tree, clusters}
 use Rattle.trees.specs.Drawn.{drawn}
+use Rattle.trees.proofs.Bounds.{whole-below-sixteen}
 use Rattle.trees.proofs.Counts.{binary-of-clusters}
 use Rattle.trees.proofs.Recorded.{count-record, listed-record, record-same, among-record, record-among, valid-of-drawn}
 use Rattle.trees.proofs.Drawing.{drawn-on, drawn-record}
@@ -169,12 +169,9 @@ score-of-record genes t =
 
 -- ---- the same for n species
 
-pub whole-narrow : {n : ℕ} → n ≤ 16 → whole n < 2 ^ 16
-whole-narrow {n} h = omega (arith, whole-below n, pow-mono h)
-
 -- the record of a tree of the list is valid and binary
 pub listed-valid : {n : ℕ} → n ≤ 16 → (t : Binary) → List·Memᴰ t (treesOn (whole n)) → ValidOn (whole n) (recordOf (clustersIn t))
-listed-valid {n} h t m = tree-valid (listed-well-formed t (whole n) m) (whole-narrow h)
+listed-valid {n} h t m = tree-valid (listed-well-formed t (whole n) m) (whole-below-sixteen n h)
 
 pub listed-binary : (n : ℕ) (t : Binary) → List·Memᴰ t (treesOn (whole n)) → BinaryOn (whole n) (recordOf (clustersIn t))
 listed-binary n t m = tree-binary (listed-well-formed t (whole n) m)
@@ -184,5 +181,5 @@ pub record-listed : {n : ℕ} {r : List ℕ} → n ≤ 16 → ValidOn (whole n) 
     → (t : Binary) × List·Memᴰ t (treesOn (whole n)) × (recordOf (clustersIn t) ≡ r)
     × ((u : Binary) → List·Memᴰ u (treesOn (whole n)) → recordOf (clustersIn u) ≡ r → t ≡ u)
 record-listed {n} h v b =
-    let t = tree-of-record (whole-narrow h) v b in
+    let t = tree-of-record (whole-below-sixteen n h) v b in
     (t .tree, well-formed-listed (t .on), t .recorded, λ u m e. t .only u (listed-well-formed u (whole n) m) e)

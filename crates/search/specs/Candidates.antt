@@ -1,10 +1,10 @@
 -- What a search accepts, which records compete, and what the tree that is found has over the others.
 use Prim.Native.Nat.{ℕ, _*_, _^_, _≤_, _<_}
 use mathlib.Core.Path.{_≡_}
-use mathlib.Core.Logic.{_⊎_}
+use mathlib.Core.Logic.{_⊎_, _↔_}
 use mathlib.Core.Bool.{true}
 use mathlib.Core.List.{List, List·Memᴰ}
-use lib.ListN.{length, getD}
+use lib.ListN.{length, getD, take, drop}
 use Rattle.clusters.specs.Sets.{whole}
 use Rattle.trees.specs.Lists.{Among}
 use Rattle.trees.specs.Records.{listed, recordOf, ValidOn, BinaryOn, recordsIn}
@@ -51,3 +51,16 @@ pub record Answer (n : ℕ) (genes : List (List ℕ)) (allowed : List ℕ) (r : 
   pub counted : score genes (r .numbers) ≡ r .score
   pub least : (c : List ℕ) → Candidate n allowed c → r .score ≤ score genes c
   pub first : (c : List ℕ) → Candidate n allowed c → score genes c ≡ r .score → (r .numbers ≡ c) ⊎ EarlierRecord n (r .numbers) c
+
+-- two allowed sets that say the same for n species: of every cluster, while "byte 0 has no meaning, though it too must be 0 or 1"
+pub record SameAllowed (n : ℕ) (allowed other : List ℕ) : Type 0 where
+  pub long : 2 ^ n ≤ length allowed
+  pub other-long : 2 ^ n ≤ length other
+  pub clusters : (a : ℕ) → 1 ≤ a → a < 2 ^ n → getD allowed a 0 ≡ getD other a 0
+  pub byte-0 : (getD allowed 0 0 ≤ 1) ↔ (getD other 0 0 ≤ 1)
+
+-- two tables as their calls leave them: the entries of n species are equal, and "Entries from 2^n on stay"
+pub record SameTable (n : ℕ) (lent after lent′ after′ : List ℕ) : Type 0 where
+  pub entries : take (2 ^ n) after ≡ take (2 ^ n) after′
+  pub beyond : drop (2 ^ n) after ≡ drop (2 ^ n) lent
+  pub beyond′ : drop (2 ^ n) after′ ≡ drop (2 ^ n) lent′

@@ -19,15 +19,17 @@ use Rattle.trees.proofs.Order.{rising-same}
 use Rattle.splits.specs.BinaryTrees.{lows}
 use Rattle.splits.specs.WellFormed.{LowPart}
 use Rattle.splits.proofs.LowParts.{among-lows, lows-among, rising-lows, rising-keep, rising-cons}
-use Rattle.splits.proofs.Recurrence.{Choice, noChoice, consider, choice}
+use Rattle.splits.specs.Work.{noSplit, leastSplit}
+use Rattle.splits.specs.declared.Split.{Split}
+use Rattle.splits.proofs.Recurrence.{consider}
 
 -- the low parts of a from m on
 unfoldable pub lowsFrom : ℕ → ℕ → List ℕ
 lowsFrom a m = keep (λ x. leb m x) (lows a)
 
 -- the choice among them
-unfoldable pub choiceFrom : (ℕ → ℕ) → ℕ → ℕ → Choice
-choiceFrom e a m = foldr (consider e a) noChoice (lowsFrom a m)
+unfoldable pub leastSplitFrom : (ℕ → ℕ) → ℕ → ℕ → Split
+leastSplitFrom e a m = foldr (consider e a) noSplit (lowsFrom a m)
 
 among-lowsFrom : {x : ℕ} (a m : ℕ) → Among x (lowsFrom a m) → LowPart a x × (m ≤ x)
 unfolding lowsFrom
@@ -42,9 +44,9 @@ unfolding lowsFrom
 rising-lowsFrom a m = rising-keep (λ x. leb m x) (lows a) (rising-lows a)
 
 -- before the first step there is none
-pub choiceFrom-all : (e : ℕ → ℕ) (a : ℕ) → choiceFrom e a a ≡ noChoice
-unfolding choiceFrom
-choiceFrom-all e a = ap (foldr (consider e a) noChoice) (go (lowsFrom a a) (λ x h. among-lowsFrom a a h))
+pub leastSplitFrom-all : (e : ℕ → ℕ) (a : ℕ) → leastSplitFrom e a a ≡ noSplit
+unfolding leastSplitFrom
+leastSplitFrom-all e a = ap (foldr (consider e a) noSplit) (go (lowsFrom a a) (λ x h. among-lowsFrom a a h))
   where
     go : (l : List ℕ) → ((x : ℕ) → Among x l → LowPart a x × (a ≤ x)) → l ≡ []
     go [] h = refl
@@ -84,10 +86,10 @@ module _ (a : ℕ) (some : 1 ≤ a) (below : a < 2 ^ 32) where
       )
 
   -- the choice after the last step is the choice among all
-  pub choiceFrom-lowest : (e : ℕ → ℕ) → choiceFrom e a (single (lowest a)) ≡ choice e a
-  unfolding choiceFrom choice
-  choiceFrom-lowest e =
-      ap (foldr (consider e a) noChoice)
+  pub leastSplitFrom-lowest : (e : ℕ → ℕ) → leastSplitFrom e a (single (lowest a)) ≡ leastSplit e a
+  unfolding leastSplitFrom leastSplit
+  leastSplitFrom-lowest e =
+      ap (foldr (consider e a) noSplit)
       (rising-same (lowsFrom a lowest-only) (lows a) (rising-lowsFrom a lowest-only) (rising-lows a)
       (λ x h. lows-among (among-lowsFrom a lowest-only h .0)) (λ x h. let p = among-lows a h in lowsFrom-among p (low-is-part p .0)))
 
@@ -126,8 +128,8 @@ module _ (a : ℕ) (some : 1 ≤ a) (below : a < 2 ^ 32) where
       back x (inr h) = let k = among-lowsFrom a (lowest-only + s) h in lowsFrom-among (k .0) (omega (arith, k .1, falls))
 
   -- one step of the loop considers one low part more
-  pub choiceFrom-step : (e : ℕ → ℕ) (s : ℕ) → Within s (a - single (lowest a)) → 1 ≤ s
-      → choiceFrom e a (single (lowest a) + bitAnd (s - 1) (a - single (lowest a)))
-      ≡ consider e a (single (lowest a) + bitAnd (s - 1) (a - single (lowest a))) (choiceFrom e a (single (lowest a) + s))
-  unfolding choiceFrom
-  choiceFrom-step e s v l = ap (foldr (consider e a) noChoice) (lowsFrom-step v l)
+  pub leastSplitFrom-step : (e : ℕ → ℕ) (s : ℕ) → Within s (a - single (lowest a)) → 1 ≤ s
+      → leastSplitFrom e a (single (lowest a) + bitAnd (s - 1) (a - single (lowest a)))
+      ≡ consider e a (single (lowest a) + bitAnd (s - 1) (a - single (lowest a))) (leastSplitFrom e a (single (lowest a) + s))
+  unfolding leastSplitFrom
+  leastSplitFrom-step e s v l = ap (foldr (consider e a) noSplit) (lowsFrom-step v l)

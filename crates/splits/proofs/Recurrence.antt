@@ -18,7 +18,8 @@ use Rattle.splits.specs.BinaryTrees.{Binary, root, clustersIn, lows, for
 use Rattle.splits.specs.BinaryTrees.Binary.{tip, fork}
 use Rattle.splits.specs.WellFormed.{LowPart, TreeOn}
 use Rattle.splits.specs.Least.{those, scoreOf, treesOver, best, noTree, scoreEntry, splitEntry}
-use Rattle.splits.specs.Work.{Light}
+use Rattle.splits.specs.Work.{Light, splitUnless, lesserSplit, betterSplit, noSplit, leastSplit}
+use Rattle.splits.specs.declared.Split.{Split}
 use Rattle.splits.proofs.LowParts.{among-lows, low-some, low-and-rest}
 use Rattle.splits.proofs.FirstLeast.{chosen, pick, pick-none, pick-first, pick-second, pickAll, pickAll-same, pickAll-none, pickAll-each, pickAll-map, pickAll-through, pickAll-from, gateBy, pickAll-those, first-least}
 use Rattle.splits.proofs.Membership.{treesOn-single, treesOn-splits, treesOn-zero, listed-well-formed, tree-root, tree-clusters}
@@ -196,70 +197,49 @@ module _ (w : ℕ → ℕ) (ok : ℕ → Bool) where
   pub best-on : (a : ℕ) (t : Binary) → best w ok a ≡ some t → TreeOn a t
   best-on a t e = listed-well-formed t a (best-listed a t e .0)
 
--- ---- the choice of a split by the entries of the score table
+-- ---- the better of two splits, by cases
 
--- a low part with the sum of both children's scores
-pub record Choice : Type 0 where
-  pub score : ℕ
-  pub low : ℕ
+module _ (x y low : ℕ) (s : Split) where
+  pub better-no-low : x ≡ noTree → betterSplit x y low s ≡ s
+  unfolding betterSplit
+  better-no-low e = rw (eq-eqb x noTree e)
 
--- no split yet
-abbrev pub noChoice : Choice
-noChoice = record { score = noTree; low = 0 }
-
-abbrev pub lesser : Bool → ℕ → ℕ → Choice → Choice
-lesser true sum l c = record { score = sum; low = l }
-lesser false sum l c = c
-
-abbrev pub unless : Bool → Choice → Choice → Choice
-unless true c d = c
-unless false c d = d
-
--- the split at l where both children have a tree and their scores sum to no more than the choice so far; else that choice
-unfoldable pub consider : (ℕ → ℕ) → ℕ → ℕ → Choice → Choice
-consider e a l c = unless (eqb (e l) noTree || eqb (e (a - l)) noTree) c (lesser (leb (e l + e (a - l)) (c .score)) (e l + e (a - l)) l c)
-
--- the choice among all low parts, from the greatest to the smallest
-unfoldable pub choice : (ℕ → ℕ) → ℕ → Choice
-choice e a = foldr (consider e a) noChoice (lows a)
-
-module _ (e : ℕ → ℕ) (a l : ℕ) (c : Choice) where
-  pub consider-no-low : e l ≡ noTree → consider e a l c ≡ c
-  unfolding consider
-  consider-no-low p = rw (eq-eqb (e l) noTree p)
-
-  pub consider-no-rest : e (a - l) ≡ noTree → consider e a l c ≡ c
-  unfolding consider
-  consider-no-rest p = rw (eq-eqb (e (a - l)) noTree p) (go (eqb (e l) noTree))
+  pub better-no-rest : y ≡ noTree → betterSplit x y low s ≡ s
+  unfolding betterSplit
+  better-no-rest e = rw (eq-eqb y noTree e) (go (eqb x noTree))
     where
-      go : (b : Bool) → unless (b || true) c (lesser (leb (e l + e (a - l)) (c .score)) (e l + e (a - l)) l c) ≡ c
+      go : (b : Bool) → splitUnless (b || true) s (lesserSplit (leb (x + y) (s .score)) (x + y) low s) ≡ s
       go true = refl
       go false = refl
 
-  pub consider-less : (e l ≡ noTree → ⊥) → (e (a - l) ≡ noTree → ⊥) → e l + e (a - l) ≤ c .score
-      → consider e a l c ≡ record { score = e l + e (a - l); low = l }
-  unfolding consider
-  consider-less p q h = rw (ne-eqb (e l) noTree p, ne-eqb (e (a - l)) noTree q, le-leb (e l + e (a - l)) (c .score) h)
+  pub better-less : (x ≡ noTree → ⊥) → (y ≡ noTree → ⊥) → x + y ≤ s .score → betterSplit x y low s ≡ record { score = x + y; low = low }
+  unfolding betterSplit
+  better-less p q h = rw (ne-eqb x noTree p, ne-eqb y noTree q, le-leb (x + y) (s .score) h)
 
-  pub consider-more : (e l ≡ noTree → ⊥) → (e (a - l) ≡ noTree → ⊥) → c .score < e l + e (a - l) → consider e a l c ≡ c
-  unfolding consider
-  consider-more p q h = rw (ne-eqb (e l) noTree p, ne-eqb (e (a - l)) noTree q, lt-leb (e l + e (a - l)) (c .score) h)
+  pub better-more : (x ≡ noTree → ⊥) → (y ≡ noTree → ⊥) → s .score < x + y → betterSplit x y low s ≡ s
+  unfolding betterSplit
+  better-more p q h = rw (ne-eqb x noTree p, ne-eqb y noTree q, lt-leb (x + y) (s .score) h)
 
-consider-same : (e f : ℕ → ℕ) (a l : ℕ) (c d : Choice) → e l ≡ f l → e (a - l) ≡ f (a - l) → c ≡ d → consider e a l c ≡ consider f a l d
-unfolding consider
-consider-same e f a l c d p q r = rw (p, q, r)
+-- ---- the choice of a split by the entries of the score table
+
+-- the split at l, where it is better than the one so far
+abbrev pub consider : (ℕ → ℕ) → ℕ → ℕ → Split → Split
+consider e a l s = betterSplit (e l) (e (a - l)) l s
+
+consider-same : (e f : ℕ → ℕ) (a l : ℕ) (s t : Split) → e l ≡ f l → e (a - l) ≡ f (a - l) → s ≡ t → consider e a l s ≡ consider f a l t
+consider-same e f a l s t p q r = rw (p, q, r)
 
 -- only the entries of smaller clusters are read
-pub choice-same : (e f : ℕ → ℕ) (a : ℕ) → ((b : ℕ) → b < a → e b ≡ f b) → choice e a ≡ choice f a
-unfolding choice
-choice-same e f a h = go (lows a) (λ l m. among-lows a m)
+pub leastSplit-same : (e f : ℕ → ℕ) (a : ℕ) → ((b : ℕ) → b < a → e b ≡ f b) → leastSplit e a ≡ leastSplit f a
+unfolding leastSplit
+leastSplit-same e f a h = go (lows a) (λ l m. among-lows a m)
   where
-    go : (ls : List ℕ) → ((l : ℕ) → Among l ls → LowPart a l) → foldr (consider e a) noChoice ls ≡ foldr (consider f a) noChoice ls
+    go : (ls : List ℕ) → ((l : ℕ) → Among l ls → LowPart a l) → foldr (consider e a) noSplit ls ≡ foldr (consider f a) noSplit ls
     go [] p = refl
     go (l ∷ ls) p =
         let q = p l (here refl) in
         let k = q .less in
-        consider-same e f a l (foldr (consider e a) noChoice ls) (foldr (consider f a) noChoice ls) (h l k) (h (a - l) (omega (arith, low-some q)))
+        consider-same e f a l (foldr (consider e a) noSplit ls) (foldr (consider f a) noSplit ls) (h l k) (h (a - l) (omega (arith, low-some q)))
         (go ls (λ x m. p x (there m)))
 
 module _ (w : ℕ → ℕ) (ok : ℕ → Bool) where
@@ -268,8 +248,8 @@ module _ (w : ℕ → ℕ) (ok : ℕ → Bool) where
   entry b = scoreEntry w (best w ok b)
 
   -- a best fork and a choice of a split agree: there is neither, or the split is that of the fork
-  pub data Agree (a : ℕ) : Option Binary → Choice → Type 0 where
-    neither : Agree a none noChoice
+  pub data Agree (a : ℕ) : Option Binary → Split → Type 0 where
+    neither : Agree a none noSplit
     split : {t u : Binary} → LowPart a (root t) → best w ok (root t) ≡ some t → best w ok (a - root t) ≡ some u
         → Agree a (some (fork a t u)) (record { score = scoreOf w t + scoreOf w u; low = root t })
 
@@ -282,7 +262,7 @@ module _ (w : ℕ → ℕ) (ok : ℕ → Bool) where
         let made = split (subst (LowPart a) (sym e) p) (ap (best w ok) e ∙ q) (ap (λ b. best w ok (a - b)) e ∙ r) in
         subst (Agree a (some (fork a t u))) (ap₂ at (sym (ap₂ _+_ (ap (scoreEntry w) q) (ap (scoreEntry w) r))) e) made
       where
-        at : ℕ → ℕ → Choice
+        at : ℕ → ℕ → Split
         at n m = record { score = n; low = m }
 
     low-is-score : (l : ℕ) (t : Binary) → LowPart a l → best w ok l ≡ some t → scoreOf w t < 8388608
@@ -300,11 +280,11 @@ module _ (w : ℕ → ℕ) (ok : ℕ → Bool) where
     sum-small : (l : ℕ) (t u : Binary) → LowPart a l → best w ok l ≡ some t → best w ok (a - l) ≡ some u → entry l + entry (a - l) ≤ noTree
     sum-small l t u p q r = omega (arith, low-is-score l t p q, rest-is-score l u p r, ap (scoreEntry w) q, ap (scoreEntry w) r)
 
-    agree-both : (l : ℕ) (t u : Binary) → LowPart a l → best w ok l ≡ some t → best w ok (a - l) ≡ some u → {x : Option Binary} {c : Choice} → Agree a x c
+    agree-both : (l : ℕ) (t u : Binary) → LowPart a l → best w ok l ≡ some t → best w ok (a - l) ≡ some u → {x : Option Binary} {c : Split} → Agree a x c
         → Agree a (pick (scoreOf w) (some (fork a t u)) x) (consider entry a l c)
     unfolding pick
     agree-both l t u p q r neither =
-        subst (Agree a (some (fork a t u))) (sym (consider-less entry a l noChoice (not-low l t p q) (not-rest l u p r) (sum-small l t u p q r)))
+        subst (Agree a (some (fork a t u))) (sym (better-less (entry l) (entry (a - l)) l noSplit (not-low l t p q) (not-rest l u p r) (sum-small l t u p q r)))
         (here-split l t u p q r)
     agree-both l t u p q r (split {t = v} {u = x} p′ q′ r′) = by (decLe (scoreOf w t + scoreOf w u) (scoreOf w v + scoreOf w x))
       where
@@ -319,66 +299,66 @@ module _ (w : ℕ → ℕ) (ok : ℕ → Bool) where
             (consider entry a l (record { score = scoreOf w v + scoreOf w x; low = root v }))
         by (yes h) =
             subst₂ (Agree a) (sym (pick-first (scoreOf w) (fork a t u) (fork a v x) (omega (arith, score-fork w a t u, score-fork w a v x))))
-            (sym (consider-less entry a l (record { score = scoreOf w v + scoreOf w x; low = root v }) (not-low l t p q) (not-rest l u p r) (omega (arith, low-eq, rest-eq))))
+            (sym (better-less (entry l) (entry (a - l)) l (record { score = scoreOf w v + scoreOf w x; low = root v }) (not-low l t p q) (not-rest l u p r) (omega (arith, low-eq, rest-eq))))
             (here-split l t u p q r)
         by (no f) =
             subst₂ (Agree a) (sym (pick-second (scoreOf w) (fork a t u) (fork a v x) (omega (arith, f, score-fork w a t u, score-fork w a v x))))
-            (sym (consider-more entry a l (record { score = scoreOf w v + scoreOf w x; low = root v }) (not-low l t p q) (not-rest l u p r) (omega (arith, f, low-eq, rest-eq))))
+            (sym (better-more (entry l) (entry (a - l)) l (record { score = scoreOf w v + scoreOf w x; low = root v }) (not-low l t p q) (not-rest l u p r) (omega (arith, f, low-eq, rest-eq))))
             (split p′ q′ r′)
 
-    agree-step : (l : ℕ) {x : Option Binary} {c : Choice} → LowPart a l → Agree a x c → (y z : Option Binary) → best w ok l ≡ y → best w ok (a - l) ≡ z
+    agree-step : (l : ℕ) {x : Option Binary} {c : Split} → LowPart a l → Agree a x c → (y z : Option Binary) → best w ok l ≡ y → best w ok (a - l) ≡ z
         → Agree a (pick (scoreOf w) (joined a y z) x) (consider entry a l c)
     unfolding pick
-    agree-step l {x} {c} p h none z q r = subst (Agree a x) (sym (consider-no-low entry a l c (ap (scoreEntry w) q))) h
-    agree-step l {x} {c} p h (some t) none q r = subst (Agree a x) (sym (consider-no-rest entry a l c (ap (scoreEntry w) r))) h
+    agree-step l {x} {c} p h none z q r = subst (Agree a x) (sym (better-no-low (entry l) (entry (a - l)) l c (ap (scoreEntry w) q))) h
+    agree-step l {x} {c} p h (some t) none q r = subst (Agree a x) (sym (better-no-rest (entry l) (entry (a - l)) l c (ap (scoreEntry w) r))) h
     agree-step l {x} {c} p h (some t) (some u) q r = agree-both l t u p q r h
 
     agree-all : (ls : List ℕ) → ((l : ℕ) → Among l ls → LowPart a l)
-        → Agree a (pickAll (scoreOf w) (λ l. joined a (best w ok l) (best w ok (a - l))) ls) (foldr (consider entry a) noChoice ls)
+        → Agree a (pickAll (scoreOf w) (λ l. joined a (best w ok l) (best w ok (a - l))) ls) (foldr (consider entry a) noSplit ls)
     unfolding pickAll
     agree-all [] p = neither
     agree-all (l ∷ ls) p = agree-step l (p l (here refl)) (agree-all ls (λ x m. p x (there m))) (best w ok l) (best w ok (a - l)) refl refl
 
     -- ---- the entries of an allowed cluster of two or more species
 
-    pub best-agrees : ok a ≡ true → 2 ≤ size a → Agree a (best w ok a) (choice entry a)
-    unfolding choice
+    pub best-agrees : ok a ≡ true → 2 ≤ size a → Agree a (best w ok a) (leastSplit entry a)
+    unfolding leastSplit
     best-agrees e h =
-        subst (λ x. Agree a x (foldr (consider entry a) noChoice (lows a))) (sym (best-splits w ok a e (λ k. omega arith)))
+        subst (λ x. Agree a x (foldr (consider entry a) noSplit (lows a))) (sym (best-splits w ok a e (λ k. omega arith)))
         (agree-all (lows a) (λ l m. among-lows a m))
 
-    agree-score-none : {x : Option Binary} {c : Choice} → Agree a x c → c .score ≡ noTree → x ≡ none
+    agree-score-none : {x : Option Binary} {c : Split} → Agree a x c → c .score ≡ noTree → x ≡ none
     agree-score-none neither e = refl
     agree-score-none (split {t = t} {u = u} p q r) e = absurd (omega (arith, low-is-score (root t) t p q, rest-is-score (root t) u p r))
 
-    agree-score-some : {x : Option Binary} {c : Choice} → Agree a x c → (c .score ≡ noTree → ⊥) → scoreEntry w x ≡ w a + c .score
+    agree-score-some : {x : Option Binary} {c : Split} → Agree a x c → (c .score ≡ noTree → ⊥) → scoreEntry w x ≡ w a + c .score
     agree-score-some neither f = absurd (f refl)
     agree-score-some (split {t = t} {u = u} p q r) f = score-fork w a t u
 
-    agree-low : {x : Option Binary} {c : Choice} → Agree a x c → splitEntry x ≡ c .low
+    agree-low : {x : Option Binary} {c : Split} → Agree a x c → splitEntry x ≡ c .low
     agree-low neither = refl
     agree-low (split p q r) = refl
 
-    agree-none-score : {x : Option Binary} {c : Choice} → Agree a x c → x ≡ none → c .score ≡ noTree
+    agree-none-score : {x : Option Binary} {c : Split} → Agree a x c → x ≡ none → c .score ≡ noTree
     agree-none-score neither e = refl
     agree-none-score (split p q r) e = absurd (let z : _≡_ {A = ℕ} 0 1 = cc in omega arith)
 
     -- there is no tree exactly when there is no choice
-    pub best-none : ok a ≡ true → 2 ≤ size a → choice entry a .score ≡ noTree → best w ok a ≡ none
+    pub best-none : ok a ≡ true → 2 ≤ size a → leastSplit entry a .score ≡ noTree → best w ok a ≡ none
     best-none e h k = agree-score-none (best-agrees e h) k
 
-    pub none-best : ok a ≡ true → 2 ≤ size a → best w ok a ≡ none → choice entry a .score ≡ noTree
+    pub none-best : ok a ≡ true → 2 ≤ size a → best w ok a ≡ none → leastSplit entry a .score ≡ noTree
     none-best e h k = agree-none-score (best-agrees e h) k
 
     -- the score entry: the own weight, once, and the least sum of both children's entries
-    pub entry-split : ok a ≡ true → 2 ≤ size a → (choice entry a .score ≡ noTree → ⊥) → entry a ≡ w a + choice entry a .score
+    pub entry-split : ok a ≡ true → 2 ≤ size a → (leastSplit entry a .score ≡ noTree → ⊥) → entry a ≡ w a + leastSplit entry a .score
     entry-split e h f = agree-score-some (best-agrees e h) f
 
-    pub entry-none : ok a ≡ true → 2 ≤ size a → choice entry a .score ≡ noTree → entry a ≡ noTree
+    pub entry-none : ok a ≡ true → 2 ≤ size a → leastSplit entry a .score ≡ noTree → entry a ≡ noTree
     entry-none e h k = ap (scoreEntry w) (best-none e h k)
 
     -- the split entry: the chosen low part, and 0 where there is no choice
-    pub split-chosen : ok a ≡ true → 2 ≤ size a → splitEntry (best w ok a) ≡ choice entry a .low
+    pub split-chosen : ok a ≡ true → 2 ≤ size a → splitEntry (best w ok a) ≡ leastSplit entry a .low
     split-chosen e h = agree-low (best-agrees e h)
 
   -- ---- the other entries
@@ -454,10 +434,10 @@ module _ (w : ℕ → ℕ) (ok : ℕ → Bool) where
       fork-parts a (r .0) t (among-lows a (r .1)) e (best w ok (r .0)) (best w ok (a - r .0)) refl refl (r .2)
 
   -- where there is a choice, the best tree is split at it
-  pub best-chosen : Light w → (a : ℕ) → size a ≤ 32 → ok a ≡ true → 2 ≤ size a → (choice entry a .score ≡ noTree → ⊥) → BestFork a (choice entry a .low)
+  pub best-chosen : Light w → (a : ℕ) → size a ≤ 32 → ok a ≡ true → 2 ≤ size a → (leastSplit entry a .score ≡ noTree → ⊥) → BestFork a (leastSplit entry a .low)
   best-chosen light a few e h f = go (best w ok a) refl
     where
-      go : (o : Option Binary) → best w ok a ≡ o → BestFork a (choice entry a .low)
+      go : (o : Option Binary) → best w ok a ≡ o → BestFork a (leastSplit entry a .low)
       go none k = absurd (f (none-best light a few e h k))
       go (some t) k = subst (BestFork a) (split-chosen light a few e h) (best-fork a t h k)
 

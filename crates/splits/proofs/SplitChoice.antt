@@ -2,14 +2,11 @@
 use Prim.Native.Nat.{ℕ, _+_, _-_, _^_, _≤_, _<_}
 use mathlib.Core.Path.{_≡_, refl, sym, ap, _∙_, subst}
 use mathlib.Core.Logic.{_⊎_, inl, inr}
-use mathlib.Core.Bool.{Bool, true, false, _||_}
 use native.Mathlib.Decide.{decLe}
 use native.Mathlib.Omega.{arith}
 use lib.Bits.{bitAnd}
-use lib.Dec.{eqb, leb}
 use lib.ListN.{getD}
 use mathlib.Core.List.{List}
-use borrow.Author.Tests.{eq-eqb, ne-eqb, le-leb, lt-leb}
 use Rattle.clusters.specs.Sets.{Within, single, size, lowest}
 use Rattle.clusters.proofs.Sets.{within-refl, within-le}
 use Rattle.clusters.proofs.LowestSpecies.{lowest-below, lowest-alone-within}
@@ -17,58 +14,16 @@ use Rattle.clusters.proofs.Sizes.{some-of-size, size-le}
 use Rattle.clusters.proofs.Parts.{part-and, part-falls}
 use Rattle.splits.specs.WellFormed.{LowPart}
 use Rattle.splits.specs.Least.{noTree}
-use Rattle.splits.specs.Work.{Scored, Small, splitUnless, lesserSplit, betterSplit, ScoresBelow, BestSplit}
+use Rattle.splits.specs.Work.{Scored, Small, betterSplit, noSplit, leastSplit, ScoresBelow, BestSplit}
 use Rattle.splits.specs.declared.Split.{Split}
 use Rattle.splits.proofs.LowParts.{low-some}
-use Rattle.splits.proofs.Recurrence.{Choice, unless, lesser, consider, choice, choice-same, entry, best-none, entry-split, split-chosen}
-use Rattle.splits.proofs.FallingParts.{choiceFrom, choiceFrom-all, choiceFrom-lowest, choiceFrom-step, part-is-low}
+use Rattle.splits.proofs.Recurrence.{better-no-low, better-no-rest, better-less, better-more, consider, leastSplit-same, entry, best-none, entry-split, split-chosen}
+use Rattle.splits.proofs.FallingParts.{leastSplitFrom, leastSplitFrom-all, leastSplitFrom-lowest, leastSplitFrom-step, part-is-low}
 
 -- an entry that is not the mark can be added to
 pub score-below : {x : ℕ} → (x ≡ noTree) ⊎ (x < 8388608) → (x ≡ noTree → ⊥) → x < 8388608
 score-below (inl e) f = absurd (f e)
 score-below (inr l) f = l
-
--- ---- the better of two splits, by cases
-
-module _ (x y low : ℕ) (s : Split) where
-  pub better-no-low : x ≡ noTree → betterSplit x y low s ≡ s
-  unfolding betterSplit
-  better-no-low e = rw (eq-eqb x noTree e)
-
-  pub better-no-rest : y ≡ noTree → betterSplit x y low s ≡ s
-  unfolding betterSplit
-  better-no-rest e = rw (eq-eqb y noTree e) (go (eqb x noTree))
-    where
-      go : (b : Bool) → splitUnless (b || true) s (lesserSplit (leb (x + y) (s .score)) (x + y) low s) ≡ s
-      go true = refl
-      go false = refl
-
-  pub better-less : (x ≡ noTree → ⊥) → (y ≡ noTree → ⊥) → x + y ≤ s .score → betterSplit x y low s ≡ record { score = x + y; low = low }
-  unfolding betterSplit
-  better-less p q h = rw (ne-eqb x noTree p, ne-eqb y noTree q, le-leb (x + y) (s .score) h)
-
-  pub better-more : (x ≡ noTree → ⊥) → (y ≡ noTree → ⊥) → s .score < x + y → betterSplit x y low s ≡ s
-  unfolding betterSplit
-  better-more p q h = rw (ne-eqb x noTree p, ne-eqb y noTree q, lt-leb (x + y) (s .score) h)
-
--- ---- a split and a choice are the same
-
-pub record Same (s : Split) (c : Choice) : Type 0 where
-  pub score : s .score ≡ c .score
-  pub low : s .low ≡ c .low
-
-same-better : (e : ℕ → ℕ) (a l : ℕ) {s : Split} {c : Choice} → Same s c → Same (betterSplit (e l) (e (a - l)) l s) (consider e a l c)
-unfolding betterSplit consider
-same-better e a l {s} {c} h =
-    go (eqb (e l) noTree || eqb (e (a - l)) noTree) (leb (e l + e (a - l)) (s .score)) (leb (e l + e (a - l)) (c .score))
-    (ap (leb (e l + e (a - l))) (h .score))
-  where
-    go : (b d f : Bool) → d ≡ f → Same (splitUnless b s (lesserSplit d (e l + e (a - l)) l s)) (unless b c (lesser f (e l + e (a - l)) l c))
-    go true d f p = h
-    go false true true p = record { score = refl; low = refl }
-    go false true false p = absurd (let z : _≡_ {A = ℕ} 0 1 = cc in omega arith)
-    go false false true p = absurd (let z : _≡_ {A = ℕ} 0 1 = cc in omega arith)
-    go false false false p = h
 
 small-better :
     (x y a low : ℕ) {s : Split} → low ≤ a → (x ≡ noTree) ⊎ (x < 8388608) → (y ≡ noTree) ⊎ (y < 8388608) → Small a s
@@ -88,7 +43,7 @@ pub record Visited (scores : List ℕ) (a low rest : ℕ) (held : Split) (s : �
   pub lowest-alone : low ≡ single (lowest a)
   pub others : rest ≡ a - single (lowest a)
   pub part : Within s rest
-  pub same : Same held (choiceFrom (λ b. getD scores b 0) a (single (lowest a) + s))
+  pub same : held ≡ leastSplitFrom (λ b. getD scores b 0) a (single (lowest a) + s)
   pub small : Small a held
 
 -- every cluster of two or more species holds its lowest one
@@ -99,7 +54,7 @@ pub lowest-le : {a : ℕ} → a < 2 ^ 32 → 2 ≤ size a → single (lowest a) 
 lowest-le {a} below two = within-le (lowest-alone-within (some-of-size (omega arith)) below)
 
 pub visited-start : {a low rest : ℕ} (scores : List ℕ) → a < 2 ^ 32 → 2 ≤ size a → low ≡ single (lowest a) → rest ≡ a - low
-    → Visited scores a low rest (record { score = noTree; low = 0 }) rest
+    → Visited scores a low rest noSplit rest
 visited-start {a} {low} {rest} scores below two p q =
     let all : single (lowest a) + rest ≡ a = omega (arith, lowest-le below two) in
     let e : ℕ → ℕ = λ b. getD scores b 0 in
@@ -107,7 +62,7 @@ visited-start {a} {low} {rest} scores below two p q =
       lowest-alone = p;
       others = omega arith;
       part = within-refl rest;
-      same = subst (Same (record { score = noTree; low = 0 })) (sym (ap (choiceFrom e a) all ∙ choiceFrom-all e a)) (record { score = refl; low = refl });
+      same = sym (ap (leastSplitFrom e a) all ∙ leastSplitFrom-all e a);
       small = record { score = inl refl; low = omega arith };
     }
 
@@ -131,7 +86,7 @@ visited-next {scores} {a} {low} {rest} {s} {s′} {held} {held′} v below two s
       lowest-alone = v .lowest-alone;
       others = v .others;
       part = rw p (part-and (s - 1) rest);
-      same = rw (q, v .lowest-alone, stepped) (same-better e a (single (lowest a) + s′) (v .same));
+      same = rw (q, v .lowest-alone, stepped, v .same);
       small =
           rw q
           (small-better (e (low + s′)) (e (a - (low + s′))) a (low + s′) (omega (arith, less)) (scored (low + s′) less)
@@ -142,8 +97,8 @@ visited-next {scores} {a} {low} {rest} {s} {s′} {held} {held′} v below two s
     e : ℕ → ℕ
     e b = getD scores b 0
 
-    stepped : choiceFrom e a (single (lowest a) + s′) ≡ consider e a (single (lowest a) + s′) (choiceFrom e a (single (lowest a) + s))
-    stepped = rw (p, v .others) (choiceFrom-step a (some-of-size (omega arith)) below e s (rw (v .others) at (v .part)) l)
+    stepped : leastSplitFrom e a (single (lowest a) + s′) ≡ consider e a (single (lowest a) + s′) (leastSplitFrom e a (single (lowest a) + s))
+    stepped = rw (p, v .others) (leastSplitFrom-step a (some-of-size (omega arith)) below e s (rw (v .others) at (v .part)) l)
 
     part : LowPart a (low + s′)
     part = rw p (visited-low v below two l)
@@ -155,24 +110,23 @@ pub visited-end : {scores : List ℕ} {a low rest s : ℕ} {held : Split} → Vi
     → BestSplit scores a held
 visited-end {scores} {a} {low} {rest} {s} {held} v below two l =
     record {
+      least = all;
       small = v .small;
       of-best = λ w ok light allow h.
           let few = size-le 32 below in
-          let same = chosen w ok h in
+          let same : held ≡ leastSplit (entry w ok) a = all ∙ leastSplit-same e (entry w ok) a h in
+          let score = ap (λ t. t .score) same in
           record {
-            low = same .low ∙ sym (split-chosen w ok light a few allow two);
-            missing = λ k. best-none w ok light a few allow two (sym (same .score) ∙ k);
-            score = λ f. entry-split w ok light a few allow two (λ k. f (same .score ∙ k)) ∙ ap (λ n. w a + n) (sym (same .score));
+            low = ap (λ t. t .low) same ∙ sym (split-chosen w ok light a few allow two);
+            missing = λ k. best-none w ok light a few allow two (sym score ∙ k);
+            score = λ f. entry-split w ok light a few allow two (λ k. f (score ∙ k)) ∙ ap (λ n. w a + n) (sym score);
           };
     }
   where
     e : ℕ → ℕ
     e b = getD scores b 0
 
-    all : choiceFrom e a (single (lowest a) + s) ≡ choice e a
+    all : held ≡ leastSplit e a
     all =
         let none : single (lowest a) + s ≡ single (lowest a) = omega arith in
-        ap (choiceFrom e a) none ∙ choiceFrom-lowest a (some-of-size (omega arith)) below e
-
-    chosen : (w : ℕ → ℕ) (ok : ℕ → Bool) → ScoresBelow w ok a scores → Same held (choice (entry w ok) a)
-    chosen w ok h = subst (Same held) (all ∙ choice-same e (entry w ok) a h) (v .same)
+        v .same ∙ ap (leastSplitFrom e a) none ∙ leastSplitFrom-lowest a (some-of-size (omega arith)) below e

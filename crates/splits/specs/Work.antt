@@ -4,9 +4,10 @@ use mathlib.Core.Path.{_≡_}
 use mathlib.Core.Logic.{_⊎_}
 use mathlib.Core.Bool.{Bool, true, false, _||_}
 use mathlib.Core.Option.{none}
-use mathlib.Core.List.{List}
+use mathlib.Core.List.{List, foldr}
 use lib.ListN.{getD}
 use lib.Dec.{eqb, leb}
+use Rattle.splits.specs.BinaryTrees.{lows}
 use Rattle.splits.specs.Least.{best, noTree, scoreEntry, splitEntry}
 use Rattle.splits.specs.declared.Split.{Split}
 
@@ -41,6 +42,14 @@ lesserSplit false sum low s = s
 unfoldable pub betterSplit : ℕ → ℕ → ℕ → Split → Split
 betterSplit x y low s = splitUnless (eqb x noTree || eqb y noTree) s (lesserSplit (leb (x + y) (s .score)) (x + y) low s)
 
+-- no split yet: the mark, and no low part
+abbrev pub noSplit : Split
+noSplit = record { score = noTree; low = 0 }
+
+-- of the low parts of a for which both parts have scores, the one with the least sum, and of equals the smallest; e gives the entries of the score table
+unfoldable pub leastSplit : (ℕ → ℕ) → ℕ → Split
+leastSplit e a = foldr (λ low s. betterSplit (e low) (e (a - low)) low s) noSplit (lows a)
+
 -- the score table below a holds the entries of the best trees for these weights and this allowed set
 abbrev pub ScoresBelow : (ℕ → ℕ) → (ℕ → Bool) → ℕ → List ℕ → Type 0
 ScoresBelow w ok a scores = (b : ℕ) → b < a → getD scores b 0 ≡ scoreEntry w (best w ok b)
@@ -51,7 +60,8 @@ pub record SplitOfBest (w : ℕ → ℕ) (ok : ℕ → Bool) (a : ℕ) (s : Spli
   pub missing : s .score ≡ noTree → best w ok a ≡ none
   pub score : (s .score ≡ noTree → ⊥) → scoreEntry w (best w ok a) ≡ w a + s .score
 
--- the best split of a cluster of two or more species, whatever the weights and the allowed set that the entries below it come from
+-- the best split of a cluster of two or more species by a score table, whatever the weights and the allowed set that the entries below it come from
 pub record BestSplit (scores : List ℕ) (a : ℕ) (s : Split) : Type 0 where
+  pub least : s ≡ leastSplit (λ b. getD scores b 0) a
   pub small : Small a s
   pub of-best : (w : ℕ → ℕ) (ok : ℕ → Bool) → Light w → ok a ≡ true → ScoresBelow w ok a scores → SplitOfBest w ok a s

@@ -30,7 +30,8 @@ fn better(scores: &[u32], a: u32, low: u32, best: Split) -> Split
     if y == NO_TREE {
         return best;
     }
-    if x + y <= best.score {
+    let held = best.score;
+    if x + y <= held {
         return Split { score: x + y, low };
     }
     best

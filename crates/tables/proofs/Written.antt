@@ -48,7 +48,7 @@ written-behind f n l b h =
     let k : n + (b - n) ≡ b = omega arith in
     ap (λ i. getD (map f (upTo n) ++ drop n l) i 0) e ∙ getD-append-add (map f (upTo n)) (drop n l) (b - n) 0 ∙ getD-drop n l (b - n) 0 ∙ ap (λ i. getD l i 0) k
 
-same-entries : (f g : ℕ → ℕ) (n : ℕ) → ((b : ℕ) → b < n → f b ≡ g b) → map f (upTo n) ≡ map g (upTo n)
+pub same-entries : (f g : ℕ → ℕ) (n : ℕ) → ((b : ℕ) → b < n → f b ≡ g b) → map f (upTo n) ≡ map g (upTo n)
 unfolding upTo
 same-entries f g zero h = refl
 same-entries f g (suc n) h =

@@ -1,15 +1,14 @@
 -- Clusters in rising order of their lowest species: the order keeps the members, and the lowest species rise where no two are equal.
-use Prim.Native.Nat.{ℕ, _<_}
+use Prim.Native.Nat.{ℕ, _≤_, _<_}
 use mathlib.Core.Path.{_≡_, refl}
 use mathlib.Core.Logic.{_⊎_, inl, inr}
 use mathlib.Core.Bool.{Bool, true, false}
 use mathlib.Core.List.{List, [], _∷_, map, List·Memᴰ·head as here, List·Memᴰ·tail as there, List·Memᴰ·not-nil, List·Memᴰ·cases-cons, Memᴰ·cast, Memᴰ·map}
 use native.Mathlib.Omega.{arith}
-use lib.Dec.{leb}
 use borrow.Author.Tests.{leb-true, leb-false}
 use Rattle.clusters.specs.Sets.{lowest}
 use Rattle.trees.specs.Lists.{Among, NoneTwice, Below, Rising}
-use Rattle.trees.specs.Drawn.{before, placed, byLowest}
+use Rattle.trees.specs.Drawn.{before, lower, placed, byLowest}
 use Rattle.trees.proofs.Order.{rising-below}
 
 -- ---- one cluster placed
@@ -17,7 +16,7 @@ use Rattle.trees.proofs.Order.{rising-below}
 pub among-placed : {z : ℕ} (x : ℕ) (l : List ℕ) → Among z (placed x l) → (z ≡ x) ⊎ Among z l
 unfolding placed
 among-placed x [] h = List·Memᴰ·cases-cons h
-among-placed {z} x (y ∷ l) h = go (leb (lowest x) (lowest y)) h (λ k. among-placed x l k)
+among-placed {z} x (y ∷ l) h = go (lower x y) h (λ k. among-placed x l k)
   where
     later : (z ≡ x) ⊎ Among z l → (z ≡ x) ⊎ Among z (y ∷ l)
     later (inl e) = inl e
@@ -35,7 +34,7 @@ pub placed-among : {z : ℕ} (x : ℕ) (l : List ℕ) → (z ≡ x) ⊎ Among z 
 unfolding placed
 placed-among x [] (inl e) = here e
 placed-among x [] (inr h) = absurd (List·Memᴰ·not-nil h)
-placed-among {z} x (y ∷ l) h = go (leb (lowest x) (lowest y)) h (λ k. placed-among x l k)
+placed-among {z} x (y ∷ l) h = go (lower x y) h (λ k. placed-among x l k)
   where
     behind : (z ≡ y) ⊎ Among z l → ((z ≡ x) ⊎ Among z l → Among z (placed x l)) → Among z (y ∷ placed x l)
     behind (inl e) ih = here e
@@ -50,7 +49,7 @@ placed-among {z} x (y ∷ l) h = go (leb (lowest x) (lowest y)) h (λ k. placed-
 below-placed : {b : ℕ} (x : ℕ) (l : List ℕ) → b < lowest x → Below b (map lowest l) → Below b (map lowest (placed x l))
 unfolding placed Below
 below-placed x [] h p = h
-below-placed {b} x (y ∷ l) h p = go (leb (lowest x) (lowest y))
+below-placed {b} x (y ∷ l) h p = go (lower x y)
   where
     go : (t : Bool) → Below b (map lowest (before t x y l (placed x l)))
     go true = h
@@ -59,14 +58,15 @@ below-placed {b} x (y ∷ l) h p = go (leb (lowest x) (lowest y))
 rising-placed : (x : ℕ) (l : List ℕ) → Rising (map lowest l) → ((y : ℕ) → Among y l → lowest x ≡ lowest y → ⊥) → Rising (map lowest (placed x l))
 unfolding placed Rising
 rising-placed x [] p d = (tt, tt)
-rising-placed x (y ∷ l) p d = go (leb (lowest x) (lowest y)) refl (rising-placed x l (p .1) (λ z h. d z (there h)))
+rising-placed x (y ∷ l) p d =
+    go (lower x y) (λ e. let no-higher : lowest x ≤ lowest y = leb-true _ _ e in omega (arith, d y (here refl))) (λ e. leb-false _ _ e)
+    (rising-placed x l (p .1) (λ z h. d z (there h)))
   where
-    go : (t : Bool) → leb (lowest x) (lowest y) ≡ t → Rising (map lowest (placed x l)) → Rising (map lowest (before t x y l (placed x l)))
-    go true e ih = (first, p)
-      where
-        first : lowest x < lowest y
-        first = omega (arith, leb-true (lowest x) (lowest y) e, d y (here refl))
-    go false e ih = (below-placed x l (leb-false (lowest x) (lowest y) e) (p .0), ih)
+    go :
+        (t : Bool) → (t ≡ true → lowest x < lowest y) → (t ≡ false → lowest y < lowest x) → Rising (map lowest (placed x l))
+        → Rising (map lowest (before t x y l (placed x l)))
+    go true first second ih = (first refl, p)
+    go false first second ih = (below-placed x l (second refl) (p .0), ih)
 
 -- ---- the whole list
 

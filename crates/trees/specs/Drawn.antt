@@ -22,10 +22,14 @@ abbrev pub before : Bool → ℕ → ℕ → List ℕ → List ℕ → List ℕ
 before true x y l done = x ∷ y ∷ l
 before false x y l done = y ∷ done
 
+-- the lowest species of x is no higher than that of y
+abbrev pub lower : ℕ → ℕ → Bool
+lower x y = leb (lowest x) (lowest y)
+
 -- a cluster put in its place by lowest species
 unfoldable pub placed : ℕ → List ℕ → List ℕ
 placed x [] = x ∷ []
-placed x (y ∷ l) = before (leb (lowest x) (lowest y)) x y l (placed x l)
+placed x (y ∷ l) = before (lower x y) x y l (placed x l)
 
 -- "in rising order of their lowest species"
 unfoldable pub byLowest : List ℕ → List ℕ
@@ -41,12 +45,12 @@ children cs a = byLowest (maximal (keep (λ x. properly x a) cs))
 abbrev pub bare : Behind
 bare = record { name = []; distance = []; support = [] }
 
--- the node over a list of children; a list of fewer than two has none, and a leaf stands in
+-- the trees of a first cluster and of those behind it, in their order
 abbrev pub forestOver : (ℕ → Tree) → ℕ → List ℕ → Forest
 forestOver draw a [] = last (draw a)
 forestOver draw a (b ∷ l) = more (draw a) (forestOver draw b l)
 
--- the node over two or more children
+-- the node over two or more children; over fewer there is none, and the child, or a leaf, stands in
 abbrev pub nodeOver : (ℕ → Tree) → List ℕ → Tree
 nodeOver draw [] = leaf 0 bare
 nodeOver draw (a ∷ []) = draw a

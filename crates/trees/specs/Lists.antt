@@ -64,3 +64,9 @@ pieces size (suc n) l = take size l ∷ pieces size n (drop size l)
 unfoldable pub total : List ℕ → ℕ
 total [] = 0
 total (x ∷ l) = x + total l
+
+-- the second list is the first with others put in anywhere: what was there keeps its order
+pub data Sublist {A : Type 0} : List A → List A → Type 0 where
+  ends : Sublist [] []
+  kept : {x : A} {l k : List A} → Sublist l k → Sublist (x ∷ l) (x ∷ k)
+  added : {x : A} {l k : List A} → Sublist l k → Sublist l (x ∷ k)

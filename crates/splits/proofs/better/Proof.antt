@@ -3,7 +3,8 @@ use mathlib.Core.Path.{sym}
 use borrow.Author.Needs.{needs}
 use native.Mathlib.Omega.{arith}
 use Rattle.splits.proofs.LowParts.{low-some}
-use Rattle.splits.proofs.SplitChoice.{score-below, better-no-low, better-no-rest, better-less, better-more}
+use Rattle.splits.proofs.Recurrence.{better-no-low, better-no-rest, better-less, better-more}
+use Rattle.splits.proofs.SplitChoice.{score-below}
 use Rattle.splits.proofs.better.Statement.{statement}
 use Rattle.splits.proofs.better.Tie as tie
 
@@ -25,10 +26,10 @@ add-if3 c =
     omega arith
 
 returns-3 : tie.Need-returns-3
-returns-3 c = sym (better-less _ _ _ _ (c .before .before .before .before .if1 .left) (c .before .before .if2 .left) (omega arith))
+returns-3 c = sym (better-less _ _ _ _ (c .before .before .before .if1 .left) (c .before .if2 .left) (omega arith))
 
 returns-4 : tie.Need-returns-4
-returns-4 c = sym (better-more _ _ _ _ (c .before .before .before .before .if1 .left) (c .before .before .if2 .left) (omega arith))
+returns-4 c = sym (better-more _ _ _ _ (c .before .before .before .if1 .left) (c .before .if2 .left) (omega arith))
 
 pub better-spec : {M : Type 1} → statement M
 better-spec =

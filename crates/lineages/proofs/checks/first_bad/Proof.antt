@@ -4,7 +4,8 @@ use mathlib.Core.Path.{sym, _∙_}
 use borrow.Author.Needs.{needs}
 use native.Mathlib.Omega.{arith}
 use Rattle.trees.proofs.Lent.{part-record, part-length}
-use Rattle.lineages.proofs.FirstBad.{whole-small, PassedTo, passed-start, passed-next, passed-found, passed-all}
+use Rattle.trees.proofs.Bounds.{whole-below-sixteen}
+use Rattle.lineages.proofs.FirstBad.{PassedTo, passed-start, passed-next, passed-found, passed-all}
 use Rattle.lineages.proofs.Told.{valid-told}
 use Rattle.lineages.proofs.checks.first_bad.Statement.{statement}
 use Rattle.lineages.proofs.checks.first_bad.Tie as tie
@@ -19,7 +20,7 @@ valid-requires : tie.Need-valid-requires Inv-loop μ-loop
 valid-requires c κs =
     let start = c .before .before .before .before .before in (
       part-length (c .before .before .loop .i) (start .args .count) (start .args .genes .now) (search needs) (start .pre .1),
-      rw (c .before .before .before .whole .ensures) (whole-small (start .args .n) (start .pre .0)),
+      rw (c .before .before .before .whole .ensures) (whole-below-sixteen (start .args .n) (start .pre .0)),
     )
 
 loop-again : tie.Need-loop-again Inv-loop μ-loop

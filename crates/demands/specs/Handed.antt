@@ -1,0 +1,72 @@
+-- What a machine can hand over to each call: bytes, sixteen-bit and 32-bit numbers, sizes, and slices and records of them.
+use Prim.Native.Nat.{ℕ, _^_, _<_}
+use mathlib.Core.Path.{_≡_}
+use mathlib.Core.List.{List}
+use lib.ListN.{length}
+use Rattle.trees.specs.Lists.{Among}
+
+-- a size: what a `usize` holds
+abbrev pub Size : ℕ → Type 0
+Size k = k < 2 ^ 64
+
+-- a slice of numbers below a bound, its length a size
+pub record Slice (bound : ℕ) (l : List ℕ) : Type 0 where
+  pub below : (x : ℕ) → Among x l → x < bound
+  pub long : Size (length l)
+
+-- a slice of bytes
+abbrev pub Bytes : List ℕ → Type 0
+Bytes l = Slice (2 ^ 8) l
+
+-- a slice of sixteen-bit numbers
+abbrev pub Numbers : List ℕ → Type 0
+Numbers l = Slice (2 ^ 16) l
+
+-- a slice of 32-bit numbers
+abbrev pub WideNumbers : List ℕ → Type 0
+WideNumbers l = Slice (2 ^ 32) l
+
+-- "A tree's record is 32 sixteen-bit numbers", valid or not
+pub record AnyRecord (r : List ℕ) : Type 0 where
+  pub numbers : Numbers r
+  pub thirty-two : length r ≡ 32
+
+-- what is handed over for reading
+pub record ToRead (line text : List ℕ) (start : ℕ) : Type 0 where
+  pub line-bytes : Bytes line
+  pub text-bytes : Bytes text
+  pub start-size : Size start
+
+-- for writing
+pub record ToWrite (line tree out : List ℕ) : Type 0 where
+  pub line-bytes : Bytes line
+  pub tree-record : AnyRecord tree
+  pub out-bytes : Bytes out
+
+-- n, the gene trees and their count, with which the other calls begin
+pub record GeneTrees (n : ℕ) (genes : List ℕ) (count : ℕ) : Type 0 where
+  pub species-size : Size n
+  pub genes-numbers : Numbers genes
+  pub count-size : Size count
+
+-- for the weight of a cluster
+pub record ToWeigh (n : ℕ) (genes : List ℕ) (count cluster : ℕ) : Type 0 where
+  pub gene-trees : GeneTrees n genes count
+  pub cluster-size : Size cluster
+
+-- for the score of a species tree
+pub record ToScore (n : ℕ) (genes : List ℕ) (count : ℕ) (species : List ℕ) : Type 0 where
+  pub gene-trees : GeneTrees n genes count
+  pub species-record : AnyRecord species
+
+-- for marking
+pub record ToMark (n : ℕ) (genes : List ℕ) (count : ℕ) (out : List ℕ) : Type 0 where
+  pub gene-trees : GeneTrees n genes count
+  pub out-bytes : Bytes out
+
+-- for the search
+pub record ToSearch (n : ℕ) (genes : List ℕ) (count : ℕ) (allowed scores splits : List ℕ) : Type 0 where
+  pub gene-trees : GeneTrees n genes count
+  pub allowed-bytes : Bytes allowed
+  pub scores-numbers : WideNumbers scores
+  pub splits-numbers : Numbers splits

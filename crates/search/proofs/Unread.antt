@@ -1,0 +1,150 @@
+-- What a search does not read: byte 0 of the allowed set, and the entries beyond the need.
+use Prim.Native.Nat.{ℕ, zero, suc, _+_, _*_, _^_, _≤_, _<_}
+use mathlib.Core.Path.{_≡_, refl, sym, ap, ap₂, _∙_}
+use mathlib.Core.Logic.{_⊎_, _↔_}
+use mathlib.Core.Bool.{Bool, not}
+use mathlib.Core.List.{List, map}
+use native.Mathlib.Decide.{decLe}
+use native.Mathlib.Omega.{arith}
+use lib.Dec.{leb, ltb}
+use lib.ListN.{length, getD, take, drop}
+use lib.Seq.{getD-take, take-at, drop-at}
+use borrow.Author.Tests.{le-ltb, le-leb, lt-leb}
+use Rattle.clusters.specs.Sets.{whole}
+use Rattle.clusters.proofs.Sets.{within-le, whole-below}
+use Rattle.trees.specs.Lists.{upTo}
+use Rattle.trees.specs.Records.{recordsIn}
+use Rattle.trees.proofs.Lent.{records-needed, short-needed}
+use Rattle.trees.proofs.UpTo.{length-map-upTo}
+use Rattle.roster.specs.Roster.{least, firstOr}
+use Rattle.roster.specs.Verdict.{verdict, lengthTest}
+use Rattle.weights.specs.Count.{weight}
+use Rattle.splits.specs.Least.{scoreEntry, splitEntry, best}
+use Rattle.tables.specs.Allowed.{allowedIn}
+use Rattle.tables.proofs.Written.{same-entries}
+use Rattle.solver.specs.Best.{bestFor}
+use Rattle.solver.specs.declared.Found.{Found}
+use Rattle.search.specs.Promise.{firstStrange, allowedTest, searchTests, filledBy, Finds}
+use Rattle.search.specs.Candidates.{SameAllowed, SameTable}
+use Rattle.search.proofs.BestTrees.{best-local}
+use Rattle.search.proofs.Accepted.{accepts}
+use Rattle.search.proofs.Demand.{accepted-of}
+
+-- ---- allowed sets that say the same
+
+-- where all bytes are 0 or 1, it is enough that they agree on the clusters
+pub zeros-and-ones-same :
+    (n : ℕ) (allowed other : List ℕ) → 2 ^ n ≤ length allowed → 2 ^ n ≤ length other
+    → ((a : ℕ) → a < 2 ^ n → getD allowed a 0 ≤ 1) → ((a : ℕ) → a < 2 ^ n → getD other a 0 ≤ 1)
+    → ((a : ℕ) → 1 ≤ a → a < 2 ^ n → getD allowed a 0 ≡ getD other a 0) → SameAllowed n allowed other
+zeros-and-ones-same n allowed other p q bytes others same = record {
+  long = p;
+  other-long = q;
+  clusters = same;
+  byte-0 = (λ h. others 0 (omega (arith, whole-below n)), λ h. bytes 0 (omega (arith, whole-below n)));
+}
+
+-- the bytes beyond the first 2^n say nothing
+pub first-bytes-same :
+    (n : ℕ) (allowed other : List ℕ) → 2 ^ n ≤ length allowed → 2 ^ n ≤ length other → take (2 ^ n) allowed ≡ take (2 ^ n) other
+    → SameAllowed n allowed other
+first-bytes-same n allowed other p q e =
+    let first = byte 0 (omega (arith, whole-below n)) in
+    record { long = p; other-long = q; clusters = λ a s l. byte a l; byte-0 = (λ h. omega arith, λ h. omega arith) }
+  where
+    byte : (a : ℕ) → a < 2 ^ n → getD allowed a 0 ≡ getD other a 0
+    byte a l = sym (getD-take (2 ^ n) allowed a 0 l) ∙ ap (λ b. getD b a 0) e ∙ getD-take (2 ^ n) other a 0 l
+
+-- ---- lists, entry by entry
+
+least-same : (test other : ℕ → Bool) (p k : ℕ) → ((a : ℕ) → p ≤ a → a < p + k → test a ≡ other a) → least test p k ≡ least other p k
+unfolding least
+least-same test other p zero h = refl
+least-same test other p (suc k) h =
+    ap₂ (λ b m. firstOr b p m) (h p (omega arith) (omega arith)) (least-same test other (suc p) k (λ a l m. h a (omega arith) (omega arith)))
+
+leb-same : (x y m : ℕ) → (x ≤ m) ↔ (y ≤ m) → leb x m ≡ leb y m
+leb-same x y m h = go (decLe x m) (decLe y m)
+  where
+    go : Dec (x ≤ m) → Dec (y ≤ m) → leb x m ≡ leb y m
+    go (yes p) d = le-leb x m p ∙ sym (le-leb y m (h .0 p))
+    go (no p) (yes q) = absurd (p (h .1 q))
+    go (no p) (no q) = lt-leb x m (omega arith) ∙ sym (lt-leb y m (omega arith))
+
+-- two tables that are filled with the same entries
+filled-same :
+    (n k k′ : ℕ) (entry entry′ : ℕ → ℕ) (lent after lent′ after′ : List ℕ) → after ≡ filledBy k n entry lent → after′ ≡ filledBy k′ n entry′ lent′
+    → k ≡ 0 → k′ ≡ 0 → ((a : ℕ) → a < 2 ^ n → entry a ≡ entry′ a) → SameTable n lent after lent′ after′
+filled-same n zero zero entry entry′ lent after lent′ after′ e e′ z z′ same = record {
+  entries =
+      ap (take (2 ^ n)) e ∙ take-at (map entry (upTo (2 ^ n))) (drop (2 ^ n) lent) (2 ^ n) (length-map-upTo entry (2 ^ n))
+      ∙ same-entries entry entry′ (2 ^ n) same
+      ∙ sym (ap (take (2 ^ n)) e′ ∙ take-at (map entry′ (upTo (2 ^ n))) (drop (2 ^ n) lent′) (2 ^ n) (length-map-upTo entry′ (2 ^ n)));
+  beyond = ap (drop (2 ^ n)) e ∙ drop-at (map entry (upTo (2 ^ n))) (drop (2 ^ n) lent) (2 ^ n) (length-map-upTo entry (2 ^ n));
+  beyond′ = ap (drop (2 ^ n)) e′ ∙ drop-at (map entry′ (upTo (2 ^ n))) (drop (2 ^ n) lent′) (2 ^ n) (length-map-upTo entry′ (2 ^ n));
+}
+filled-same n zero (suc k′) entry entry′ lent after lent′ after′ e e′ z z′ same = absurd (omega arith)
+filled-same n (suc k) k′ entry entry′ lent after lent′ after′ e e′ z z′ same = absurd (omega arith)
+
+-- ---- two calls that agree on what is read
+
+-- they agree on n, count, the gene entries that are needed and what is allowed, and have tables long enough
+module _ (n count : ℕ) (genes genes′ allowed allowed′ scores scores′ splits splits′ : List ℕ)
+    (same-genes : take (32 * count) genes ≡ take (32 * count) genes′) (same-allowed : SameAllowed n allowed allowed′)
+    (long : 2 ^ n ≤ length scores) (long′ : 2 ^ n ≤ length scores′) (wide : 2 ^ n ≤ length splits) (wide′ : 2 ^ n ≤ length splits′) where
+  same-records : recordsIn count genes ≡ recordsIn count genes′
+  same-records = sym (records-needed count genes) ∙ ap (recordsIn count) same-genes ∙ records-needed count genes′
+
+  needed-fit : (need : ℕ) (l k : List ℕ) → take need l ≡ take need k → lengthTest (length l) need ≡ lengthTest (length k) need
+  unfolding lengthTest
+  needed-fit need l k e =
+      ap (λ b. record { fault = b; number = 12; place = 0 }) (sym (short-needed need l) ∙ ap (λ m. ltb (length m) need) e ∙ short-needed need k)
+
+  both-fit : (need : ℕ) (l k : List ℕ) → need ≤ length l → need ≤ length k → lengthTest (length l) need ≡ lengthTest (length k) need
+  unfolding lengthTest
+  both-fit need l k p q = rw (le-ltb (length l) need p, le-ltb (length k) need q)
+
+  same-strange : firstStrange n allowed ≡ firstStrange n allowed′
+  unfolding firstStrange
+  same-strange = least-same (λ a. not (leb (getD allowed a 0) 1)) (λ a. not (leb (getD allowed′ a 0) 1)) 0 (2 ^ n) (λ a l m. ap not (judged a m))
+    where
+      judged : (a : ℕ) → a < 0 + 2 ^ n → leb (getD allowed a 0) 1 ≡ leb (getD allowed′ a 0) 1
+      judged zero l = leb-same (getD allowed 0 0) (getD allowed′ 0 0) 1 (same-allowed .byte-0)
+      judged (suc a) l = ap (λ b. leb b 1) (same-allowed .clusters (suc a) (omega arith) (omega arith))
+
+  same-verdict : verdict (searchTests n genes count allowed scores splits) ≡ verdict (searchTests n genes′ count allowed′ scores′ splits′)
+  unfolding searchTests allowedTest
+  same-verdict =
+      rw (
+        needed-fit (32 * count) genes genes′ same-genes,
+        both-fit (2 ^ n) allowed allowed′ (same-allowed .long) (same-allowed .other-long),
+        both-fit (2 ^ n) scores scores′ long long′,
+        both-fit (2 ^ n) splits splits′ wide wide′,
+        same-records,
+        same-strange,
+      )
+
+  same-allowed-in : (a : ℕ) → 1 ≤ a → a < 2 ^ n → allowedIn n allowed a ≡ allowedIn n allowed′ a
+  unfolding allowedIn
+  same-allowed-in a s l = rw (same-allowed .clusters a s l)
+
+  same-best : (a : ℕ) → a < 2 ^ n → bestFor n (recordsIn count genes) allowed a ≡ bestFor n (recordsIn count genes′) allowed′ a
+  unfolding bestFor
+  same-best a l =
+      best-local (weight (recordsIn count genes)) (allowedIn n allowed) (allowedIn n allowed′) a (λ x s m. same-allowed-in x s (let k = within-le m in omega arith))
+      ∙ ap (λ g. best (weight g) (allowedIn n allowed′) a) same-records
+
+  -- "byte 0 has no meaning", "Entries beyond the need are not read": their replies are equal, and where the tables are filled so are the entries
+  pub same-outcome :
+      {r q : Found} {s p s′ p′ : List ℕ} → Finds n genes count allowed scores splits r s p → Finds n genes′ count allowed′ scores′ splits′ q s′ p′
+      → (r ≡ q) × ((r .number ≡ 0) ⊎ (r .number ≡ 14) → SameTable n scores s scores′ s′ × SameTable n splits p splits′ p′)
+  same-outcome {s = s} {p = p} {s′ = s′} {p′ = p′} f f′ = (
+    f .reply ∙ rw (same-verdict, same-best (whole n) (whole-below n), same-records) (sym (f′ .reply)),
+    λ d.
+        let z = accepts n genes count allowed scores splits (accepted-of f d) in
+        let z′ = sym (ap (λ v. v .number) same-verdict) ∙ z in (
+          filled-same n _ _ _ _ scores s scores′ s′ (f .scoreTable) (f′ .scoreTable) z z′
+              (λ a l. ap₂ (λ g o. scoreEntry (weight g) o) same-records (same-best a l)),
+          filled-same n _ _ _ _ splits p splits′ p′ (f .splitTable) (f′ .splitTable) z z′ (λ a l. ap splitEntry (same-best a l)),
+        ),
+  )
