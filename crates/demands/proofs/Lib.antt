@@ -2,6 +2,10 @@ pub mod Examples
 pub mod OneOutcome
 pub mod Refusals
 pub mod TextFaults
+pub mod FirstFaults
+pub mod TestFaults
+pub mod CallFaults
+pub mod InOrder
 pub mod FirstDemand
 pub mod GeneTrees
 pub mod Scorable

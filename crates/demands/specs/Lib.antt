@@ -6,3 +6,5 @@ pub mod Input
 pub mod Signed
 pub mod ReadAs
 pub mod Scorable
+pub mod CallFaults
+pub mod InOrder
