@@ -13,9 +13,12 @@ pub mod SecondDemand
 pub mod ThirdDemand
 pub mod ShutOut
 pub mod Gathering
+pub mod TreesFaults
 pub mod Allowing
 pub mod TwoLines
 pub mod Solved
 pub mod Signed
 pub mod Taken
+pub mod RefusalLines
+pub mod ProgramFaults
 pub mod Locality

@@ -8,3 +8,4 @@ pub mod ReadAs
 pub mod Scorable
 pub mod CallFaults
 pub mod InOrder
+pub mod ProgramFaults
