@@ -38,6 +38,7 @@ use Rattle.demands.specs.CallFaults.RosterFault.{roster-faulty}
 use Rattle.demands.specs.CallFaults._before_.{first, later}
 use Rattle.demands.specs.Input.{TreesFrom}
 use Rattle.demands.specs.Input.TreesFrom.{only-blanks as blanks-remain}
+use Rattle.demands.specs.Signed.{Solvable}
 use Rattle.demands.specs.ProgramFaults.{TextLengthFault, ManySpeciesFault, LineFeedFault, ModeFault, TreesFault, NoGeneTreeFault, UnsolvableFault, ProgramFault}
 use Rattle.demands.specs.ProgramFaults.TextLengthFault.{too-long}
 use Rattle.demands.specs.ProgramFaults.ManySpeciesFault.{over-12}
@@ -53,7 +54,7 @@ use Rattle.demands.proofs.TreesFaults.{stopped-fault, fault-stops, tree
 use Rattle.demands.proofs.RefusalLines.{one-refusal}
 use Rattle.demands.proofs.Solved.{refused-solved}
 use Rattle.demands.proofs.Signed.{report-is-the-output}
-use Rattle.demands.proofs.Taken.{none-exactly}
+use Rattle.demands.proofs.Taken.{solved-exactly, none-exactly}
 
 -- ---- an outcome that says exactly the first fault
 
@@ -331,3 +332,14 @@ module _ (input : List ℕ) where
   one-program-fault {k} {p} {k′} {p′} f g =
       let e : refused k p ≡ refused k′ p′ = sym (refused-exactly k p .1 f) ∙ refused-exactly k′ p′ .1 g in
       (cc, cc)
+
+  -- an input without a fault is one for which a tree is printed, and the other way round
+  pub solvable-without-fault : Solvable input ↔ ((number place : ℕ) → ProgramFault input number place → ⊥)
+  solvable-without-fault = (
+    λ q k p f. refused-solved (sym (refused-exactly k p .1 f) ∙ solved-exactly input .1 q .4),
+    λ free. go (program input) refl free,
+  )
+    where
+      go : (o : Outcome) → program input ≡ o → NoFault (ProgramFault input) → Solvable input
+      go (refused k p) e free = absurd (free k p (refused-exactly k p .0 e))
+      go (solved n m s r) e free = solved-exactly input .0 (n, m, s, r, e)
