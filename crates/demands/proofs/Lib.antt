@@ -19,6 +19,7 @@ pub mod TwoLines
 pub mod Solved
 pub mod Signed
 pub mod Taken
+pub mod LineFeeds
 pub mod RefusalLines
 pub mod ProgramFaults
 pub mod Locality

@@ -51,6 +51,8 @@ use Rattle.demands.proofs.TestFaults.{roster-met}
 use Rattle.demands.proofs.TextFaults.{fault-numbers}
 use Rattle.demands.proofs.Gathering.{stopped-gathered, gathered-from, gathers-standing}
 use Rattle.demands.proofs.TreesFaults.{stopped-fault, fault-stops, trees-fault-means}
+use Rattle.demands.proofs.TwoLines.{feed-splits}
+use Rattle.demands.proofs.LineFeeds.{feed-found, second-feed-found}
 use Rattle.demands.proofs.RefusalLines.{one-refusal}
 use Rattle.demands.proofs.Solved.{refused-solved}
 use Rattle.demands.proofs.Signed.{report-is-the-output}
@@ -197,8 +199,13 @@ module _ (input : List ℕ) where
   FromFeeds = LineFeedFault input before FromMode
 
   says-missing : (endsInFeed input ≡ false) ⊎ (endsInFeed (behindLine input) ≡ false) → program input ≡ refused 10 (length input) → Says (program input) FromFeeds
-  says-missing m e = says-first 10 (length input) e (feed-missing m) (λ j q f. one f)
+  says-missing m e = says-first 10 (length input) e (feed-missing (λ a b c parts. not-two a b c parts m)) (λ j q f. one f)
     where
+      not-two :
+          (a b c : List ℕ) → input ≡ a ++ (10 ∷ (b ++ (10 ∷ c))) → (endsInFeed input ≡ false) ⊎ (endsInFeed (behindLine input) ≡ false) → ⊥
+      not-two a b c parts (inl h) = true≢false (sym (feed-found a (b ++ (10 ∷ c))) ∙ ap endsInFeed (sym parts) ∙ h)
+      not-two a b c parts (inr h) = true≢false (sym (second-feed-found a b c) ∙ ap (λ (l : List ℕ). endsInFeed (behindLine l)) (sym parts) ∙ h)
+
       one : {j q : ℕ} → LineFeedFault input j q → (j ≡ 10) × (q ≡ length input)
       one (feed-missing h) = (refl, refl)
 
@@ -208,8 +215,9 @@ module _ (input : List ℕ) where
   says-feeds true true p q e = says-later (λ k p f. never f) (says-mode (same mode allWord) (same mode genesWord) refl refl e)
     where
       never : {k p : ℕ} → LineFeedFault input k p → ⊥
-      never (feed-missing (inl h)) = true≢false (sym p ∙ h)
-      never (feed-missing (inr h)) = true≢false (sym q ∙ h)
+      never (feed-missing f) =
+          f line mode (behindLine (behindLine input))
+          (feed-splits input p ∙ ap (λ (l : List ℕ). line ++ (10 ∷ l)) (feed-splits (behindLine input) q))
 
   -- 17
   abbrev FromSpecies : ℕ → ℕ → Type 0

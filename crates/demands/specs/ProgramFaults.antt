@@ -1,9 +1,8 @@
 -- The faults of the program's input, by number and place (01, "The program"): what each is, and which comes first.
 use Prim.Native.Nat.{ℕ, suc, _+_, _<_}
 use mathlib.Core.Path.{_≡_}
-use mathlib.Core.Logic.{_⊎_}
 use mathlib.Core.Bool.{false}
-use mathlib.Core.List.{List, []}
+use mathlib.Core.List.{List, [], _∷_, _++_}
 use lib.ListN.{length, getD, drop}
 use Rattle.labels.specs.Bytes.{isBlank}
 use Rattle.trees.specs.Tree.{Tree}
@@ -14,7 +13,7 @@ use Rattle.reader.specs.declared.Reading.{Reading}
 use Rattle.reader.specs.Accepted.{Draws, JustBehind}
 use Rattle.gather.specs.GeneTrees.{genesMost}
 use Rattle.outcomes.specs.Outcome.{programMost}
-use Rattle.report.specs.Input.{firstLine, behindLine, endsInFeed, modePlace, treesPlace, allWord, genesWord}
+use Rattle.report.specs.Input.{firstLine, behindLine, modePlace, treesPlace, allWord, genesWord}
 use Rattle.demands.specs.CallFaults.{RosterFault, _before_}
 use Rattle.demands.specs.Signed.{Unsolvable}
 
@@ -26,9 +25,10 @@ pub data TextLengthFault (input : List ℕ) : ℕ → ℕ → Type 0 where
 pub data ManySpeciesFault (line : List ℕ) : ℕ → ℕ → Type 0 where
   over-12 : programMost < length (names line) → ManySpeciesFault line 17 0
 
--- "Each of the first two lines ends in a line feed; if one is missing the number is 10 at the input's length"
+-- "Each of the first two lines ends in a line feed; if one is missing the number is 10 at the input's length":
+-- the input is not two lines, a line feed behind each, and a text
 pub data LineFeedFault (input : List ℕ) : ℕ → ℕ → Type 0 where
-  feed-missing : (endsInFeed input ≡ false) ⊎ (endsInFeed (behindLine input) ≡ false) → LineFeedFault input 10 (length input)
+  feed-missing : ((line mode text : List ℕ) → input ≡ line ++ (10 ∷ (mode ++ (10 ∷ text))) → ⊥) → LineFeedFault input 10 (length input)
 
 -- "Another mode word gives 3 at its first byte"
 pub data ModeFault (input : List ℕ) : ℕ → ℕ → Type 0 where
