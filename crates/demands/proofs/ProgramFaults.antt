@@ -274,7 +274,7 @@ module _ (input : List ℕ) where
   unfolding firstLine
   line-short = omega (arith, length-take (lineLength input) input)
 
-  -- a refusal among the trees has its place in the text
+  -- so of a refusal among the trees, whose place lies in their text
   trees-within : {k p : ℕ} → length input ≤ textMost → faulty speciesMost line ≡ false → TreesFault line text (treesPlace input) k p → (k ≤ 17) × (p ≤ 200000)
   trees-within {k} {p} short good f = (number (trees-fault-means f), place (fault-stops line text f))
     where
@@ -285,7 +285,7 @@ module _ (input : List ℕ) where
       place : (q : ℕ) × (gather line text ≡ stopped k q) × (p ≡ treesPlace input + q) → p ≤ 200000
       place (q, e, i) = let t = places .3 in let l = stopped-inside line text good (omega arith) (sym e) in omega (arith, places .1)
 
-  -- what stands in the input has a place there, and a number below 18
+  -- no number is over 17, and no place over 200,000: each has at most twenty digits
   small : {k p : ℕ} → ProgramFault input k p → (k ≤ 17) × (p ≤ 200000)
   unfolding rosterTest
   small (first (too-long h)) = (omega arith, omega arith)
