@@ -122,6 +122,7 @@ replies-report input =
     }
 
 -- ---- "Faulty input is turned away with a number and a place, both fixed in advance, and so is what then stands in each buffer she lent."
+-- Which fault each number and place names is in CallFaults and ProgramFaults; here is what a refused reply and the buffers hold.
 
 -- "1 | roster faulty | first byte at fault"
 pub judge-refused : (line : List ℕ) (r : Reply) → Judged line r → (r .number ≡ 0 → ⊥) → TurnedAway (1 ∷ []) r × (r .place ≡ firstFault speciesMost line)

@@ -42,15 +42,15 @@ text-behind-blanks b (text (a-leaf gap w known behind) ends) = text (a-leaf (bla
 text-behind-blanks b (text (an-inner opens first comma others inner behind) ends) = text (an-inner (blanks-on b opens) first comma others inner behind) ends
 
 module _ (line txt : List ℕ) (at : ℕ) where
-  abbrev begun : ℕ
+  abbrev pub begun : ℕ
   begun = at + blanks (drop at txt)
 
-  blanks-from : Blanks (drop at txt) (drop begun txt)
+  pub blanks-from : Blanks (drop at txt) (drop begun txt)
   unfolding blanks skip
   blanks-from = rw (← drop-drop (blanks (drop at txt)) at txt) (skip-blanks (drop at txt))
 
   -- a tree drawn behind blanks is drawn with them
-  draws-behind-blanks : {t : Tree} {rest : List ℕ} → Draws line txt begun t rest → Draws line txt at t rest
+  pub draws-behind-blanks : {t : Tree} {rest : List ℕ} → Draws line txt begun t rest → Draws line txt at t rest
   draws-behind-blanks d = record {
     good = d .good;
     short = d .short;
@@ -59,7 +59,7 @@ module _ (line txt : List ℕ) (at : ℕ) where
     on = d .on;
   }
 
-  behind-blanks : {rest : List ℕ} {q : ℕ} → JustBehind txt begun rest q → JustBehind txt at rest q
+  pub behind-blanks : {rest : List ℕ} {q : ℕ} → JustBehind txt begun rest q → JustBehind txt at rest q
   behind-blanks b = record { after = let h = b .after in omega arith; within = b .within; left = b .left }
 
 -- ---- tree after tree
@@ -71,11 +71,11 @@ record Gathers (line txt : List ℕ) (at : ℕ) (before genes : List (List ℕ))
   records : genes ≡ before ++ map (λ (t : Tree). recordOf (clusters t)) trees
   few : length genes ≤ genesMost
 
-stopped-gathered : {number place : ℕ} {genes : List (List ℕ)} → stopped number place ≡ gathered genes → ⊥
+pub stopped-gathered : {number place : ℕ} {genes : List (List ℕ)} → stopped number place ≡ gathered genes → ⊥
 stopped-gathered e = let z : _≡_ {A = ℕ} 0 1 = cc in omega arith
 
 -- one record more behind the others
-length-more : (before : List (List ℕ)) (r : List ℕ) → length (before ++ (r ∷ [])) ≡ length before + 1
+pub length-more : (before : List (List ℕ)) (r : List ℕ) → length (before ++ (r ∷ [])) ≡ length before + 1
 length-more before r = length-append before (r ∷ [])
 
 module _ (line txt : List ℕ) (genes : List (List ℕ)) where
@@ -198,7 +198,7 @@ module _ (line txt : List ℕ) (at : ℕ) where
   }
 
   -- so it is read there
-  reads-from-begun :
+  pub reads-from-begun :
       {t : Tree} {rest : List ℕ} {next : ℕ} → Draws line txt at t rest → JustBehind txt at rest next
       → (begun line txt at < length txt) × (answerTo line txt (begun line txt at) ≡ parsed t rest next)
   reads-from-begun {t} {rest} {next} d j =
@@ -230,46 +230,3 @@ pub gathers-standing :
     → gather line txt ≡ gathered (map (λ (t : Tree). recordOf (clusters t)) trees)
 unfolding gather
 gathers-standing line txt stand few = gathers-all line txt 514 [] stand (omega arith) (omega arith)
-
--- ---- a refusal on the way
-
-module _ (line txt : List ℕ) {number place : ℕ} where
-  stops : (k : ℕ) (before : List (List ℕ)) (at : ℕ) → gatherTo k line txt before at ≡ stopped number place → number ≡ 14 → ⊥
-  unfolding gatherTo
-  stops zero before at e = absurd (stopped-gathered (sym e))
-  stops (suc k) before at e = ends (leb (length txt) (begun line txt at)) e (λ r q. stops k (before ++ (r ∷ [])) q)
-    where
-      Later : Type 0
-      Later = (r : List ℕ) (q : ℕ) → gatherTo k line txt (before ++ (r ∷ [])) q ≡ stopped number place → number ≡ 14 → ⊥
-
-      read :
-          (a : Answer Tree) → answerTo line txt (begun line txt at) ≡ a
-          → gatherOn (readingOf (begun line txt at) a .number) (readingOf (begun line txt at) a)
-          (λ numbers next. gatherTo k line txt (before ++ (numbers ∷ [])) next)
-          ≡ stopped number place
-          → Later → number ≡ 14 → ⊥
-      read (parsed t rest q) a e later = later (recordOf (clusters t)) q e
-      read (refused zero p) a e later = absurd (omega (arith, fault-numbers (fault-of-refusal line txt (begun line txt at) 0 p a)))
-      read (refused (suc m) p) a e later =
-          let i : suc m ≡ number = cc in
-          λ f. omega (arith, fault-numbers (fault-of-refusal line txt (begun line txt at) (suc m) p a))
-
-      room :
-          (b : Bool)
-          → gatherAt b line txt (begun line txt at) (λ numbers next. gatherTo k line txt (before ++ (numbers ∷ [])) next) ≡ stopped number place
-          → Later → number ≡ 14 → ⊥
-      room true e later = let i : 17 ≡ number = cc in λ f. omega arith
-      room false e later = read (answerTo line txt (begun line txt at)) refl e later
-
-      ends :
-          (b : Bool)
-          → gatherMore b line txt before (begun line txt at) (λ numbers next. gatherTo k line txt (before ++ (numbers ∷ [])) next)
-          ≡ stopped number place
-          → Later → number ≡ 14 → ⊥
-      ends true e later = absurd (stopped-gathered (sym e))
-      ends false e later = room (leb genesMost (length before)) e later
-
-  -- "14" is not said of a tree's text
-  pub stopped-early : gather line txt ≡ stopped number place → number ≡ 14 → ⊥
-  unfolding gather
-  stopped-early e = stops 514 [] 0 e

@@ -2,6 +2,10 @@ pub mod Examples
 pub mod OneOutcome
 pub mod Refusals
 pub mod TextFaults
+pub mod FirstFaults
+pub mod TestFaults
+pub mod CallFaults
+pub mod InOrder
 pub mod FirstDemand
 pub mod GeneTrees
 pub mod Scorable
@@ -9,9 +13,13 @@ pub mod SecondDemand
 pub mod ThirdDemand
 pub mod ShutOut
 pub mod Gathering
+pub mod TreesFaults
 pub mod Allowing
 pub mod TwoLines
 pub mod Solved
 pub mod Signed
 pub mod Taken
+pub mod LineFeeds
+pub mod RefusalLines
+pub mod ProgramFaults
 pub mod Locality

@@ -1,84 +1,82 @@
 -- When the call that scores a species tree accepts what it is handed.
-use Prim.Native.Nat.{ℕ, zero, suc, _*_}
-use mathlib.Core.Path.{_≡_, sym, ap, _∙_}
+use Prim.Native.Nat.{ℕ}
+use mathlib.Core.Path.{_≡_, refl, sym, ap, _∙_}
 use mathlib.Core.Logic.{_↔_}
-use mathlib.Core.Bool.{_&&_}
+use mathlib.Core.Bool.{Bool, true, false}
 use mathlib.Core.List.{List}
-use native.Mathlib.Omega.{arith}
-use lib.ListN.{length}
-use lib.Dec.{leb}
-use borrow.Author.Tests.{leb-true, le-leb, ltb-false, le-ltb, not-false}
 use Rattle.clusters.specs.Sets.{whole}
+use Rattle.trees.specs.Records.{SpeciesValid, BinaryOn, recordsIn}
 use Rattle.trees.specs.Valid.{valid, binary}
 use Rattle.trees.proofs.Bounds.{whole-below-sixteen}
-use Rattle.trees.proofs.ValidTest.{valid-decides, binary-decides}
-use Rattle.roster.specs.Verdict.{Verdict, verdict, lengthTest, replyOf}
+use Rattle.trees.proofs.ValidTest.{denied, valid-decides, binary-decides}
+use Rattle.roster.specs.Verdict.{verdict}
 use Rattle.roster.specs.declared.Reply.{Reply}
-use Rattle.trees.proofs.Booleans.{both}
 use Rattle.weights.specs.Count.{score}
-use Rattle.trees.specs.Records.{recordsIn}
-use Rattle.lineages.specs.Checks.{speciesTest, countTest, speciesRecordTest, firstBad, recordsTest, scoreTests}
+use Rattle.lineages.specs.Checks.{scoreTests}
 use Rattle.lineages.specs.Promise.{Scores}
+use Rattle.demands.specs.CallFaults.{SpeciesRecordFault, ScoreFault}
+use Rattle.demands.specs.CallFaults.SpeciesRecordFault.{not-valid-or-binary}
+use Rattle.demands.specs.InOrder.{GenesInOrder}
 use Rattle.demands.specs.Scorable.{Scorable}
-use Rattle.lineages.proofs.FirstBad.{none-bad}
-use Rattle.search.proofs.Accepted.{verdict-passed, all-first-bad}
-
--- a reply with number 0 has the value
-pub replied-value : (said : Verdict) (v : ℕ) (r : Reply) → r ≡ replyOf said v → r .number ≡ 0 → r .value ≡ v
-replied-value said v r e z = go (said .number) (said .place) e
-  where
-    go : (k q : ℕ) → r ≡ replyOf (record { number = k; place = q }) v → r .value ≡ v
-    go zero q e = ap (λ (r : Reply). r .value) e
-    go (suc k) q e = absurd (omega (arith, ap (λ (r : Reply). r .number) e))
+use Rattle.demands.proofs.FirstFaults.{NoFault, none-first, none-later, none-of-both, none-exactly}
+use Rattle.demands.proofs.CallFaults.{score-exact}
+use Rattle.demands.proofs.InOrder.{no-fault-in-order, no-species-fault, no-count-fault, no-length-fault, no-records-fault, replied-value}
 
 module _ (n : ℕ) (genes : List ℕ) (count : ℕ) (species : List ℕ) where
-  tests-pass : verdict (scoreTests n genes count species) .number ≡ 0 → Scorable n genes count species
-  unfolding scoreTests speciesTest countTest lengthTest speciesRecordTest recordsTest
-  tests-pass e =
-      let a = verdict-passed _ _ (λ z. omega arith) e in
-      let b = verdict-passed _ _ (λ z. omega arith) (a .1) in
-      let c = verdict-passed _ _ (λ z. omega arith) (b .1) in
-      let d = verdict-passed _ _ (λ z. omega arith) (c .1) in
-      let f = verdict-passed _ _ (λ z. omega arith) (d .1) in
-      let p = both (leb 1 n) (leb n 16) (not-false (leb 1 n && leb n 16) (a .0)) in
-      let q = both (leb 1 count) (leb count 4096) (not-false (leb 1 count && leb count 4096) (b .0)) in
-      let s = both (valid (whole n) species) (binary (whole n) species) (not-false (valid (whole n) species && binary (whole n) species) (d .0)) in
-      let few = leb-true n 16 (p .1) in
-      let small = whole-below-sixteen n few in
+  -- a species record without that fault is valid and binary
+  valid-and-binary : GenesInOrder n genes count → NoFault (SpeciesRecordFault n species) → SpeciesValid n species × BinaryOn (whole n) species
+  valid-and-binary g h = go (valid (whole n) species) (binary (whole n) species) refl refl
+    where
+      go : (a b : Bool) → valid (whole n) species ≡ a → binary (whole n) species ≡ b → SpeciesValid n species × BinaryOn (whole n) species
+      go true true v w = (valid-decides species (whole-below-sixteen n (g .few-species)) .holds v, binary-decides (whole n) species .holds w)
+      go true false v w = absurd (h 16 0 (not-valid-or-binary (λ b. denied (binary-decides (whole n) species) w (b .1))))
+      go false b v w = absurd (h 16 0 (not-valid-or-binary (λ b. denied (valid-decides species (whole-below-sixteen n (g .few-species))) v (b .0))))
+
+  no-fault-scorable : NoFault (ScoreFault n genes count species) → Scorable n genes count species
+  no-fault-scorable h =
+      let c = none-later h in
+      let l = none-later c in
+      let s = none-later l in
+      let g = no-fault-in-order n genes count (none-first h) (none-first c) (none-first l) (none-later s) in
+      let t = valid-and-binary g (none-first s) in
       record {
-        some-species = leb-true 1 n (p .0);
-        few-species = few;
-        some-genes = leb-true 1 count (q .0);
-        few-genes = leb-true count 4096 (q .1);
-        genes-fit = ltb-false (length genes) (32 * count) (c .0);
-        species-valid = valid-decides species small .holds (s .0);
-        species-binary = binary-decides (whole n) species .holds (s .1);
-        genes-valid = none-bad n (recordsIn count genes) few (ltb-false (firstBad n (recordsIn count genes)) (length (recordsIn count genes)) (f .0));
+        some-species = g .some-species;
+        few-species = g .few-species;
+        some-genes = g .some-genes;
+        few-genes = g .few-genes;
+        genes-fit = g .genes-fit;
+        species-valid = t .0;
+        species-binary = t .1;
+        genes-valid = g .genes-valid;
       }
 
-  passes-tests : Scorable n genes count species → verdict (scoreTests n genes count species) .number ≡ 0
-  unfolding scoreTests speciesTest countTest lengthTest speciesRecordTest recordsTest verdict
-  passes-tests h =
-      let small = whole-below-sixteen n (h .few-species) in
-      let good = all-first-bad n (recordsIn count genes) (λ g m. valid-decides g small .told (h .genes-valid g m)) in
-      rw (
-        le-leb 1 n (h .some-species),
-        le-leb n 16 (h .few-species),
-        le-leb 1 count (h .some-genes),
-        le-leb count 4096 (h .few-genes),
-        le-ltb (length genes) (32 * count) (h .genes-fit),
-        valid-decides species small .told (h .species-valid),
-        binary-decides (whole n) species .told (h .species-binary),
-        le-ltb (firstBad n (recordsIn count genes)) (length (recordsIn count genes)) (omega arith),
-      )
+  scorable-no-fault : Scorable n genes count species → NoFault (ScoreFault n genes count species)
+  scorable-no-fault h =
+      none-of-both (no-species-fault n genes count g)
+      (none-of-both (no-count-fault n genes count g)
+      (none-of-both (no-length-fault n genes count g)
+      (none-of-both (λ k p f. never f) (no-records-fault n genes count g))))
+    where
+      g : GenesInOrder n genes count
+      g = record {
+        some-species = h .some-species;
+        few-species = h .few-species;
+        some-genes = h .some-genes;
+        few-genes = h .few-genes;
+        genes-fit = h .genes-fit;
+        genes-valid = h .genes-valid;
+      }
+
+      never : {k p : ℕ} → SpeciesRecordFault n species k p → ⊥
+      never (not-valid-or-binary f) = f (h .species-valid, h .species-binary)
 
   -- number 0 exactly when all of that holds
   pub scored-exactly : (r : Reply) → Scores n genes count species r → (r .number ≡ 0) ↔ Scorable n genes count species
   unfolding Scores
-  scored-exactly r p = (
-    λ z. tests-pass (sym (ap (λ (r : Reply). r .number) p) ∙ z),
-    λ h. ap (λ (r : Reply). r .number) p ∙ passes-tests h,
-  )
+  scored-exactly r p =
+      let e = ap (λ (r : Reply). r .number) p in
+      let exactly = none-exactly (score-exact n genes count species) in
+      (λ z. no-fault-scorable (exactly .0 (sym e ∙ z)), λ h. e ∙ exactly .1 (scorable-no-fault h))
 
   -- and then the value is the score
   pub scored-value : (r : Reply) → Scores n genes count species r → r .number ≡ 0 → r .value ≡ score (recordsIn count genes) species

@@ -17,7 +17,6 @@ use Rattle.trees.proofs.Recorded.{among-record, record-among, record-same, vali
 use Rattle.trees.proofs.ValidTest.{valid-decides}
 use Rattle.roster.specs.Roster.{names, faulty}
 use Rattle.roster.specs.Judged.{speciesMost}
-use Rattle.roster.specs.Verdict.{verdict}
 use Rattle.roster.specs.declared.Reply.{Reply}
 use Rattle.tokens.specs.Answers.{Answer}
 use Rattle.tokens.specs.Answers.Answer.{parsed, refused}
@@ -32,13 +31,13 @@ use Rattle.writer.proofs.Outcomes.{writes-once, writes-done}
 use Rattle.writer.proofs.RoundTrip.{write-read, reads-zero}
 use Rattle.weights.specs.Count.{kOf, extra, weight, score}
 use Rattle.weights.specs.Lineages.{lineages}
-use Rattle.lineages.specs.Checks.{weightTests}
 use Rattle.lineages.specs.Promise.{Weighs, Scores}
 use Rattle.demands.specs.ReadAs.{SameClusters, ReadAs}
 use Rattle.demands.specs.Scorable.{Scorable}
 use Rattle.demands.specs.GeneTrees.{RecordsOf, scoreOver}
 use Rattle.demands.proofs.GeneTrees.{gene-trees, score-drawn, score-down}
-use Rattle.demands.proofs.Scorable.{replied-value, scored-exactly, scored-value}
+use Rattle.demands.proofs.InOrder.{weighed-value}
+use Rattle.demands.proofs.Scorable.{scored-exactly, scored-value}
 use Rattle.demands.proofs.TextFaults.{fault-of-refusal, fault-numbers}
 
 -- ---- "Newick text is read to the set of clusters it draws"
@@ -151,8 +150,8 @@ score-is-the-sum n genes count species r p z = scored-value n genes count specie
 pub weight-is-the-sum :
     (n : ℕ) (genes : List ℕ) (count a : ℕ) (r : Reply) → Weighs n genes count a r → r .number ≡ 0
     → r .value ≡ total (map (λ (g : List ℕ). kOf (listed g) a - 1) (recordsIn count genes))
-unfolding Weighs weight extra
-weight-is-the-sum n genes count a r p z = replied-value (verdict (weightTests n genes count a)) (weight (recordsIn count genes) a) r p z
+unfolding weight extra
+weight-is-the-sum n genes count a r p z = weighed-value n genes count a r p z
 
 -- every valid binary species tree is scored against every list of valid gene trees inside the limits
 pub score-given-exactly :

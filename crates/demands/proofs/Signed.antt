@@ -1,12 +1,11 @@
 -- What the clerk signs: "I must be able to say that the tree in it is the right one".
-use Prim.Native.Nat.{ℕ, _-_, _≤_}
+use Prim.Native.Nat.{ℕ, _≤_}
 use mathlib.Core.Path.{_≡_, refl, sym, ap, _∙_, subst}
 use mathlib.Core.Logic.{_⊎_, inl, inr}
 use mathlib.Core.Bool.{Bool, true, false}
 use mathlib.Core.List.{List, _∷_, _++_, append-assoc}
 use native.Mathlib.Omega.{arith}
-use lib.ListN.{length, getD, take, drop, replicate, length-map}
-use lib.Seq.{take-append-seam}
+use lib.ListN.{length, getD, take, drop, length-map}
 use Rattle.clusters.proofs.Sets.{below-of-within}
 use Rattle.trees.specs.Tree.{Tree, clusters}
 use Rattle.trees.specs.Records.{recordOf}
@@ -24,6 +23,7 @@ use Rattle.report.specs.Program.{program}
 use Rattle.outcomes.specs.Outcome.{Outcome, allowedBy, printed}
 use Rattle.outcomes.specs.Outcome.Outcome.{refused, solved}
 use Rattle.report.specs.Promise.{output, Reports}
+use Rattle.report.proofs.Outcomes.{reported-text}
 use Rattle.demands.specs.GeneTrees.{RecordsOf}
 use Rattle.demands.specs.Input.{Holds}
 use Rattle.demands.specs.Signed.{Eligible, Signed}
@@ -141,5 +141,4 @@ printed-is-signed input t = let p = printed-solved input t in (p .0, p .1, p .2,
 
 -- the first bytes of the reply's text, as many as it says, are the output
 pub report-is-the-output : (input : List ℕ) (reply : _) → Reports input reply → take (reply .len) (reply .text) ≡ output input
-unfolding Reports
-report-is-the-output input reply p = rw p (take-append-seam (output input) (replicate (512 - length (output input)) 0))
+report-is-the-output = reported-text

@@ -24,10 +24,10 @@ use Rattle.report.specs.Input.{firstLine, behindLine, endsInFeed, treesPlace, a
 use Rattle.report.specs.Program.{onMode, onFeeds, onSpecies, onRoster, onText, program}
 use Rattle.outcomes.specs.Outcome.{Outcome, programMost, outcomeOf, searched, allowedBy, withGenes, onTrees}
 use Rattle.outcomes.specs.Outcome.Outcome.{refused, solved}
-use Rattle.demands.proofs.Gathering.{stopped-early}
+use Rattle.demands.proofs.TreesFaults.{stopped-early}
 use Rattle.demands.proofs.Allowing.{modeWord}
 
-refused-solved : {number place n m s : ℕ} {r : List ℕ} → refused number place ≡ solved n m s r → ⊥
+pub refused-solved : {number place n m s : ℕ} {r : List ℕ} → refused number place ≡ solved n m s r → ⊥
 refused-solved e = let z : _≡_ {A = ℕ} 0 1 = cc in omega arith
 
 -- ---- the search

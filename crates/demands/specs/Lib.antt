@@ -7,3 +7,6 @@ pub mod Input
 pub mod Signed
 pub mod ReadAs
 pub mod Scorable
+pub mod CallFaults
+pub mod InOrder
+pub mod ProgramFaults

@@ -3,8 +3,7 @@ ghost use mathlib.Core.Path.{_≡_};
 ghost use Prim.Native.Nat.{_+_, _*_, _≤_};
 ghost use lib.ListN.{length};
 ghost use lib.Seq.{sets};
-ghost use Rattle.gather.specs.GeneTrees.{gather as GeneTrees·gather};
-ghost use Rattle.gather.specs.Work.{gatheredIn};
+ghost use Rattle.gather.specs.Work.{Gathers};
 use tokens::blanks;
 
 // The gene trees were read, or one was refused.
@@ -29,7 +28,7 @@ fn put(genes: &mut [u16], count: usize, numbers: [u16; 32])
 // Reads trees until only blanks remain, and puts their records into `genes`. `outcomes` calls it, with numbers for 512 records.
 pub fn gather(line: &[u8], trees: &[u8], genes: &mut [u16]) -> Trees
     requires { ⌜ length (now genes) ≡ 16384 ⌝ }
-    ensures { λ r. ⌜ gatheredIn (now (genes .exit)) r ≡ GeneTrees·gather (now (line .entry)) (now (trees .entry)) ⌝ }
+    ensures { λ r. ⌜ Gathers (now (line .entry)) (now (trees .entry)) (now (genes .entry)) r (now (genes .exit)) ⌝ }
 {
     let mut count: usize = 0;
     let mut at = blanks(trees, 0);

@@ -21,7 +21,7 @@ was-stopped :
     stopped (c .number .given .0 .0) (c .number .given .0 .1 .0) ≡ GeneTrees·gather (args .line .now) (args .trees .now)
 was-stopped c =
     let read = c .before .before .before in
-    ap (λ (r : Trees). gatheredIn (read .gather .last .1 .1 .0) r) (sym (c .number .given .1)) ∙ read .gather .ensures
+    ap (λ (r : Trees). gatheredIn (read .gather .last .1 .1 .0) r) (sym (c .number .given .1)) ∙ read .gather .ensures .answer
 
 was-gathered :
     (c : tie.After-count) → let read = c .before .before .before in
@@ -29,7 +29,7 @@ was-gathered :
     gathered (recordsIn (c .count .given .0 .0) (read .gather .last .1 .1 .0)) ≡ GeneTrees·gather (args .line .now) (args .trees .now)
 was-gathered c =
     let read = c .before .before .before in
-    ap (λ (r : Trees). gatheredIn (read .gather .last .1 .1 .0) r) (sym (c .count .given .1)) ∙ read .gather .ensures
+    ap (λ (r : Trees). gatheredIn (read .gather .last .1 .1 .0) r) (sym (c .count .given .1)) ∙ read .gather .ensures .answer
 
 slice-aggregate-gather : tie.Need-slice-aggregate-gather
 slice-aggregate-gather c = search needs

@@ -1,0 +1,353 @@
+-- "Faulty input is turned away with a number and a place, both fixed in advance": for the program, of what it prints.
+use Prim.Native.Nat.{ℕ, _+_, _*_, _^_, _≤_, _<_}
+use mathlib.Core.Path.{_≡_, refl, sym, ap, ap₂, _∙_, subst₂}
+use mathlib.Core.Logic.{_⊎_, inl, inr, _↔_}
+use mathlib.Core.Bool.{Bool, true, false, true≢false}
+use mathlib.Core.Option.{Option, some, none}
+use mathlib.Core.List.{List, [], _∷_, _++_, map}
+use native.Mathlib.Omega.{arith}
+use lib.ListN.{length, getD, take, drop, length-drop, length-take}
+use lib.Dec.{leb}
+use borrow.Author.Tests.{leb-true, leb-false}
+use Rattle.clusters.specs.Sets.{whole}
+use Rattle.trees.specs.Tree.{Tree, clusters}
+use Rattle.trees.specs.Records.{recordOf}
+use Rattle.roster.specs.Roster.{names, faulty, firstFault, same}
+use Rattle.roster.specs.Judged.{speciesMost}
+use Rattle.roster.proofs.Positions.{same-is, same-self}
+use Rattle.nodes.specs.Grammar.{Blanks}
+use Rattle.splits.specs.BinaryTrees.{Binary}
+use Rattle.solver.specs.Best.{bestFor, foundBy}
+use Rattle.reader.specs.Promise.{textMost}
+use Rattle.writer.specs.Promise.{rosterTest}
+use Rattle.gather.specs.GeneTrees.{Gathered, gather}
+use Rattle.gather.specs.GeneTrees.Gathered.{gathered, stopped}
+use Rattle.gather.proofs.GeneTrees.{stopped-inside}
+use Rattle.printing.specs.Words.{refusedText, atText, newline, decimal}
+use Rattle.printing.specs.Texts.{refusalText}
+use Rattle.printing.specs.declared.Report.{Report}
+use Rattle.report.proofs.Bytewise.{line-within}
+use Rattle.report.specs.Input.{lineLength, firstLine, behindLine, endsInFeed, modePlace, treesPlace, allWord, genesWord}
+use Rattle.report.specs.Promise.{output, Reports}
+use Rattle.report.specs.Program.{onMode, onFeeds, onSpecies, onRoster, onText, program}
+use Rattle.outcomes.specs.Outcome.{Outcome, programMost, outcomeOf, searched, allowedBy, withGenes, onTrees, printed}
+use Rattle.outcomes.specs.Outcome.Outcome.{refused, solved}
+use Rattle.demands.specs.CallFaults.{_before_, RosterFault}
+use Rattle.demands.specs.TextFaults.{TextFault}
+use Rattle.demands.specs.CallFaults.RosterFault.{roster-faulty}
+use Rattle.demands.specs.CallFaults._before_.{first, later}
+use Rattle.demands.specs.Input.{TreesFrom}
+use Rattle.demands.specs.Input.TreesFrom.{only-blanks as blanks-remain}
+use Rattle.demands.specs.Signed.{Solvable}
+use Rattle.demands.specs.ProgramFaults.{TextLengthFault, ManySpeciesFault, LineFeedFault, ModeFault, TreesFault, NoGeneTreeFault, UnsolvableFault, ProgramFault}
+use Rattle.demands.specs.ProgramFaults.TextLengthFault.{too-long}
+use Rattle.demands.specs.ProgramFaults.ManySpeciesFault.{over-12}
+use Rattle.demands.specs.ProgramFaults.LineFeedFault.{feed-missing}
+use Rattle.demands.specs.ProgramFaults.ModeFault.{another-word}
+use Rattle.demands.specs.ProgramFaults.NoGeneTreeFault.{only-blanks}
+use Rattle.demands.specs.ProgramFaults.UnsolvableFault.{no-tree}
+use Rattle.demands.proofs.FirstFaults.{NoFault, passed-none, none-passed}
+use Rattle.demands.proofs.TestFaults.{roster-met}
+use Rattle.demands.proofs.TextFaults.{fault-numbers}
+use Rattle.demands.proofs.Gathering.{stopped-gathered, gathered-from, gathers-standing}
+use Rattle.demands.proofs.TreesFaults.{stopped-fault, fault-stops, trees-fault-means}
+use Rattle.demands.proofs.TwoLines.{feed-splits}
+use Rattle.demands.proofs.LineFeeds.{feed-found, second-feed-found}
+use Rattle.demands.proofs.RefusalLines.{one-refusal}
+use Rattle.demands.proofs.Solved.{refused-solved}
+use Rattle.demands.proofs.Signed.{report-is-the-output}
+use Rattle.demands.proofs.Taken.{solved-exactly, none-exactly}
+
+-- ---- an outcome that says exactly the first fault
+
+-- the outcome is a refusal with a number and a place exactly where F has that fault
+record Says (o : Outcome) (F : ℕ → ℕ → Type 0) : Type 0 where
+  found : {k p : ℕ} → o ≡ refused k p → F k p
+  only : {k p : ℕ} → F k p → o ≡ refused k p
+
+-- the first kind has a fault, and this is its only one
+says-first :
+    {o : Outcome} {F G : ℕ → ℕ → Type 0} (k p : ℕ) → o ≡ refused k p → F k p → ((j q : ℕ) → F j q → (j ≡ k) × (q ≡ p)) → Says o (F before G)
+says-first {o} {F} {G} k p e f one = record { found = found; only = only }
+  where
+    found : {j q : ℕ} → o ≡ refused j q → (F before G) j q
+    found {j} {q} h =
+        let i : refused k p ≡ refused j q = sym e ∙ h in
+        let a : k ≡ j = cc in
+        let b : p ≡ q = cc in
+        first (subst₂ F a b f)
+
+    only : {j q : ℕ} → (F before G) j q → o ≡ refused j q
+    only {j} {q} (first g) = let h = one j q g in e ∙ ap₂ refused (sym (h .0)) (sym (h .1))
+    only (later free g) = absurd (free k p f)
+
+-- the first kind has none, and the others decide
+says-later : {o : Outcome} {F G : ℕ → ℕ → Type 0} → NoFault F → Says o G → Says o (F before G)
+says-later {o} {F} {G} free s = record { found = λ e. later free (s .found e); only = only }
+  where
+    only : {j q : ℕ} → (F before G) j q → o ≡ refused j q
+    only {j} {q} (first f) = absurd (free j q f)
+    only (later h g) = s .only g
+
+-- ---- the kinds, from the last to the first
+
+searched-fourteen : (n : ℕ) (genes : List (List ℕ)) (allowed : List ℕ) {k p : ℕ} → searched n genes allowed ≡ refused k p → (k ≡ 14) × (p ≡ 0)
+unfolding searched
+searched-fourteen n genes allowed {k} {p} e = go (bestFor n genes allowed (whole n)) e
+  where
+    go : (o : Option Binary) → outcomeOf (foundBy o genes .number) n (length genes) (foundBy o genes) ≡ refused k p → (k ≡ 14) × (p ≡ 0)
+    go none e = (let a : 14 ≡ k = cc in sym a, let b : 0 ≡ p = cc in sym b)
+    go (some t) e = absurd (refused-solved (sym e))
+
+-- nothing was gathered exactly where nothing stands
+none-stand : {line txt : List ℕ} → Blanks txt [] → TreesFrom line txt 0 []
+none-stand b = blanks-remain b
+
+no-trees-stand : (line txt : List ℕ) → gather line txt ≡ gathered [] → Blanks txt []
+no-trees-stand line txt g = let h = gathered-from line txt [] g in go (h .trees) (h .stand) (h .records .records)
+  where
+    go : (trees : List Tree) → TreesFrom line txt 0 trees → [] ≡ map (λ (t : Tree). recordOf (clusters t)) trees → Blanks txt []
+    go [] (blanks-remain b) e = b
+    go (t ∷ trees) s e = absurd (omega (arith, ap length e))
+
+module _ (input : List ℕ) where
+  abbrev line : List ℕ
+  line = firstLine input
+
+  abbrev text : List ℕ
+  text = drop (treesPlace input) input
+
+  -- 14
+  says-unsolvable :
+      (all : Bool) (genes : List (List ℕ)) → program input ≡ searched (length (names line)) genes (allowedBy all (length (names line)) genes)
+      → Says (program input) (UnsolvableFault input)
+  says-unsolvable all genes e = record { found = found; only = only }
+    where
+      found : {k p : ℕ} → program input ≡ refused k p → UnsolvableFault input k p
+      found {k} {p} h =
+          let z = searched-fourteen (length (names line)) genes (allowedBy all (length (names line)) genes) (sym e ∙ h) in
+          subst₂ (UnsolvableFault input) (sym (z .0)) (sym (z .1))
+          (no-tree (none-exactly input .0 (h ∙ ap₂ refused (z .0) (z .1))))
+
+      only : {k p : ℕ} → UnsolvableFault input k p → program input ≡ refused k p
+      only (no-tree u) = none-exactly input .1 u
+
+  -- 11
+  abbrev From11 : ℕ → ℕ → Type 0
+  From11 = NoGeneTreeFault text before UnsolvableFault input
+
+  says-gathered :
+      (all : Bool) (genes : List (List ℕ)) → gather line text ≡ gathered genes → program input ≡ withGenes genes all (length (names line))
+      → Says (program input) From11
+  says-gathered all [] g e = says-first 11 0 e (only-blanks (no-trees-stand line text g)) (λ j q f. one f)
+    where
+      one : {j q : ℕ} → NoGeneTreeFault text j q → (j ≡ 11) × (q ≡ 0)
+      one (only-blanks b) = (refl, refl)
+  says-gathered all (x ∷ l) g e = says-later (λ k p f. never f) (says-unsolvable all (x ∷ l) e)
+    where
+      never : {k p : ℕ} → NoGeneTreeFault text k p → ⊥
+      never (only-blanks b) =
+          let h : gathered [] ≡ gathered (x ∷ l) = sym (gathers-standing line text (none-stand b) (omega arith)) ∙ g in
+          let z : _≡_ {A = List (List ℕ)} [] (x ∷ l) = cc in
+          omega (arith, ap length z)
+
+  -- the trees
+  abbrev FromTrees : ℕ → ℕ → Type 0
+  FromTrees = TreesFault line text (treesPlace input) before From11
+
+  says-trees :
+      (all : Bool) (g : Gathered) → gather line text ≡ g → program input ≡ onTrees g (treesPlace input) all (length (names line)) → Says (program input) FromTrees
+  says-trees all (stopped number place) g e =
+      says-first number (treesPlace input + place) e (stopped-fault line text (treesPlace input) g) (λ j q f. one (fault-stops line text f))
+    where
+      one : {j q : ℕ} → (p : ℕ) × (gather line text ≡ stopped j p) × (q ≡ treesPlace input + p) → (j ≡ number) × (q ≡ treesPlace input + place)
+      one {j} (p, h, i) =
+          let same : stopped j p ≡ stopped number place = sym h ∙ g in
+          let a : j ≡ number = cc in
+          let b : p ≡ place = cc in
+          (a, i ∙ ap (λ (x : ℕ). treesPlace input + x) b)
+  says-trees all (gathered genes) g e =
+      says-later (λ k p f. stopped-gathered (sym (fault-stops line text f .1) ∙ g)) (says-gathered all genes g e)
+
+  -- 3
+  abbrev FromMode : ℕ → ℕ → Type 0
+  FromMode = ModeFault input before FromTrees
+
+  abbrev mode : List ℕ
+  mode = firstLine (behindLine input)
+
+  says-mode : (a b : Bool) → same mode allWord ≡ a → same mode genesWord ≡ b → program input ≡ onMode a b input → Says (program input) FromMode
+  says-mode false false p q e =
+      says-first 3 (modePlace input) e (another-word (other allWord p) (other genesWord q)) (λ j q f. one f)
+    where
+      other : (w : List ℕ) → same mode w ≡ false → mode ≡ w → ⊥
+      other w p e = true≢false (sym (same-self w) ∙ ap (λ (m : List ℕ). same m w) (sym e) ∙ p)
+
+      one : {j q : ℕ} → ModeFault input j q → (j ≡ 3) × (q ≡ modePlace input)
+      one (another-word f g) = (refl, refl)
+  says-mode false true p q e = says-later (λ k p f. never f) (says-trees false (gather line text) refl e)
+    where
+      never : {k p : ℕ} → ModeFault input k p → ⊥
+      never (another-word f g) = g (same-is mode genesWord q)
+  says-mode true b p q e = says-later (λ k p f. never f) (says-trees true (gather line text) refl e)
+    where
+      never : {k p : ℕ} → ModeFault input k p → ⊥
+      never (another-word f g) = f (same-is mode allWord p)
+
+  -- 10
+  abbrev FromFeeds : ℕ → ℕ → Type 0
+  FromFeeds = LineFeedFault input before FromMode
+
+  says-missing : (endsInFeed input ≡ false) ⊎ (endsInFeed (behindLine input) ≡ false) → program input ≡ refused 10 (length input) → Says (program input) FromFeeds
+  says-missing m e = says-first 10 (length input) e (feed-missing (λ a b c parts. not-two a b c parts m)) (λ j q f. one f)
+    where
+      not-two :
+          (a b c : List ℕ) → input ≡ a ++ (10 ∷ (b ++ (10 ∷ c))) → (endsInFeed input ≡ false) ⊎ (endsInFeed (behindLine input) ≡ false) → ⊥
+      not-two a b c parts (inl h) = true≢false (sym (feed-found a (b ++ (10 ∷ c))) ∙ ap endsInFeed (sym parts) ∙ h)
+      not-two a b c parts (inr h) = true≢false (sym (second-feed-found a b c) ∙ ap (λ (l : List ℕ). endsInFeed (behindLine l)) (sym parts) ∙ h)
+
+      one : {j q : ℕ} → LineFeedFault input j q → (j ≡ 10) × (q ≡ length input)
+      one (feed-missing h) = (refl, refl)
+
+  says-feeds : (a b : Bool) → endsInFeed input ≡ a → endsInFeed (behindLine input) ≡ b → program input ≡ onFeeds a b input → Says (program input) FromFeeds
+  says-feeds false b p q e = says-missing (inl p) e
+  says-feeds true false p q e = says-missing (inr q) e
+  says-feeds true true p q e = says-later (λ k p f. never f) (says-mode (same mode allWord) (same mode genesWord) refl refl e)
+    where
+      never : {k p : ℕ} → LineFeedFault input k p → ⊥
+      never (feed-missing f) =
+          f line mode (behindLine (behindLine input))
+          (feed-splits input p ∙ ap (λ (l : List ℕ). line ++ (10 ∷ l)) (feed-splits (behindLine input) q))
+
+  -- 17
+  abbrev FromSpecies : ℕ → ℕ → Type 0
+  FromSpecies = ManySpeciesFault line before FromFeeds
+
+  says-species : (b : Bool) → leb (length (names line)) programMost ≡ b → program input ≡ onSpecies b input → Says (program input) FromSpecies
+  says-species true is e = says-later (λ k p f. never f) (says-feeds (endsInFeed input) (endsInFeed (behindLine input)) refl refl e)
+    where
+      never : {k p : ℕ} → ManySpeciesFault line k p → ⊥
+      never (over-12 h) = let l = leb-true (length (names line)) programMost is in omega arith
+  says-species false is e = says-first 17 0 e (over-12 (leb-false (length (names line)) programMost is)) (λ j q f. one f)
+    where
+      one : {j q : ℕ} → ManySpeciesFault line j q → (j ≡ 17) × (q ≡ 0)
+      one (over-12 h) = (refl, refl)
+
+  -- 1
+  abbrev FromRoster : ℕ → ℕ → Type 0
+  FromRoster = RosterFault line before FromSpecies
+
+  says-roster : (b : Bool) → faulty speciesMost line ≡ b → program input ≡ onRoster b input → Says (program input) FromRoster
+  unfolding rosterTest
+  says-roster true is e =
+      says-first 1 (firstFault speciesMost line) e (roster-met line .found is) (λ j q f. let h = roster-met line .only f in (h .1, h .2))
+  says-roster false is e = says-later (passed-none (roster-met line) is) (says-species (leb (length (names line)) programMost) refl e)
+
+  -- 2
+  says-text : (b : Bool) → leb (length input) textMost ≡ b → program input ≡ onText b input → Says (program input) (ProgramFault input)
+  says-text true is e = says-later (λ k p f. never f) (says-roster (faulty speciesMost line) refl e)
+    where
+      never : {k p : ℕ} → TextLengthFault input k p → ⊥
+      never (too-long h) = let l = leb-true (length input) textMost is in omega arith
+  says-text false is e = says-first 2 textMost e (too-long (leb-false (length input) textMost is)) (λ j q f. one f)
+    where
+      one : {j q : ℕ} → TextLengthFault input j q → (j ≡ 2) × (q ≡ textMost)
+      one (too-long h) = (refl, refl)
+
+  -- "Checks: 2, 1, 17, mode, trees, 11, 14": the program refuses with a number at a place exactly where that fault stands
+  pub refused-exactly : (number place : ℕ) → (program input ≡ refused number place) ↔ ProgramFault input number place
+  unfolding program
+  refused-exactly number place = let s = says-text (leb (length input) textMost) refl refl in (λ e. s .found e, λ f. s .only f)
+
+  -- ---- numbers and places are small
+
+  places : (length (behindLine input) ≤ length input) × (treesPlace input ≤ 2 * length input + 2) × (modePlace input ≤ length input + 1) × (length text ≤ length input)
+  unfolding behindLine treesPlace modePlace
+  places = (
+    omega (arith, length-drop (lineLength input + 1) input),
+    omega (arith, line-within input, line-within (behindLine input), length-drop (lineLength input + 1) input),
+    omega (arith, line-within input),
+    omega (arith, length-drop (treesPlace input) input),
+  )
+
+  line-short : length line ≤ length input
+  unfolding firstLine
+  line-short = omega (arith, length-take (lineLength input) input)
+
+  -- so of a refusal among the trees, whose place lies in their text
+  trees-within : {k p : ℕ} → length input ≤ textMost → faulty speciesMost line ≡ false → TreesFault line text (treesPlace input) k p → (k ≤ 17) × (p ≤ 200000)
+  trees-within {k} {p} short good f = (number (trees-fault-means f), place (fault-stops line text f))
+    where
+      number : (k ≡ 17) ⊎ ((b : ℕ) × (q : ℕ) × TextFault line text b k q × (p ≡ treesPlace input + q)) → k ≤ 17
+      number (inl e) = omega arith
+      number (inr h) = omega (arith, fault-numbers (h .2) .1)
+
+      place : (q : ℕ) × (gather line text ≡ stopped k q) × (p ≡ treesPlace input + q) → p ≤ 200000
+      place (q, e, i) = let t = places .3 in let l = stopped-inside line text good (omega arith) (sym e) in omega (arith, places .1)
+
+  -- no number is over 17, and no place over 200,000: each has at most twenty digits
+  small : {k p : ℕ} → ProgramFault input k p → (k ≤ 17) × (p ≤ 200000)
+  unfolding rosterTest
+  small (first (too-long h)) = (omega arith, omega arith)
+  small (later free f) = roster (let g : textMost < length input → ⊥ = λ h. free 2 textMost (too-long h) in omega (arith, g)) f
+    where
+      mode-on : {k p : ℕ} → length input ≤ textMost → faulty speciesMost line ≡ false → FromMode k p → (k ≤ 17) × (p ≤ 200000)
+      mode-on short good (first (another-word f g)) = (omega arith, let m = places .2 in omega arith)
+      mode-on short good (later free (first f)) = trees-within short good f
+      mode-on short good (later free (later free′ (first (only-blanks b)))) = (omega arith, omega arith)
+      mode-on short good (later free (later free′ (later free″ (no-tree u)))) = (omega arith, omega arith)
+
+      roster : {k p : ℕ} → length input ≤ textMost → FromRoster k p → (k ≤ 17) × (p ≤ 200000)
+      roster short (first (roster-faulty inside stands earlier)) = (omega arith, omega (arith, line-short))
+      roster short (later free (first (over-12 h))) = (omega arith, omega arith)
+      roster short (later free (later free′ (first (feed-missing h)))) = (omega arith, omega arith)
+      roster short (later free (later free′ (later free″ f))) = mode-on short (none-passed (roster-met line) free) f
+
+  -- ---- what is printed
+
+  -- the input with a fault prints its line, whatever the number and the place
+  pub fault-is-printed :
+      (number place : ℕ) → ProgramFault input number place → output input ≡ refusedText ++ decimal number ++ atText ++ decimal place ++ newline
+  unfolding output
+  fault-is-printed number place f = ap (printed (names line)) (refused-exactly number place .1 f)
+
+  -- "A refusal prints one line, such as `refused 14 at 0`: the number and the place": exactly where the input has that fault
+  pub printed-refusal-exactly :
+      (number place : ℕ) → number < 10 ^ 20 → place < 10 ^ 20
+      → (output input ≡ refusedText ++ decimal number ++ atText ++ decimal place ++ newline) ↔ ProgramFault input number place
+  unfolding output
+  printed-refusal-exactly number place few near = (λ e. back (program input) refl e, fault-is-printed number place)
+    where
+      back : (o : Outcome) → program input ≡ o → printed (names line) o ≡ refusalText number place → ProgramFault input number place
+      back (refused k p) e t =
+          let f = refused-exactly k p .0 e in
+          let s = small f in
+          let one = one-refusal k p number place (omega arith) (omega arith) few near t in
+          subst₂ (ProgramFault input) (one .0) (one .1) f
+      back (solved n m s r) e t = absurd (omega (arith, ap (λ (l : List ℕ). getD l 0 0) t))
+
+  -- the same of any report that meets the promise
+  pub report-refused-at :
+      (reply : Report) → Reports input reply → (number place : ℕ) → number < 10 ^ 20 → place < 10 ^ 20
+      → (take (reply .len) (reply .text) ≡ refusedText ++ decimal number ++ atText ++ decimal place ++ newline) ↔ ProgramFault input number place
+  report-refused-at reply r number place few near =
+      let e = report-is-the-output input reply r in
+      let h = printed-refusal-exactly number place few near in
+      (λ t. h .0 (sym e ∙ t), λ f. e ∙ h .1 f)
+
+  -- "both fixed in advance": one number and place at the most
+  pub one-program-fault : {k p k′ p′ : ℕ} → ProgramFault input k p → ProgramFault input k′ p′ → (k ≡ k′) × (p ≡ p′)
+  one-program-fault {k} {p} {k′} {p′} f g =
+      let e : refused k p ≡ refused k′ p′ = sym (refused-exactly k p .1 f) ∙ refused-exactly k′ p′ .1 g in
+      (cc, cc)
+
+  -- an input without a fault is one for which a tree is printed, and the other way round
+  pub solvable-without-fault : Solvable input ↔ ((number place : ℕ) → ProgramFault input number place → ⊥)
+  solvable-without-fault = (
+    λ q k p f. refused-solved (sym (refused-exactly k p .1 f) ∙ solved-exactly input .1 q .4),
+    λ free. go (program input) refl free,
+  )
+    where
+      go : (o : Outcome) → program input ≡ o → NoFault (ProgramFault input) → Solvable input
+      go (refused k p) e free = absurd (free k p (refused-exactly k p .0 e))
+      go (solved n m s r) e free = solved-exactly input .0 (n, m, s, r, e)

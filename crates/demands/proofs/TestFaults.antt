@@ -1,0 +1,227 @@
+-- Each test of the calls finds its fault, where it stands, with its number and place.
+use Prim.Native.Nat.{ℕ, zero, suc, _^_, _≤_, _<_}
+use mathlib.Core.Path.{_≡_, refl, sym, ap}
+use mathlib.Core.Logic.{_⊎_, inl, inr, ⊎-elim}
+use mathlib.Core.Bool.{Bool, true, false, not, _&&_, true≢false}
+use mathlib.Core.List.{List, [], _∷_}
+use native.Mathlib.Omega.{arith}
+use lib.ListN.{length, getD}
+use lib.Dec.{leb, ltb}
+use borrow.Author.Tests.{leb-true, leb-false, le-leb, lt-leb, ltb-true, ltb-false, lt-ltb, le-ltb, not-true, not-false}
+use Rattle.clusters.specs.Sets.{whole}
+use Rattle.trees.specs.Records.{ValidOn, SpeciesValid, GeneValid, BinaryOn}
+use Rattle.trees.specs.Valid.{valid, binary}
+use Rattle.trees.proofs.Booleans.{unless, never-both}
+use Rattle.trees.proofs.Bounds.{whole-below-sixteen}
+use Rattle.trees.proofs.ValidTest.{Tells, denied, valid-decides, binary-decides}
+use Rattle.roster.specs.Roster.{names, faulty, firstFault, faultAt, least}
+use Rattle.roster.specs.Judged.{speciesMost}
+use Rattle.roster.specs.Verdict.{lengthTest}
+use Rattle.roster.proofs.Least.{least-is, least-first}
+use Rattle.roster.proofs.Faults.{first-fault, fault-within}
+use Rattle.writer.specs.Promise.{rosterTest, recordTest}
+use Rattle.lineages.specs.Checks.{speciesTest, countTest, speciesRecordTest, countOn, firstBad, recordsTest, clusterTest}
+use Rattle.search.specs.Promise.{firstStrange, allowedTest}
+use Rattle.demands.specs.CallFaults.{RosterFault, SpeciesFault, CountFault, LengthFault, SpeciesRecordFault, RecordsFault, RecordFault, ClusterFault, AllowedFault}
+use Rattle.demands.specs.CallFaults.RosterFault.{roster-faulty}
+use Rattle.demands.specs.CallFaults.SpeciesFault.{not-1-to-16}
+use Rattle.demands.specs.CallFaults.CountFault.{none-or-many}
+use Rattle.demands.specs.CallFaults.LengthFault.{too-short}
+use Rattle.demands.specs.CallFaults.SpeciesRecordFault.{not-valid-or-binary}
+use Rattle.demands.specs.CallFaults.RecordsFault.{first-not-valid}
+use Rattle.demands.specs.CallFaults.RecordFault.{not-valid}
+use Rattle.demands.specs.CallFaults.ClusterFault.{no-cluster}
+use Rattle.demands.specs.CallFaults.AllowedFault.{first-not-0-or-1}
+use Rattle.demands.proofs.FirstFaults.{Meets}
+
+-- ---- two tests of which one fails
+
+not-both : (a b : Bool) → not (a && b) ≡ true → (a ≡ false) ⊎ (b ≡ false)
+not-both true true e = absurd (true≢false (sym e))
+not-both true false e = inr refl
+not-both false b e = inl refl
+
+one-off : (a b : Bool) → (a ≡ false) ⊎ (b ≡ false) → not (a && b) ≡ true
+one-off true b (inl e) = absurd (true≢false e)
+one-off true b (inr e) = rw e refl
+one-off false b e = refl
+
+-- ---- 1, 11, 12 and 13: numbers outside their range
+
+outside : (x most : ℕ) → not (leb 1 x && leb x most) ≡ true → (x ≡ 0) ⊎ (most < x)
+outside x most e =
+    ⊎-elim (λ h. inl (omega (arith, leb-false 1 x h))) (λ h. inr (leb-false x most h)) (not-both (leb 1 x) (leb x most) e)
+
+told-outside : (x most : ℕ) → (x ≡ 0) ⊎ (most < x) → not (leb 1 x && leb x most) ≡ true
+told-outside x most d = one-off (leb 1 x) (leb x most) (⊎-elim (λ z. inl (lt-leb 1 x (omega arith))) (λ h. inr (lt-leb x most h)) d)
+
+-- "1 | .. n not 1 to 16 | .. 0 for n"
+pub species-met : (n : ℕ) → Meets (speciesTest n) (SpeciesFault n)
+unfolding speciesTest
+species-met n = record { numbered = λ z. omega arith; found = λ e. not-1-to-16 (outside n 16 e); only = only }
+  where
+    only : {k p : ℕ} → SpeciesFault n k p → (not (leb 1 n && leb n 16) ≡ true) × (k ≡ 1) × (p ≡ 0)
+    only (not-1-to-16 h) = (told-outside n 16 h, refl, refl)
+
+-- "11 | gene trees 0 or over 4,096 | 0"
+pub count-met : (count : ℕ) → Meets (countTest count) (CountFault count)
+unfolding countTest
+count-met count = record { numbered = λ z. omega arith; found = λ e. none-or-many (outside count 4096 e); only = only }
+  where
+    only : {k p : ℕ} → CountFault count k p → (not (leb 1 count && leb count 4096) ≡ true) × (k ≡ 11) × (p ≡ 0)
+    only (none-or-many h) = (told-outside count 4096 h, refl, refl)
+
+-- "12 | a lent slice too short | 0"
+pub length-met : (lent : List ℕ) (need : ℕ) → Meets (lengthTest (length lent) need) (LengthFault lent need)
+unfolding lengthTest
+length-met lent need = record { numbered = λ z. omega arith; found = λ e. too-short (ltb-true (length lent) need e); only = only }
+  where
+    only : {k p : ℕ} → LengthFault lent need k p → (ltb (length lent) need ≡ true) × (k ≡ 12) × (p ≡ 0)
+    only (too-short h) = (lt-ltb (length lent) need h, refl, refl)
+
+-- "13 | number is no cluster .. | that number"
+pub cluster-met : (n a : ℕ) → Meets (clusterTest n a) (ClusterFault n a)
+unfolding clusterTest
+cluster-met n a = record {
+  numbered = λ z. omega arith;
+  found = λ e.
+      no-cluster
+      (⊎-elim (λ h. inl (omega (arith, leb-false 1 a h))) (λ h. inr (ltb-false a (2 ^ n) h)) (not-both (leb 1 a) (ltb a (2 ^ n)) e));
+  only = only;
+}
+  where
+    only : {k p : ℕ} → ClusterFault n a k p → (not (leb 1 a && ltb a (2 ^ n)) ≡ true) × (k ≡ 13) × (p ≡ a)
+    only (no-cluster d) =
+        (one-off (leb 1 a) (ltb a (2 ^ n)) (⊎-elim (λ z. inl (lt-leb 1 a (omega arith))) (λ h. inr (le-ltb a (2 ^ n) h)) d), refl, refl)
+
+-- ---- 16 and 15: records
+
+-- "16 | species record not valid or not binary | 0"
+pub species-record-met : (n : ℕ) (species : List ℕ) → n ≤ 16 → Meets (speciesRecordTest n species) (SpeciesRecordFault n species)
+unfolding speciesRecordTest
+species-record-met n species few =
+    record {
+      numbered = λ z. omega arith;
+      found = λ e. not-valid-or-binary (λ h.
+          ⊎-elim (λ f. never-both (valid (whole n) species) (is-valid .told (h .0)) f) (λ f. never-both (binary (whole n) species) (is-binary .told (h .1)) f)
+          (not-both (valid (whole n) species) (binary (whole n) species) e));
+      only = only;
+    }
+  where
+    is-valid : Tells (valid (whole n) species) (SpeciesValid n species)
+    is-valid = valid-decides species (whole-below-sixteen n few)
+
+    is-binary : Tells (binary (whole n) species) (BinaryOn (whole n) species)
+    is-binary = binary-decides (whole n) species
+
+    one : (a b : Bool) → valid (whole n) species ≡ a → binary (whole n) species ≡ b → (SpeciesValid n species × BinaryOn (whole n) species → ⊥)
+        → not (a && b) ≡ true
+    one true true v w f = absurd (f (is-valid .holds v, is-binary .holds w))
+    one true false v w f = refl
+    one false b v w f = refl
+
+    only :
+        {k p : ℕ} → SpeciesRecordFault n species k p
+        → (not (valid (whole n) species && binary (whole n) species) ≡ true) × (k ≡ 16) × (p ≡ 0)
+    only (not-valid-or-binary f) = (one (valid (whole n) species) (binary (whole n) species) refl refl f, refl, refl)
+
+-- "15 | a record not valid": the one that the writer has
+pub record-met : (line tree : List ℕ) → length (names line) ≤ 16 → Meets (recordTest line tree) (RecordFault line tree)
+unfolding recordTest
+record-met line tree few =
+    record {
+      numbered = λ z. omega arith;
+      found = λ e. not-valid (denied is-valid (not-true (valid (whole (length (names line))) tree) e));
+      only = only;
+    }
+  where
+    is-valid : Tells (valid (whole (length (names line))) tree) (ValidOn (whole (length (names line))) tree)
+    is-valid = valid-decides tree (whole-below-sixteen (length (names line)) few)
+
+    only : {k p : ℕ} → RecordFault line tree k p → (not (valid (whole (length (names line))) tree) ≡ true) × (k ≡ 15) × (p ≡ 0)
+    only (not-valid f) = (ap not (unless (valid (whole (length (names line))) tree) (λ v. f (is-valid .holds v))), refl, refl)
+
+module _ (n : ℕ) (few : n ≤ 16) where
+  is-valid : (g : List ℕ) → Tells (valid (whole n) g) (GeneValid n g)
+  is-valid g = valid-decides g (whole-below-sixteen n few)
+
+  -- what the index says: that record is not valid, and those before it are
+  first-bad-means :
+      (genes : List (List ℕ)) → firstBad n genes < length genes
+      → (GeneValid n (getD genes (firstBad n genes) []) → ⊥) × ((j : ℕ) → j < firstBad n genes → GeneValid n (getD genes j []))
+  unfolding firstBad
+  first-bad-means [] h = absurd (omega arith)
+  first-bad-means (g ∷ l) h = go (valid (whole n) g) refl h (first-bad-means l)
+    where
+      go : (b : Bool) → valid (whole n) g ≡ b → countOn b (firstBad n l) < suc (length l)
+          → (firstBad n l < length l → (GeneValid n (getD l (firstBad n l) []) → ⊥) × ((j : ℕ) → j < firstBad n l → GeneValid n (getD l j [])))
+          → (GeneValid n (getD (g ∷ l) (countOn b (firstBad n l)) []) → ⊥) × ((j : ℕ) → j < countOn b (firstBad n l) → GeneValid n (getD (g ∷ l) j []))
+      go true e h later = let k = later (omega arith) in (k .0, earlier (k .1))
+        where
+          earlier : ((j : ℕ) → j < firstBad n l → GeneValid n (getD l j [])) → (j : ℕ) → j < suc (firstBad n l) → GeneValid n (getD (g ∷ l) j [])
+          earlier f zero m = is-valid g .holds e
+          earlier f (suc j) m = f j (omega arith)
+      go false e h later = (denied (is-valid g) e, λ j m. absurd (omega arith))
+
+  -- and no other index is such a one
+  first-bad-is :
+      (genes : List (List ℕ)) (i : ℕ) → i < length genes → (GeneValid n (getD genes i []) → ⊥) → ((j : ℕ) → j < i → GeneValid n (getD genes j []))
+      → firstBad n genes ≡ i
+  unfolding firstBad
+  first-bad-is [] i h bad good = absurd (omega arith)
+  first-bad-is (g ∷ l) zero h bad good = rw (unless (valid (whole n) g) (λ v. bad (is-valid g .holds v))) refl
+  first-bad-is (g ∷ l) (suc i) h bad good =
+      rw (is-valid g .told (good 0 (omega arith))) (ap suc (first-bad-is l i (omega arith) bad (λ j m. good (suc j) (omega arith))))
+
+  -- "15 | a record not valid | index of the first"
+  pub records-met : (genes : List (List ℕ)) → Meets (recordsTest n genes) (RecordsFault n genes)
+  unfolding recordsTest
+  records-met genes = record {
+    numbered = λ z. omega arith;
+    found = λ e. let l = ltb-true (firstBad n genes) (length genes) e in let h = first-bad-means genes l in first-not-valid l (h .0) (h .1);
+    only = only;
+  }
+    where
+      only : {k p : ℕ} → RecordsFault n genes k p → (ltb (firstBad n genes) (length genes) ≡ true) × (k ≡ 15) × (p ≡ firstBad n genes)
+      only (first-not-valid {i} l bad good) =
+          let e = first-bad-is genes i l bad good in (lt-ltb (firstBad n genes) (length genes) (omega arith), refl, sym e)
+
+-- ---- 13: the allowed bytes
+
+-- a byte that is not 0 or 1
+abbrev strangeIn : List ℕ → ℕ → Bool
+strangeIn allowed a = not (leb (getD allowed a 0) 1)
+
+-- "13 | .. allowed byte not 0 or 1 | .. first such index"
+pub allowed-met : (n : ℕ) (allowed : List ℕ) → Meets (allowedTest n allowed) (AllowedFault n allowed)
+unfolding allowedTest firstStrange
+allowed-met n allowed = record { numbered = λ z. omega arith; found = found; only = only }
+  where
+    found : ltb (least (strangeIn allowed) 0 (2 ^ n)) (2 ^ n) ≡ true → AllowedFault n allowed 13 (least (strangeIn allowed) 0 (2 ^ n))
+    found e =
+        let l = ltb-true (least (strangeIn allowed) 0 (2 ^ n)) (2 ^ n) e in
+        let h = least-first (strangeIn allowed) (2 ^ n) 0 in
+        first-not-0-or-1 l (leb-false (getD allowed (least (strangeIn allowed) 0 (2 ^ n)) 0) 1 (not-true (leb (getD allowed (least (strangeIn allowed) 0 (2 ^ n)) 0) 1) (h .0 (omega arith))))
+        (λ b m. leb-true (getD allowed b 0) 1 (not-false (leb (getD allowed b 0) 1) (h .1 b (omega arith) m)))
+
+    only : {k p : ℕ} → AllowedFault n allowed k p → (ltb (least (strangeIn allowed) 0 (2 ^ n)) (2 ^ n) ≡ true) × (k ≡ 13) × (p ≡ least (strangeIn allowed) 0 (2 ^ n))
+    only (first-not-0-or-1 {a} l over low) =
+        let e = least-is (strangeIn allowed) (2 ^ n) 0 a (omega arith) (omega arith) (ap not (lt-leb (getD allowed a 0) 1 over)) (λ b p m. ap not (le-leb (getD allowed b 0) 1 (low b m))) in
+        (lt-ltb (least (strangeIn allowed) 0 (2 ^ n)) (2 ^ n) (omega arith), refl, sym e)
+
+-- ---- 1: the roster
+
+-- "1 | roster faulty | first byte at fault"
+pub roster-met : (line : List ℕ) → Meets (rosterTest line) (RosterFault line)
+unfolding rosterTest faulty firstFault
+roster-met line =
+    record {
+      numbered = λ z. omega arith;
+      found = λ e. let h = first-fault speciesMost line e in roster-faulty (fault-within speciesMost line e) (h .0) (h .1);
+      only = only;
+    }
+  where
+    only : {k p : ℕ} → RosterFault line k p → (faulty speciesMost line ≡ true) × (k ≡ 1) × (p ≡ firstFault speciesMost line)
+    only (roster-faulty {place} inside stands earlier) =
+        let e = least-is (faultAt speciesMost line) (suc (length line)) 0 place (omega arith) (omega arith) stands (λ q z. earlier q) in
+        (le-leb (least (faultAt speciesMost line) 0 (suc (length line))) (length line) (omega arith), refl, sym e)

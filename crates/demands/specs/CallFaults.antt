@@ -1,0 +1,98 @@
+-- The faults that a call turns away, by number and place (01, "Numbers returned"): what each is, and which comes first.
+use Prim.Native.Nat.{ℕ, _*_, _^_, _≤_, _<_}
+use mathlib.Core.Path.{_≡_}
+use mathlib.Core.Logic.{_⊎_}
+use mathlib.Core.Bool.{true, false}
+use mathlib.Core.List.{List, []}
+use lib.ListN.{length, getD}
+use Rattle.clusters.specs.Sets.{whole}
+use Rattle.trees.specs.Records.{ValidOn, SpeciesValid, GeneValid, BinaryOn, recordsIn}
+use Rattle.roster.specs.Roster.{names, faultAt}
+use Rattle.roster.specs.Judged.{speciesMost}
+use Rattle.texts.specs.Writing.{written}
+use Rattle.search.specs.Candidates.{Candidate}
+
+-- an order of faults: one of the first kind; or, where none of these stands, one of the second
+infixr 3 _before_
+pub data _before_ (A B : ℕ → ℕ → Type 0) : ℕ → ℕ → Type 0 where
+  first : {number place : ℕ} → A number place → (A before B) number place
+  later : {number place : ℕ} → ((k p : ℕ) → A k p → ⊥) → B number place → (A before B) number place
+
+-- ---- the faults
+
+-- "1 | roster faulty .. | first byte at fault": "of several such places the smallest is given"
+pub data RosterFault (line : List ℕ) : ℕ → ℕ → Type 0 where
+  roster-faulty :
+      {place : ℕ} → place ≤ length line → faultAt speciesMost line place ≡ true
+      → ((p : ℕ) → p < place → faultAt speciesMost line p ≡ false) → RosterFault line 1 place
+
+-- "1 | .. n not 1 to 16 | .. 0 for n"
+pub data SpeciesFault (n : ℕ) : ℕ → ℕ → Type 0 where
+  not-1-to-16 : (n ≡ 0) ⊎ (16 < n) → SpeciesFault n 1 0
+
+-- "11 | gene trees 0 or over 4,096 | 0"
+pub data CountFault (count : ℕ) : ℕ → ℕ → Type 0 where
+  none-or-many : (count ≡ 0) ⊎ (4096 < count) → CountFault count 11 0
+
+-- "12 | a lent slice too short | 0": it has fewer entries than are needed
+pub data LengthFault (lent : List ℕ) (need : ℕ) : ℕ → ℕ → Type 0 where
+  too-short : length lent < need → LengthFault lent need 12 0
+
+-- "16 | species record not valid or not binary | 0"
+pub data SpeciesRecordFault (n : ℕ) (species : List ℕ) : ℕ → ℕ → Type 0 where
+  not-valid-or-binary : (SpeciesValid n species × BinaryOn (whole n) species → ⊥) → SpeciesRecordFault n species 16 0
+
+-- "15 | a record not valid | index of the first"
+pub data RecordsFault (n : ℕ) (genes : List (List ℕ)) : ℕ → ℕ → Type 0 where
+  first-not-valid :
+      {i : ℕ} → i < length genes → (GeneValid n (getD genes i []) → ⊥) → ((j : ℕ) → j < i → GeneValid n (getD genes j []))
+      → RecordsFault n genes 15 i
+
+-- the same for the writer, which has one record: its index is 0
+pub data RecordFault (line tree : List ℕ) : ℕ → ℕ → Type 0 where
+  not-valid : (ValidOn (whole (length (names line))) tree → ⊥) → RecordFault line tree 15 0
+
+-- "13 | number is no cluster .. | that number": "A cluster is a number from 1 to 2^n - 1"
+pub data ClusterFault (n a : ℕ) : ℕ → ℕ → Type 0 where
+  no-cluster : (a ≡ 0) ⊎ (2 ^ n ≤ a) → ClusterFault n a 13 a
+
+-- "13 | .. allowed byte not 0 or 1 | .. first such index": "2^n bytes, one for each cluster number"
+pub data AllowedFault (n : ℕ) (allowed : List ℕ) : ℕ → ℕ → Type 0 where
+  first-not-0-or-1 :
+      {a : ℕ} → a < 2 ^ n → 1 < getD allowed a 0 → ((b : ℕ) → b < a → getD allowed b 0 ≤ 1) → AllowedFault n allowed 13 a
+
+-- "14 | no binary tree over the allowed clusters | 0"
+pub data NoTreeFault (n : ℕ) (allowed : List ℕ) : ℕ → ℕ → Type 0 where
+  no-tree : ((c : List ℕ) → Candidate n allowed c → ⊥) → NoTreeFault n allowed 14 0
+
+-- ---- the calls
+
+-- "The writer: 1, 15, 12": "fewer bytes than its text"
+abbrev pub WriteFault : List ℕ → List ℕ → List ℕ → ℕ → ℕ → Type 0
+WriteFault line tree out = RosterFault line before RecordFault line tree before LengthFault out (length (written (names line) tree))
+
+-- "All others: 1, 11, 12, 16, 15, 13, 14, each where it applies": "32 entries for each record counted"
+abbrev pub WeightFault : ℕ → List ℕ → ℕ → ℕ → ℕ → ℕ → Type 0
+WeightFault n genes count a =
+    SpeciesFault n before CountFault count before LengthFault genes (32 * count) before RecordsFault n (recordsIn count genes) before ClusterFault n a
+
+-- the same of the score of a species tree
+abbrev pub ScoreFault : ℕ → List ℕ → ℕ → List ℕ → ℕ → ℕ → Type 0
+ScoreFault n genes count species =
+    SpeciesFault n before CountFault count before LengthFault genes (32 * count) before SpeciesRecordFault n species
+    before RecordsFault n (recordsIn count genes)
+
+-- the same of the call that marks the gene trees' clusters: it "writes 2^n bytes"
+abbrev pub MarkFault : ℕ → List ℕ → ℕ → List ℕ → ℕ → ℕ → Type 0
+MarkFault n genes count out =
+    SpeciesFault n before CountFault count before LengthFault genes (32 * count) before LengthFault out (2 ^ n)
+    before RecordsFault n (recordsIn count genes)
+
+-- the same of the search: "fewer than 2^n for an allowed set or a table"
+abbrev pub SearchFault : ℕ → List ℕ → ℕ → List ℕ → List ℕ → List ℕ → ℕ → ℕ → Type 0
+SearchFault n genes count allowed scores splits =
+    SpeciesFault n before CountFault count before LengthFault genes (32 * count) before LengthFault allowed (2 ^ n) before LengthFault scores (2 ^ n)
+    before LengthFault splits (2 ^ n)
+    before RecordsFault n (recordsIn count genes)
+    before AllowedFault n allowed
+    before NoTreeFault n allowed

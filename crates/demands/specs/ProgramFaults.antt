@@ -1,0 +1,76 @@
+-- The faults of the program's input, by number and place (01, "The program"): what each is, and which comes first.
+use Prim.Native.Nat.{ℕ, suc, _+_, _<_}
+use mathlib.Core.Path.{_≡_}
+use mathlib.Core.Bool.{false}
+use mathlib.Core.List.{List, [], _∷_, _++_}
+use lib.ListN.{length, getD, drop}
+use Rattle.labels.specs.Bytes.{isBlank}
+use Rattle.trees.specs.Tree.{Tree}
+use Rattle.roster.specs.Roster.{names}
+use Rattle.nodes.specs.Grammar.{Blanks}
+use Rattle.reader.specs.Promise.{textMost, Reads}
+use Rattle.reader.specs.declared.Reading.{Reading}
+use Rattle.reader.specs.Accepted.{Draws, JustBehind}
+use Rattle.gather.specs.GeneTrees.{genesMost}
+use Rattle.outcomes.specs.Outcome.{programMost}
+use Rattle.report.specs.Input.{firstLine, behindLine, modePlace, treesPlace, allWord, genesWord}
+use Rattle.demands.specs.CallFaults.{RosterFault, _before_}
+use Rattle.demands.specs.Signed.{Unsolvable}
+
+-- "2 | text over 65,536 bytes | 65,536"
+pub data TextLengthFault (input : List ℕ) : ℕ → ℕ → Type 0 where
+  too-long : textMost < length input → TextLengthFault input 2 textMost
+
+-- "17 | program only: over 12 species .. | 0"
+pub data ManySpeciesFault (line : List ℕ) : ℕ → ℕ → Type 0 where
+  over-12 : programMost < length (names line) → ManySpeciesFault line 17 0
+
+-- "Each of the first two lines ends in a line feed; if one is missing the number is 10 at the input's length":
+-- the input is not two lines, a line feed behind each, and a text
+pub data LineFeedFault (input : List ℕ) : ℕ → ℕ → Type 0 where
+  feed-missing : ((line mode text : List ℕ) → input ≡ line ++ (10 ∷ (mode ++ (10 ∷ text))) → ⊥) → LineFeedFault input 10 (length input)
+
+-- "Another mode word gives 3 at its first byte"
+pub data ModeFault (input : List ℕ) : ℕ → ℕ → Type 0 where
+  another-word :
+      (firstLine (behindLine input) ≡ allWord → ⊥) → (firstLine (behindLine input) ≡ genesWord → ⊥) → ModeFault input 3 (modePlace input)
+
+-- "trees": m of them stand one after the other, from the text's first byte up to an offset
+pub data TreesTo (line text : List ℕ) : ℕ → ℕ → Type 0 where
+  no-tree-yet : TreesTo line text 0 0
+  one-more :
+      {m at next : ℕ} {t : Tree} {rest : List ℕ}
+      → TreesTo line text m at → Draws line text at t rest → JustBehind text at rest next → TreesTo line text (suc m) next
+
+-- "until only blanks remain": behind m trees more stands there, and begins at b, "its first byte that is no blank"
+pub record MoreBehind (line text : List ℕ) (m b : ℕ) : Type 0 where
+  pub at : ℕ
+  pub trees : TreesTo line text m at
+  pub gap : Blanks (drop at text) (drop b text)
+  pub inside : b < length text
+  pub no-blank : isBlank (getD text b 0) ≡ false
+
+-- the text behind the two lines begins at shift: "Places are offsets in the input"
+pub data TreesFault (line text : List ℕ) (shift : ℕ) : ℕ → ℕ → Type 0 where
+  -- behind fewer than 512 trees stands what the reader refuses
+  refused-tree :
+      {m b : ℕ} (r : Reading) → MoreBehind line text m b → m < genesMost → Reads line text b r → (r .number ≡ 0 → ⊥)
+      → TreesFault line text shift (r .number) (shift + r .place)
+  -- "a 513th tree is 17 at its first byte that is no blank, before it is read"
+  tree-513 : {b : ℕ} → MoreBehind line text genesMost b → TreesFault line text shift 17 (shift + b)
+
+-- "11 | gene trees 0 .. | 0"
+pub data NoGeneTreeFault (text : List ℕ) : ℕ → ℕ → Type 0 where
+  only-blanks : Blanks text [] → NoGeneTreeFault text 11 0
+
+-- "14 | no binary tree over the allowed clusters | 0"
+pub data UnsolvableFault (input : List ℕ) : ℕ → ℕ → Type 0 where
+  no-tree : Unsolvable input → UnsolvableFault input 14 0
+
+-- "Checks: 2, 1, 17, mode, trees, 11, 14", and 10 "after 1 and 17 have been tried and before the mode word is judged"
+abbrev pub ProgramFault : List ℕ → ℕ → ℕ → Type 0
+ProgramFault input =
+    TextLengthFault input before RosterFault (firstLine input) before ManySpeciesFault (firstLine input) before LineFeedFault input before ModeFault input
+    before TreesFault (firstLine input) (drop (treesPlace input) input) (treesPlace input)
+    before NoGeneTreeFault (drop (treesPlace input) input)
+    before UnsolvableFault input
