@@ -12,7 +12,8 @@ use Rattle.roster.specs.Roster.{names, faulty, firstFault}
 use Rattle.roster.specs.Judged.{speciesMost}
 use Rattle.tokens.specs.Answers.Answer.{refused}
 use Rattle.reader.specs.Promise.{textMost, fromStart, inLimit, onRoster, answerTo}
-use Rattle.nodes.proofs.Meaning.{refusal-means, refusal-numbers}
+use Rattle.nodes.proofs.Meaning.{refusal-means}
+use Rattle.nodes.proofs.Refusals.{refusal-numbers}
 use Rattle.demands.specs.TextFaults.{TextFault}
 use Rattle.demands.specs.TextFaults.TextFault.{roster-faulty, too-long, beyond, as-met}
 

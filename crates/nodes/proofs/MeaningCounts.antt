@@ -27,7 +27,7 @@ count-append b (c ∷ x) y = go (eqb c b) (count-append b x y)
     go true h = omega arith
     go false h = omega arith
 
-differ : (test : ℕ → Bool) (b c : ℕ) → test b ≡ false → test c ≡ true → eqb c b ≡ false
+pub differ : (test : ℕ → Bool) (b c : ℕ) → test b ≡ false → test c ≡ true → eqb c b ≡ false
 differ test b c non is = go (eqb c b) refl
   where
     go : (t : Bool) → eqb c b ≡ t → eqb c b ≡ false
@@ -137,6 +137,9 @@ level-steps R = record {
       let x = evenly-blanks bl in let y = evenly-name r in let z = evenly-numbers behind in record { level = omega arith; ending = omega arith };
   at-inner = λ k t f w d b s s₁ s₂ s₃ s₄ s₅ rest bl first p comma others q inner behind.
       let x = evenly-blanks bl in let y = evenly-blanks comma in let z = evenly-inner inner in let v = evenly-numbers behind in
+      record { level = omega arith; ending = omega arith };
+  at-single = λ k t w d b s s₁ s₂ s₃ s₄ rest enough bl only p closes inner behind.
+      let x = evenly-blanks bl in let y = evenly-blanks closes in let z = evenly-inner inner in let v = evenly-numbers behind in
       record { level = omega arith; ending = omega arith };
   at-last = λ k t s s₁ rest only p closes. let x = evenly-blanks closes in record { level = omega arith; ending = omega arith };
   at-more = λ k t f s s₁ s₂ rest first p comma others q. let x = evenly-blanks comma in record { level = omega arith; ending = omega arith };

@@ -33,7 +33,7 @@ use Rattle.nodes.proofs.Answers.{refused-parsed, parsed-refused}
 use Rattle.nodes.proofs.Rests.{tail-drop, moves-length, skip-moves, skip-tail, numberBehind-advances, name-moves, innerName-moves, nextIs-tail, readNode-advances, readForest-advances}
 use Rattle.nodes.proofs.Sound.{skip-blanks, nextIs-cons, skip-byte, run-derives, number-read, name-read, innerName-read, readNode-sound, readForest-sound}
 use Rattle.nodes.proofs.Exact.{no-name-run, stopped-name, colon-stops, run-splits, run-exact}
-use Rattle.nodes.proofs.Fronts.{Front, Then, BlanksAnd, front-then, blanks-front, byte-front, run-front, colon-front, inner-front, node-front, children-front, inner-allowed, children-allowed, lifted-allows, lift-node}
+use Rattle.nodes.proofs.Fronts.{Front, Then, BlanksAnd, front-then, blanks-front, byte-front, run-front, colon-front, inner-front, node-front, children-front, inner-allowed, children-allowed, strict-lifted, lift-node}
 use Rattle.nodes.proofs.MeaningCounts.{evenly-blanks, evenly-name, evenly-colon, evenly-inner, node-level, children-level, no-semicolon}
 use Rattle.nodes.proofs.MeaningContexts.{NodeOf, ChildrenOf}
 
@@ -135,7 +135,7 @@ step-colon s p is h =
 pub step-inner :
     (names : List (List ℕ)) (s : List ℕ) (p : ℕ) {w rest : List ℕ} {q : ℕ} → innerName s p ≡ parsed w rest q → Step (Inner lifted w) s p rest q
 step-inner names s p h =
-    let d = inner-allowed (strict names) lifted (lifted-allows (strict names)) (innerName-read names s p h) in
+    let d = inner-allowed (strict names) lifted (strict-lifted names) (innerName-read names s p h) in
     record { front = inner-front lifted d; moved = moves-length (innerName-moves s p h); even = evenly-inner d .ending }
 
 pub step-here : (b : ℕ) (s : List ℕ) (p : ℕ) → nextIs b s ≡ true → eqb b 59 ≡ false → Step (BlanksAnd b) s p (tail s) (p + 1)
@@ -154,7 +154,7 @@ module _ (k : ℕ) (names : List (List ℕ)) (room seen : ℕ) (s : List ℕ) (p
 
   pub step-forest : {f : Forest} {rest : List ℕ} {q : ℕ} → readForest k names room seen s p ≡ parsed f rest q → Step (ChildrenOf room f) s p rest q
   step-forest {f} {rest} {q} h =
-      let d = children-allowed (strict names) lifted (lifted-allows (strict names)) (readForest-sound k names room seen s p f rest q h .derives) in
+      let d = children-allowed (strict names) lifted (strict-lifted names) (readForest-sound k names room seen s p f rest q h .derives) in
       record {
         front = children-front lifted d;
         moved = moves-length (readForest-advances k names room seen s p f rest q h .moves);
