@@ -6,3 +6,4 @@ pub mod Input
 pub mod Signed
 pub mod ReadAs
 pub mod Scorable
+pub mod Deciding
