@@ -1,5 +1,5 @@
 -- In a text no `(` stands right behind a letter, a digit or a point: so a node begins where no name and no number goes on.
-use Prim.Native.Nat.{ℕ, _≤_}
+use Prim.Native.Nat.{ℕ, _+_, _≤_}
 use mathlib.Core.Path.{_≡_, refl, sym, ap, _∙_}
 use mathlib.Core.Bool.{Bool, true, false, _&&_, _||_}
 use mathlib.Core.List.{List, [], _∷_, _++_, append-assoc}
@@ -18,7 +18,7 @@ use Rattle.nodes.specs.Grammar.Inner.{nameless, named}
 use Rattle.nodes.specs.Grammar.Node.{an-inner}
 use Rattle.nodes.specs.Grammar.Children.{the-last}
 use Rattle.nodes.specs.Grammar.Text.{text}
-use Rattle.nodes.specs.Meaning.{IsNode, NodeMayStand, plusIf}
+use Rattle.nodes.specs.Meaning.{IsNode, NodeMayStand, extra}
 use Rattle.nodes.proofs.Derivations.{Steps, over-node}
 use Rattle.nodes.proofs.Exact.{blank-all}
 use Rattle.nodes.proofs.MeaningCounts.{differ}
@@ -31,7 +31,7 @@ isWordy b = isName b || eqb b 46
 -- how often `(` stands right behind one
 unfoldable glued : List ℕ → ℕ
 glued [] = 0
-glued (b ∷ s) = plusIf (isWordy b && nextIs 40 s) (glued s)
+glued (b ∷ s) = extra (isWordy b && nextIs 40 s) 1 + glued s
 
 both-false : (a b : Bool) → b ≡ false → (a && b) ≡ false
 both-false true b e = e
@@ -40,11 +40,11 @@ both-false false b e = refl
 -- a byte of another kind, or one with another byte behind it, does not count
 glued-other : (b : ℕ) (s : List ℕ) → isWordy b ≡ false → glued (b ∷ s) ≡ glued s
 unfolding glued
-glued-other b s non = rw non refl
+glued-other b s non = rw non (omega arith)
 
 glued-apart : (b : ℕ) (s : List ℕ) → nextIs 40 s ≡ false → glued (b ∷ s) ≡ glued s
 unfolding glued
-glued-apart b s non = rw (both-false (isWordy b) (nextIs 40 s) non) refl
+glued-apart b s non = rw (both-false (isWordy b) (nextIs 40 s) non) (omega arith)
 
 -- ---- what a token or a node uses up has none
 
@@ -140,9 +140,9 @@ unfolding glued nextIs
 glued-there [] b y is = rw is (omega arith)
 glued-there (c ∷ x) b y is = go (isWordy c && nextIs 40 (x ++ b ∷ 40 ∷ y)) (glued-there x b y is)
   where
-    go : (t : Bool) → 1 ≤ glued (x ++ b ∷ 40 ∷ y) → 1 ≤ plusIf t (glued (x ++ b ∷ 40 ∷ y))
+    go : (t : Bool) → 1 ≤ glued (x ++ b ∷ 40 ∷ y) → 1 ≤ extra t 1 + glued (x ++ b ∷ 40 ∷ y)
     go true h = omega arith
-    go false h = h
+    go false h = omega arith
 
 -- the node `(a,a)`
 pub opening-node : IsNode lifted (40 ∷ 97 ∷ 44 ∷ 97 ∷ 41 ∷ [])

@@ -22,4 +22,5 @@ pub mod OneNumber
 pub mod Refusals
 pub mod Rests
 pub mod Sound
+pub mod Spans
 pub mod Unique

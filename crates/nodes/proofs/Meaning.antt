@@ -146,8 +146,8 @@ module _ (names : List (List ℕ)) (needed : ℕ) (s₀ : List ℕ) (p₀ : ℕ)
       unfolding count
       inside-room =
           let e = nextIs-cons 40 s is in
-          let a : count 40 s ≡ suc (count 40 (tail s)) = ap (count 40) e in
-          let b : count 41 s ≡ count 41 (tail s) = ap (count 41) e in
+          let a : count 40 s ≡ 1 + count 40 (tail s) = ap (count 40) e in
+          let b : count 41 s ≡ 0 + count 41 (tail s) = ap (count 41) e in
           omega arith
 
       -- behind the first child t, which leaves m

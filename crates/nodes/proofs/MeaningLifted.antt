@@ -30,7 +30,7 @@ use Rattle.nodes.proofs.Answers.{parsed-refused}
 use Rattle.nodes.proofs.Rests.{tail-drop}
 use Rattle.nodes.proofs.Fronts.{blanks-front, node-front}
 use Rattle.nodes.proofs.MeaningContexts.{front-shorter}
-use Rattle.nodes.proofs.Locality.{spanWith, spanOf, number-long, name-long}
+use Rattle.nodes.proofs.Spans.{spanWith, spanOf, number-long, name-long}
 
 -- ---- the numbers that name a limit, a leaf's name, a single child or a missing species: 4 to 9
 

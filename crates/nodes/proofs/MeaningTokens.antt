@@ -28,7 +28,7 @@ use Rattle.nodes.specs.Meaning.Means.{stray, long-name, long-number, end
 use Rattle.nodes.proofs.Answers.{Reached, parsed-refused, andThen-refused, unexpected-refused, AtEnd, AtByte}
 use Rattle.nodes.proofs.Sound.{nextIs-cons, run-derives}
 use Rattle.nodes.proofs.Fronts.{Front, Then, BlanksAnd, front-byte, run-front}
-use Rattle.nodes.proofs.MeaningCounts.{evenly-digits, no-semicolon}
+use Rattle.nodes.proofs.MeaningCounts.{evenly-digits, count-other}
 use Rattle.nodes.proofs.MeaningContexts.{stand-on, stand-begins, stand-as, begins-by, begins-less, closing-name, closing-numbers, blanks-name, blanks-number, colon-number, colons-number, second-number, point-number, Stand, NameIn, NumberIn, NumbersIn, ClosingIn}
 use Rattle.nodes.proofs.MeaningSteps.{zeroed, point-behind, thirteen-pointed, TooLong, limited-refused, numeral-refused, Step, step-then, step-skip, step-byte, step-colon, step-inner}
 
@@ -158,7 +158,7 @@ module _ {names : List (List ℕ)} {needed : ℕ} {s₀ : List ℕ} {p₀ : ℕ}
       let X : List ℕ → List ℕ → Type 0 = λ s rest. Run isDigit v s (46 ∷ rest) in
       let f : Front X s mid = front-byte (Run isDigit v) 46 (run-front r) in
       let x : Step X s p mid (p + (d + 1)) =
-      record { front = f; moved = omega (arith, length-drop d s); even = evenly-digits r .ending ∙ no-semicolon 46 mid refl }
+      record { front = f; moved = omega (arith, length-drop d s); even = evenly-digits r .ending ∙ count-other 59 46 mid refl }
       in
       unexpected-says (List ℕ) (stands-on st x)
       (begins-less (48 ∷ []) (stand-begins lifted IsNumber X (48 ∷ []) (point-number v) (may 2) f)) h

@@ -81,15 +81,10 @@ NumberMayStand u = MayStand lifted IsNumber u
 abbrev pub ByteAt : List ℕ → ℕ → ℕ → Type 0
 ByteAt s d b = (d < length s) × (getD s d 0 ≡ b)
 
--- one more, or none
-abbrev pub plusIf : Bool → ℕ → ℕ
-plusIf true n = suc n
-plusIf false n = n
-
 -- how often the byte b stands in s
 unfoldable pub count : ℕ → List ℕ → ℕ
 count b [] = 0
-count b (c ∷ s) = plusIf (eqb c b) (count b s)
+count b (c ∷ s) = extra (eqb c b) 1 + count b s
 
 -- "open parentheses at once": those opened less those closed
 unfoldable pub opens : List ℕ → ℕ
