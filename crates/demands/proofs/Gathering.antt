@@ -20,7 +20,7 @@ use Rattle.tokens.specs.Answers.Answer.{parsed, refused}
 use Rattle.tokens.specs.Tokens.{blanks, skip}
 use Rattle.nodes.specs.Grammar.{Rules, Blanks, Text}
 use Rattle.nodes.specs.Grammar.Blanks.{none, blank}
-use Rattle.nodes.specs.Grammar.Node.{a-leaf, an-inner}
+use Rattle.nodes.specs.Grammar.Node.{a-leaf, an-inner, a-single}
 use Rattle.nodes.specs.Grammar.Text.{text}
 use Rattle.reader.specs.Promise.{readingOf, answerTo}
 use Rattle.reader.specs.Accepted.{Draws, JustBehind}
@@ -40,6 +40,7 @@ use Rattle.demands.proofs.TextFaults.{fault-of-refusal, fault-numbers}
 text-behind-blanks : {R : Rules} {k : ℕ} {s m rest : List ℕ} {t : Tree} → Blanks s m → Text R k m t rest → Text R k s t rest
 text-behind-blanks b (text (a-leaf gap w known behind) ends) = text (a-leaf (blanks-on b gap) w known behind) ends
 text-behind-blanks b (text (an-inner opens first comma others inner behind) ends) = text (an-inner (blanks-on b opens) first comma others inner behind) ends
+text-behind-blanks b (text (a-single enough opens only closes inner behind) ends) = text (a-single enough (blanks-on b opens) only closes inner behind) ends
 
 module _ (line txt : List ℕ) (at : ℕ) where
   abbrev pub begun : ℕ
@@ -180,6 +181,8 @@ text-without-blanks (text (a-leaf {s₁ = m} gap w known behind) ends) =
     text (a-leaf (subst (λ (l : List ℕ). Blanks l m) (sym (blanks-skip gap (name-no-blank m (run-first w)))) none) w known behind) ends
 text-without-blanks (text (an-inner {s₁ = m} opens first comma others inner behind) ends) =
     text (an-inner (subst (λ (l : List ℕ). Blanks l (40 ∷ m)) (sym (skip-to 40 refl opens)) none) first comma others inner behind) ends
+text-without-blanks (text (a-single {s₁ = m} enough opens only closes inner behind) ends) =
+    text (a-single enough (subst (λ (l : List ℕ). Blanks l (40 ∷ m)) (sym (skip-to 40 refl opens)) none) only closes inner behind) ends
 
 module _ (line txt : List ℕ) (at : ℕ) where
   begun-within : at ≤ length txt → begun line txt at ≤ length txt

@@ -1,20 +1,34 @@
--- Which bytes decide a refusal: "Reading goes from the left and stops at the first fault met".
-use Prim.Native.Nat.{ℕ, _+_, _≤_}
-use mathlib.Core.Path.{_≡_}
+-- Which bytes decide how a text is read: "bytes behind that are not looked at", and "Reading goes from the left and stops at the first fault met".
+use Prim.Native.Nat.{ℕ, _+_, _-_, _≤_, _<_}
+use mathlib.Core.Path.{_≡_, refl, sym, ap, _∙_, subst}
 use mathlib.Core.Bool.{Bool, true, false}
-use mathlib.Core.List.{List}
+use mathlib.Core.List.{List, _++_}
+use native.Mathlib.Decide.{decLe}
 use native.Mathlib.Omega.{arith}
 use borrow.Author.Tests.{le-leb}
-use lib.ListN.{length, take, drop}
+use lib.ListN.{length, take, drop, take-append-drop, length-append, length-take, length-drop}
+use lib.Seq.{drop-drop, length-take-le}
 use lib.Dec.{leb}
 use Rattle.clusters.specs.Sets.{whole}
+use Rattle.trees.specs.Tree.{Tree}
 use Rattle.roster.specs.Roster.{names, faulty}
 use Rattle.roster.specs.Judged.{speciesMost}
-use Rattle.tokens.specs.Answers.Answer.{refused}
-use Rattle.nodes.specs.Reading.{readTree}
-use Rattle.reader.specs.Promise.{textMost, fromStart, inLimit, onRoster, answerTo}
+use Rattle.tokens.specs.Answers.{Answer}
+use Rattle.tokens.specs.Answers.Answer.{parsed, refused}
+use Rattle.nodes.specs.Reading.{openMost, readTree}
+use Rattle.nodes.specs.Grammar.{strict, Text}
 use Rattle.nodes.specs.Meaning.{reach}
+use Rattle.nodes.proofs.Fronts.{text-elsewhere}
 use Rattle.nodes.proofs.Locality.{locality}
+use Rattle.nodes.proofs.Refusals.{refusal-inside, refusal-numbers}
+use Rattle.reader.specs.Promise.{textMost, readingOf, fromStart, inLimit, onRoster, answerTo, Reads}
+use Rattle.reader.specs.Accepted.{Draws}
+use Rattle.reader.specs.declared.Reading.{Reading}
+use Rattle.reader.proofs.Accepts.{accepted-derives, derives-accepted}
+use Rattle.demands.specs.Deciding.{SameBytes, Agree}
+use Rattle.demands.specs.TextFaults.{TextFault}
+use Rattle.demands.specs.TextFaults.TextFault.{roster-faulty, too-long, beyond, as-met}
+use Rattle.demands.proofs.TextFaults.{fault-of-refusal}
 
 -- a refusal met while reading (3 to 9) is decided by the bytes from start up to and with its place (for 5 and 6, up to the byte that ends the run):
 -- a text of at most 65,536 bytes that agrees there is refused alike
@@ -42,3 +56,102 @@ answer-is-local line text text′ start d number h low high short inside agree =
     judged true e = absurd (let z : number ≡ 1 = cc in omega arith)
     judged false e =
         rw (le-leb (length text′) textMost short, le-leb start (length text′) inside) (limited (leb (length text) textMost) e)
+
+-- a tree is decided by the bytes from start up to the offset just after its `;`
+pub tree-is-local :
+    (line text text′ : List ℕ) (start : ℕ) {t : Tree} {rest : List ℕ} {next : ℕ}
+    → answerTo line text start ≡ parsed t rest next → length text′ ≤ textMost → SameBytes text text′ start (next - start)
+    → (rest′ : List ℕ) × (answerTo line text′ start ≡ parsed t rest′ next)
+tree-is-local line text text′ start {t} {rest} {next} h short agree =
+    let a = accepted-derives line text start h in
+    let n = next - start in
+    let s = drop start text in
+    let s′ = drop start text′ in
+    let rest′ = drop n s′ in
+    let at : next ≡ start + n = omega (arith, a .place .after) in
+    let left : rest ≡ drop n s = a .place .left ∙ (ap (λ (k : ℕ). drop k text) at ∙ sym (drop-drop n start text)) in
+    let split : s ≡ take n s ++ rest = sym (take-append-drop n s) ∙ ap (λ (l : List ℕ). take n s ++ l) (sym left) in
+    let split′ : s′ ≡ take n s ++ rest′ = sym (take-append-drop n s′) ∙ ap (λ (l : List ℕ). l ++ rest′) agree in
+    let bytes : length (take n s) ≡ n = length-take-le n s (omega (arith, length-drop start text, a .place .within, a .draws .inside)) in
+    let all : length s′ ≡ n + length rest′ = ap length split′ ∙ (length-append (take n s) rest′ ∙ ap (λ (k : ℕ). k + length rest′) bytes) in
+    let inside : start ≤ length text′ = omega (arith, length-drop start text′, all, a .place .after) in
+    let Drawn : List ℕ → List ℕ → Type 0 = λ l left. Text (strict (names line)) openMost l t left in
+    let derives : Drawn (take n s ++ rest) rest = subst (λ (l : List ℕ). Drawn l rest) split (a .draws .derives) in
+    let drawn : Draws line text′ start t rest′ =
+    record {
+      good = a .draws .good;
+      short = short;
+      inside = inside;
+      derives = subst (λ (l : List ℕ). Drawn l rest′) (sym split′) (text-elsewhere (strict (names line)) (take n s) rest rest′ derives);
+      on = a .draws .on;
+    }
+    in
+    let place : length text′ - length rest′ ≡ next = omega (arith, length-drop start text′, all, a .place .after, inside) in
+    (rest′, derives-accepted line text′ start drawn ∙ ap (λ (q : ℕ). parsed t rest′ q) place)
+
+-- a text that agrees on bytes up to one at fault is not empty
+reaches-into : (number : ℕ) (s s′ : List ℕ) (d : ℕ) → d < length s → take (reach number s d) s′ ≡ take (reach number s d) s → 0 < length s′
+unfolding reach
+reaches-into number s s′ d inside same =
+    omega (arith, length-take (reach number s d) s, length-take (reach number s d) s′, ap length same)
+
+-- ---- the call
+
+module _ (line text text′ : List ℕ) (start : ℕ) (short : length text ≤ textMost) (short′ : length text′ ≤ textMost) where
+  -- an answer that the bytes decide is given again: the same tree with the same offset, or the same refusal
+  abbrev Again : Answer Tree → Type 0
+  Again a = readingOf start a ≡ readingOf start (answerTo line text′ start)
+
+  ends-again : faulty speciesMost line ≡ false → drop start text′ ≡ drop start text → length text′ ≡ length text
+      → answerTo line text start ≡ answerTo line text′ start
+  unfolding answerTo
+  ends-again good same-end same-length =
+      rw (good, same-length, le-leb (length text) textMost short, same-length) (started (leb start (length text)))
+    where
+      started : (b : Bool) → fromStart b (names line) text start ≡ fromStart b (names line) text′ start
+      started true = rw same-end refl
+      started false = rw same-length refl
+
+  fault-again : {number place : ℕ} → answerTo line text start ≡ refused number place → TextFault line text start number place
+      → Agree text text′ start (readingOf start (refused number place)) → Again (refused number place)
+  unfolding answerTo
+  fault-again h (roster-faulty f) agree = rw f refl
+  fault-again h (too-long good l) agree = absurd (omega arith)
+  fault-again h (beyond good l b) agree =
+      ap (readingOf start) (sym h ∙ ends-again good (agree .end refl .0) (agree .end refl .1))
+  fault-again {number} {place} h (as-met good l inside r) agree = go (decLe number 9)
+    where
+      go : Dec (number ≤ 9) → Again (refused number place)
+      go (yes high) =
+          let low = refusal-numbers (r .means) .0 in
+          let byte : place - start ≡ r .byte = omega (arith, r .place) in
+          let same : SameBytes text text′ start (reach number (drop start text) (r .byte)) = rw byte at (agree .fault low high) in
+          let at : _≡_ {A = Answer Tree} (refused number place) (refused number (start + r .byte)) = rw (r .place) in
+          let goes-on = reaches-into number (drop start text) (drop start text′) (r .byte) (refusal-inside (r .means) high) same in
+          let again = answer-is-local line text text′ start (r .byte) number (h ∙ at) low high short′ (omega (arith, length-drop start text′)) same in
+          ap (readingOf start) (at ∙ sym again)
+      go (no over) =
+          let ten : number ≡ 10 = omega (arith, refusal-numbers (r .means) .1) in
+          ap (readingOf start) (sym h ∙ ends-again good (agree .end ten .0) (agree .end ten .1))
+
+  answer-again : (a : Answer Tree) → answerTo line text start ≡ a → Agree text text′ start (readingOf start a) → Again a
+  answer-again (parsed t rest next) h agree =
+      let again = tree-is-local line text text′ start h short′ (agree .tree refl) in
+      sym (ap (readingOf start) (again .1))
+  answer-again (refused number place) h agree = fault-again h (fault-of-refusal line text start number place h) agree
+
+-- bytes that do not decide are not looked at: texts of at most 65,536 bytes that agree from start on the bytes that decide a reading are read alike
+pub reading-is-local :
+    (line text text′ : List ℕ) (start : ℕ) (r r′ : Reading) → length text ≤ textMost → length text′ ≤ textMost
+    → Reads line text start r → Reads line text′ start r′ → Agree text text′ start r → r ≡ r′
+unfolding Reads
+reading-is-local line text text′ start r r′ short short′ p q agree =
+    p ∙ (answer-again line text text′ start short short′ (answerTo line text start) refl (subst (Agree text text′ start) p agree) ∙ sym q)
+
+-- "The reader .. returns the record and the offset just after `;`; bytes behind that are not looked at"
+pub bytes-behind-not-looked-at :
+    (line text text′ : List ℕ) (start : ℕ) (r r′ : Reading) → length text ≤ textMost → length text′ ≤ textMost
+    → Reads line text start r → Reads line text′ start r′ → r .number ≡ 0 → SameBytes text text′ start (r .next - start) → r ≡ r′
+bytes-behind-not-looked-at line text text′ start r r′ short short′ p q done same =
+    reading-is-local line text text′ start r r′ short short′ p q
+    (record { tree = λ e. same; fault = λ low high. absurd (omega arith); end = λ ten. absurd (omega arith) })

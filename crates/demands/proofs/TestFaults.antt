@@ -20,7 +20,8 @@ use Rattle.roster.specs.Verdict.{lengthTest}
 use Rattle.roster.proofs.Least.{least-is, least-first}
 use Rattle.roster.proofs.Faults.{first-fault, fault-within}
 use Rattle.writer.specs.Promise.{rosterTest, recordTest}
-use Rattle.lineages.specs.Checks.{speciesTest, countTest, speciesRecordTest, countOn, firstBad, recordsTest, clusterTest}
+use Rattle.labels.specs.Bytes.{oneMore}
+use Rattle.lineages.specs.Checks.{speciesTest, countTest, speciesRecordTest, firstBad, recordsTest, clusterTest}
 use Rattle.search.specs.Promise.{firstStrange, allowedTest}
 use Rattle.demands.specs.CallFaults.{RosterFault, SpeciesFault, CountFault, LengthFault, SpeciesRecordFault, RecordsFault, RecordFault, ClusterFault, AllowedFault}
 use Rattle.demands.specs.CallFaults.RosterFault.{roster-faulty}
@@ -153,9 +154,9 @@ module _ (n : ℕ) (few : n ≤ 16) where
   first-bad-means [] h = absurd (omega arith)
   first-bad-means (g ∷ l) h = go (valid (whole n) g) refl h (first-bad-means l)
     where
-      go : (b : Bool) → valid (whole n) g ≡ b → countOn b (firstBad n l) < suc (length l)
+      go : (b : Bool) → valid (whole n) g ≡ b → oneMore b (firstBad n l) < suc (length l)
           → (firstBad n l < length l → (GeneValid n (getD l (firstBad n l) []) → ⊥) × ((j : ℕ) → j < firstBad n l → GeneValid n (getD l j [])))
-          → (GeneValid n (getD (g ∷ l) (countOn b (firstBad n l)) []) → ⊥) × ((j : ℕ) → j < countOn b (firstBad n l) → GeneValid n (getD (g ∷ l) j []))
+          → (GeneValid n (getD (g ∷ l) (oneMore b (firstBad n l)) []) → ⊥) × ((j : ℕ) → j < oneMore b (firstBad n l) → GeneValid n (getD (g ∷ l) j []))
       go true e h later = let k = later (omega arith) in (k .0, earlier (k .1))
         where
           earlier : ((j : ℕ) → j < firstBad n l → GeneValid n (getD l j [])) → (j : ℕ) → j < suc (firstBad n l) → GeneValid n (getD (g ∷ l) j [])

@@ -1,6 +1,6 @@
--- A text that is refused has the fault that the number says, at the place.
+-- A text that is refused has the fault that the number says, at the place, and at one place no other number's.
 use Prim.Native.Nat.{ℕ, _≤_}
-use mathlib.Core.Path.{_≡_, refl}
+use mathlib.Core.Path.{_≡_, refl, subst}
 use mathlib.Core.Bool.{Bool, true, false}
 use mathlib.Core.List.{List}
 use native.Mathlib.Omega.{arith}
@@ -8,11 +8,15 @@ use lib.ListN.{length, drop}
 use lib.Dec.{leb}
 use borrow.Author.Tests.{leb-true, leb-false}
 use Rattle.clusters.specs.Sets.{whole}
+use Rattle.trees.proofs.Booleans.{never-both}
 use Rattle.roster.specs.Roster.{names, faulty, firstFault}
 use Rattle.roster.specs.Judged.{speciesMost}
 use Rattle.tokens.specs.Answers.Answer.{refused}
 use Rattle.reader.specs.Promise.{textMost, fromStart, inLimit, onRoster, answerTo}
-use Rattle.nodes.proofs.Meaning.{refusal-means, refusal-numbers}
+use Rattle.nodes.specs.Meaning.{Means}
+use Rattle.nodes.proofs.Meaning.{refusal-means}
+use Rattle.nodes.proofs.OneNumber.{means-one}
+use Rattle.nodes.proofs.Refusals.{refusal-numbers}
 use Rattle.demands.specs.TextFaults.{TextFault}
 use Rattle.demands.specs.TextFaults.TextFault.{roster-faulty, too-long, beyond, as-met}
 
@@ -55,3 +59,27 @@ fault-numbers (roster-faulty f) = omega arith
 fault-numbers (too-long g l) = omega arith
 fault-numbers (beyond g l b) = omega arith
 fault-numbers (as-met g l b r) = let k = refusal-numbers (r .means) in omega arith
+
+-- each number has its own fault: of one text and at one place at most one number's
+module _ {line text : List ℕ} {start : ℕ} where
+  pub fault-one :
+      {number number′ place place′ : ℕ} → TextFault line text start number place → TextFault line text start number′ place′ → place ≡ place′ → number ≡ number′
+  fault-one (roster-faulty f) (roster-faulty f′) e = refl
+  fault-one (roster-faulty f) (too-long g l) e = absurd (never-both (faulty speciesMost line) f g)
+  fault-one (roster-faulty f) (beyond g l b) e = absurd (never-both (faulty speciesMost line) f g)
+  fault-one (roster-faulty f) (as-met g l b r) e = absurd (never-both (faulty speciesMost line) f g)
+  fault-one (too-long g l) (roster-faulty f) e = absurd (never-both (faulty speciesMost line) f g)
+  fault-one (too-long g l) (too-long g′ l′) e = refl
+  fault-one (too-long g l) (beyond g′ l′ b) e = absurd (omega arith)
+  fault-one (too-long g l) (as-met g′ l′ b r) e = absurd (omega arith)
+  fault-one (beyond g l b) (roster-faulty f) e = absurd (never-both (faulty speciesMost line) f g)
+  fault-one (beyond g l b) (too-long g′ l′) e = absurd (omega arith)
+  fault-one (beyond g l b) (beyond g′ l′ b′) e = refl
+  fault-one (beyond g l b) (as-met g′ l′ b′ r) e = absurd (omega arith)
+  fault-one (as-met g l b r) (roster-faulty f) e = absurd (never-both (faulty speciesMost line) f g)
+  fault-one (as-met g l b r) (too-long g′ l′) e = absurd (omega arith)
+  fault-one (as-met g l b r) (beyond g′ l′ b′) e = absurd (omega arith)
+  fault-one {number′ = number′} (as-met g l b r) (as-met g′ l′ b′ r′) e =
+      let same : r′ .byte ≡ r .byte = omega (arith, r .place, r′ .place) in
+      means-one (r .means)
+      (subst (λ (d : ℕ). Means (names line) (whole (length (names line))) (drop start text) d number′) same (r′ .means))

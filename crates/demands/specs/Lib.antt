@@ -10,3 +10,4 @@ pub mod Scorable
 pub mod CallFaults
 pub mod InOrder
 pub mod ProgramFaults
+pub mod Deciding

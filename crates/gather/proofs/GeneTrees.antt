@@ -25,7 +25,8 @@ use Rattle.nodes.specs.Reading.{readTree}
 use Rattle.nodes.specs.Meaning.{Means}
 use Rattle.reader.specs.Promise.{textMost, answerTo, readingOf}
 use Rattle.reader.proofs.Accepts.{accepted-derives}
-use Rattle.nodes.proofs.Meaning.{refusal-means, refusal-inside, refusal-numbers, says-10}
+use Rattle.nodes.proofs.Meaning.{refusal-means}
+use Rattle.nodes.proofs.Refusals.{refusal-inside, refusal-numbers, says-10}
 use Rattle.gather.specs.GeneTrees.{Gathered, gatherOn, gatherAt, gatherMore, gatherTo, gather}
 use Rattle.gather.specs.GeneTrees.Gathered.{gathered, stopped}
 

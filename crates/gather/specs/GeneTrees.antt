@@ -40,7 +40,7 @@ gatherTo (suc k) line trees genes at =
     gatherMore (leb (length trees) (at + blanks (drop at trees))) line trees genes (at + blanks (drop at trees))
     (λ numbers next. gatherTo k line trees (genes ++ (numbers ∷ [])) next)
 
--- all gene trees of the text; 513 turns are enough, since the 513th tree is refused
+-- all gene trees of the text; the 514 turns are never used up: the 513th finds only blanks or refuses a 513th tree
 unfoldable pub gather : List ℕ → List ℕ → Gathered
 unfolding gatherTo
 gather line trees = gatherTo 514 line trees [] 0

@@ -6,13 +6,14 @@ use mathlib.Core.Logic.{_⊎_, inl, inr}
 use mathlib.Core.List.{List, [], _∷_, List·Memᴰ, List·Memᴰ·not-nil, List·Memᴰ·cases-cons}
 use native.Mathlib.Omega.{arith}
 use lib.ListN.{length, take, drop}
+use Rattle.labels.specs.Bytes.{oneMore}
 use Rattle.clusters.specs.Sets.{whole}
 use Rattle.clusters.proofs.Sets.{below-of-within}
 use Rattle.trees.specs.Records.{GeneValid, recordsIn, AllValid}
 use Rattle.trees.specs.Valid.{valid}
 use Rattle.trees.proofs.Bounds.{whole-below-sixteen}
 use Rattle.trees.proofs.ValidTest.{valid-decides}
-use Rattle.lineages.specs.Checks.{countOn, firstBad}
+use Rattle.lineages.specs.Checks.{firstBad}
 use Rattle.weights.specs.Work.{AllCountable, AllMarkable}
 use Rattle.trees.proofs.Lent.{length-recordsIn, recordsFrom, records-from-first, records-next, records-from-last}
 use Rattle.weights.proofs.Checked.{valid-countable}
@@ -63,7 +64,7 @@ unfolding firstBad
 first-bad-le n [] = omega arith
 first-bad-le n (g ∷ l) = go (valid (whole n) g) (first-bad-le n l)
   where
-    go : (b : Bool) → firstBad n l ≤ length l → countOn b (firstBad n l) ≤ suc (length l)
+    go : (b : Bool) → firstBad n l ≤ length l → oneMore b (firstBad n l) ≤ suc (length l)
     go true h = omega arith
     go false h = omega arith
 
@@ -74,7 +75,7 @@ none-bad n [] small h g m = absurd (List·Memᴰ·not-nil m)
 none-bad n (x ∷ l) small h g m = go (valid (whole n) x) refl h (List·Memᴰ·cases-cons m) (λ k p. none-bad n l small k g p)
   where
     go :
-        (b : Bool) → valid (whole n) x ≡ b → suc (length l) ≤ countOn b (firstBad n l) → (g ≡ x) ⊎ List·Memᴰ g l
+        (b : Bool) → valid (whole n) x ≡ b → suc (length l) ≤ oneMore b (firstBad n l) → (g ≡ x) ⊎ List·Memᴰ g l
         → (length l ≤ firstBad n l → List·Memᴰ g l → GeneValid n g) → GeneValid n g
     go true e k (inl p) ih = subst (λ (y : List ℕ). GeneValid n y) (sym p) (valid-decides x (whole-below-sixteen n small) .holds e)
     go true e k (inr p) ih = ih (omega arith) p

@@ -1,10 +1,11 @@
 -- The refusals of the calls on gene records, as tests in 01's order: "1, 11, 12, 16, 15, 13, 14, each where it applies".
-use Prim.Native.Nat.{ℕ, zero, suc, _*_, _^_}
-use mathlib.Core.Bool.{Bool, true, false, not, _&&_}
+use Prim.Native.Nat.{ℕ, zero, _*_, _^_}
+use mathlib.Core.Bool.{not, _&&_}
 use mathlib.Core.List.{List, [], _∷_}
 use lib.ListN.{length}
 use lib.Dec.{leb, ltb}
 use Rattle.clusters.specs.Sets.{whole}
+use Rattle.labels.specs.Bytes.{oneMore}
 use Rattle.trees.specs.Valid.{valid, binary}
 use Rattle.roster.specs.Verdict.{Test, lengthTest}
 use Rattle.trees.specs.Records.{recordsIn}
@@ -21,15 +22,10 @@ countTest count = record { fault = not (leb 1 count && leb count 4096); number =
 unfoldable pub speciesRecordTest : ℕ → List ℕ → Test
 speciesRecordTest n r = record { fault = not (valid (whole n) r && binary (whole n) r); number = 16; place = 0 }
 
--- one more where this one is valid; where it is not, this is the first
-abbrev pub countOn : Bool → ℕ → ℕ
-countOn true later = suc later
-countOn false later = zero
-
 -- the index of the first record that is not valid; how many there are where all are
 unfoldable pub firstBad : ℕ → List (List ℕ) → ℕ
 firstBad n [] = zero
-firstBad n (g ∷ l) = countOn (valid (whole n) g) (firstBad n l)
+firstBad n (g ∷ l) = oneMore (valid (whole n) g) (firstBad n l)
 
 -- "15 | a record not valid | index of the first"
 unfoldable pub recordsTest : ℕ → List (List ℕ) → Test

@@ -26,7 +26,7 @@ use Rattle.nodes.specs.Grammar.{strict, Blanks, Run, Numbers, Inner, Nod
 use Rattle.nodes.specs.Grammar.Blanks.{none, blank}
 use Rattle.nodes.specs.Grammar.Text.{text}
 use Rattle.nodes.proofs.Rests.{moves-length, advances-shorter, readNode-advances, readTree-advances}
-use Rattle.nodes.proofs.Derivations.{Steps, over-node}
+use Rattle.nodes.proofs.Derivations.{two-wanted, Steps, over-node}
 use Rattle.nodes.proofs.Exact.{Gives, gives, gives-then, Follows, comma-follows, closing-follows, semicolon-follows, blanks-skip, skip-to, skip-is, next-not, run-first, name-no-blank, stopped-name, numbers-gives, numbers-stopped, name-gives, innerName-gives}
 
 -- ---- a leaf, and what closes an inner node
@@ -180,6 +180,7 @@ given-steps names =
       at-leaf = λ k i w d b s s₁ s₂ rest gap r known behind. leaf-given names k i w d b s s₁ s₂ rest gap r known behind;
       at-inner = λ k t f w d b s s₁ s₂ s₃ s₄ s₅ rest bl first p comma others q inner behind.
           inner-given names k t f w d b s s₁ s₂ s₃ s₄ s₅ rest bl p comma q inner behind;
+      at-single = λ k t w d b s s₁ s₂ s₃ s₄ rest enough bl only p closes inner behind. absurd (two-wanted enough);
       at-last = λ k t s s₁ rest only p closes. last-given names k t s s₁ rest p closes;
       at-more = λ k t f s s₁ s₂ rest first p comma others q. more-given names k t f s s₁ s₂ rest p comma q;
     }

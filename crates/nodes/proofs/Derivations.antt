@@ -1,15 +1,20 @@
 -- Induction over the derivations of a node and of its children, which are derived together; and how each can have been derived.
-use Prim.Native.Nat.{ℕ, suc}
+use Prim.Native.Nat.{ℕ, suc, _≤_}
 use mathlib.Core.Path.{_≡_, refl}
 use mathlib.Core.Logic.{_⊎_, inl, inr}
 use mathlib.Core.List.{List, [], _∷_}
+use native.Mathlib.Omega.{arith}
 use Rattle.labels.specs.Bytes.{isName}
 use Rattle.trees.specs.Tree.{Tree, Forest}
 use Rattle.trees.specs.Tree.Tree.{leaf, node}
 use Rattle.trees.specs.Tree.Forest.{last, more}
 use Rattle.nodes.specs.Grammar.{Rules, Blanks, Run, Numbers, Inner, Node, Children}
-use Rattle.nodes.specs.Grammar.Node.{a-leaf, an-inner}
+use Rattle.nodes.specs.Grammar.Node.{a-leaf, an-inner, a-single}
 use Rattle.nodes.specs.Grammar.Children.{the-last, one-more}
+
+-- two nodes are wanted where a single one is not enough
+pub two-wanted : 2 ≤ 1 → ⊥
+two-wanted l = omega arith
 
 -- what carries P over the nodes, and Q over the children behind a first comma: one step for each rule
 pub record Steps (R : Rules) (P : ℕ → List ℕ → Tree → List ℕ → Type 0) (Q : ℕ → List ℕ → Forest → List ℕ → Type 0) : Type 0 where
@@ -22,6 +27,10 @@ pub record Steps (R : Rules) (P : ℕ → List ℕ → Tree → List ℕ → Typ
       → Blanks s (40 ∷ s₁) → Node R k s₁ t s₂ → P k s₁ t s₂ → Blanks s₂ (44 ∷ s₃) → Children R k s₃ f s₄ → Q k s₃ f s₄ → Inner R w s₄ s₅
       → Numbers R d b s₅ rest
       → P (suc k) s (node t f (record { name = w; distance = d; support = b })) rest
+  pub at-single :
+      (k : ℕ) (t : Tree) (w d b s s₁ s₂ s₃ s₄ rest : List ℕ)
+      → R .fewest ≤ 1 → Blanks s (40 ∷ s₁) → Node R k s₁ t s₂ → P k s₁ t s₂ → Blanks s₂ (41 ∷ s₃) → Inner R w s₃ s₄ → Numbers R d b s₄ rest
+      → P (suc k) s t rest
   pub at-last : (k : ℕ) (t : Tree) (s s₁ rest : List ℕ) → Node R k s t s₁ → P k s t s₁ → Blanks s₁ (41 ∷ rest) → Q k s (last t) rest
   pub at-more :
       (k : ℕ) (t : Tree) (f : Forest) (s s₁ s₂ rest : List ℕ)
@@ -36,6 +45,8 @@ module _ (R : Rules) (P : ℕ → List ℕ → Tree → List ℕ → Type 0) (Q 
         | an-inner {k = k} {t = t} {f = f} {w = w} {d = d} {b = b} {s = s} {s₁ = s₁} {s₂ = s₂} {s₃ = s₃} {s₄ = s₄} {s₅ = s₅} {rest = rest} bl (first → p)
             comma (others → q) inner behind ↦
             steps .at-inner k t f w d b s s₁ s₂ s₃ s₄ s₅ rest bl first p comma others q inner behind
+        | a-single {k = k} {t = t} {w = w} {d = d} {b = b} {s = s} {s₁ = s₁} {s₂ = s₂} {s₃ = s₃} {s₄ = s₄} {rest = rest} enough bl (only → p) closes inner behind ↦
+            steps .at-single k t w d b s s₁ s₂ s₃ s₄ rest enough bl only p closes inner behind
         | the-last {k = k} {t = t} {s = s} {s₁ = s₁} {rest = rest} (only → p) closes ↦ steps .at-last k t s s₁ rest only p closes
         | one-more {k = k} {t = t} {f = f} {s = s} {s₁ = s₁} {s₂ = s₂} {rest = rest} (first → p) comma (others → q) ↦
             steps .at-more k t f s s₁ s₂ rest first p comma others q
@@ -49,12 +60,14 @@ module _ (R : Rules) (P : ℕ → List ℕ → Tree → List ℕ → Type 0) (Q 
         | an-inner {k = k} {t = t} {f = f} {w = w} {d = d} {b = b} {s = s} {s₁ = s₁} {s₂ = s₂} {s₃ = s₃} {s₄ = s₄} {s₅ = s₅} {rest = rest} bl (first → p)
             comma (others → q) inner behind ↦
             steps .at-inner k t f w d b s s₁ s₂ s₃ s₄ s₅ rest bl first p comma others q inner behind
+        | a-single {k = k} {t = t} {w = w} {d = d} {b = b} {s = s} {s₁ = s₁} {s₂ = s₂} {s₃ = s₃} {s₄ = s₄} {rest = rest} enough bl (only → p) closes inner behind ↦
+            steps .at-single k t w d b s s₁ s₂ s₃ s₄ rest enough bl only p closes inner behind
         | the-last {k = k} {t = t} {s = s} {s₁ = s₁} {rest = rest} (only → p) closes ↦ steps .at-last k t s s₁ rest only p closes
         | one-more {k = k} {t = t} {f = f} {s = s} {s₁ = s₁} {s₂ = s₂} {rest = rest} (first → p) comma (others → q) ↦
             steps .at-more k t f s s₁ s₂ rest first p comma others q
       ]
 
--- ---- how a node can have been derived
+-- ---- how a node can have been derived, where a parenthesis has two nodes or more
 
 pub record LeafForm (R : Rules) (s : List ℕ) (t : Tree) (rest : List ℕ) : Type 0 where
   pub i : ℕ
@@ -106,7 +119,7 @@ pub record MoreForm (R : Rules) (room : ℕ) (s : List ℕ) (f : Forest) (rest :
   pub others : Children R room s₂ forest rest
   pub is : f ≡ more child forest
 
-module _ (R : Rules) where
+module _ (R : Rules) (two : R .fewest ≤ 1 → ⊥) where
   abbrev pub NodeForm : ℕ → List ℕ → Tree → List ℕ → Type 0
   NodeForm k s t rest = LeafForm R s t rest ⊎ InnerForm R s t rest
 
@@ -139,6 +152,7 @@ module _ (R : Rules) where
               behind = behind;
               is = refl;
             });
+        at-single = λ k t w d b s s₁ s₂ s₃ s₄ rest enough bl only p closes inner behind. absurd (two enough);
         at-last = λ k t s s₁ rest only p closes. inl (record { child = t; s₁ = s₁; only = only; closes = closes; is = refl });
         at-more = λ k t f s s₁ s₂ rest first p comma others q.
             inr (record { child = t; forest = f; s₁ = s₁; s₂ = s₂; first = first; comma = comma; others = others; is = refl });

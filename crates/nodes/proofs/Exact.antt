@@ -56,7 +56,7 @@ not-true true f = absurd (f refl)
 not-true false f = refl
 
 -- what holds of the four blanks holds of every blank
-blank-all : (P : ℕ → Type 0) → P 32 → P 9 → P 10 → P 13 → (c : ℕ) → isBlank c ≡ true → P c
+pub blank-all : (P : ℕ → Type 0) → P 32 → P 9 → P 10 → P 13 → (c : ℕ) → isBlank c ≡ true → P c
 blank-all P a b d e c is = first (eqb c 32) refl is
   where
     fourth : (t : Bool) → eqb c 13 ≡ t → t ≡ true → P c

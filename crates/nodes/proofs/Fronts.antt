@@ -1,5 +1,5 @@
 -- What a derivation uses up is a front of the text, and it is one before any other rest; and limits and roster can be lifted.
-use Prim.Native.Nat.{ℕ, suc}
+use Prim.Native.Nat.{ℕ, suc, _≤_}
 use mathlib.Core.Path.{_≡_, refl, sym, ap, _∙_}
 use mathlib.Core.Bool.{Bool}
 use mathlib.Core.List.{List, [], _∷_, _++_, append-assoc, append-cancel-right}
@@ -7,17 +7,17 @@ use Rattle.labels.specs.Bytes.{isDigit, isName}
 use Rattle.trees.specs.Tree.{Tree, Forest}
 use Rattle.trees.specs.Tree.Tree.{leaf, node}
 use Rattle.trees.specs.Tree.Forest.{last, more}
-use Rattle.nodes.specs.Grammar.{Rules, strict, lifted, Blanks, Run, Number, ColonNumber, Numbers, Inner, Node, Children, Text}
+use Rattle.nodes.specs.Grammar.{Rules, strict, liftedTo, lifted, Blanks, Run, Number, ColonNumber, Numbers, Inner, Node, Children, Text}
 use Rattle.nodes.specs.Grammar.Blanks.{none, blank}
 use Rattle.nodes.specs.Grammar.Run.{one, next}
 use Rattle.nodes.specs.Grammar.Number.{whole, decimal}
 use Rattle.nodes.specs.Grammar.ColonNumber.{colon}
 use Rattle.nodes.specs.Grammar.Numbers.{nothing, distance, both, support}
 use Rattle.nodes.specs.Grammar.Inner.{nameless, named}
-use Rattle.nodes.specs.Grammar.Node.{a-leaf, an-inner}
+use Rattle.nodes.specs.Grammar.Node.{a-leaf, an-inner, a-single}
 use Rattle.nodes.specs.Grammar.Children.{the-last, one-more}
 use Rattle.nodes.specs.Grammar.Text.{text}
-use Rattle.nodes.proofs.Derivations.{Steps, over-node, over-children}
+use Rattle.nodes.proofs.Derivations.{two-wanted, Steps, over-node, over-children}
 
 -- s begins with an X, its bytes, which is one whatever is left behind it
 pub record Front (X : List ℕ → List ℕ → Type 0) (s rest : List ℕ) : Type 0 where
@@ -156,12 +156,28 @@ module _ (R : Rules) where
       (front-then Others After (more-front k f comma q)
       (front-then (Inner R w) (Numbers R d b) (inner-front inner) (numbers-front behind)))))
 
+  single-front :
+      (k : ℕ) (t : Tree) (w d b s s₁ s₂ s₃ s₄ rest : List ℕ)
+      → R .fewest ≤ 1 → Blanks s (40 ∷ s₁) → NodeFront k s₁ t s₂ → Blanks s₂ (41 ∷ s₃) → Inner R w s₃ s₄ → Numbers R d b s₄ rest
+      → NodeFront (suc k) s t rest
+  single-front k t w d b s s₁ s₂ s₃ s₄ rest enough bl p closes inner behind =
+      let Only : List ℕ → List ℕ → Type 0 = Then (λ s rest. Node R k s t rest) (BlanksAnd 41) in
+      let After : List ℕ → List ℕ → Type 0 = Then (Inner R w) (Numbers R d b) in
+      front-as (Then (BlanksAnd 40) (Then Only After)) (λ s rest. Node R (suc k) s t rest)
+      (λ s rest h.
+      a-single enough (h .first) (h .second .first .first) (h .second .first .second) (h .second .second .first) (h .second .second .second))
+      (front-then (BlanksAnd 40) (Then Only After) (byte-front 40 bl)
+      (front-then Only After (front-then (λ s rest. Node R k s t rest) (BlanksAnd 41) p (byte-front 41 closes))
+      (front-then (Inner R w) (Numbers R d b) (inner-front inner) (numbers-front behind))))
+
   front-steps : Steps R NodeFront ChildrenFront
   front-steps =
       record {
         at-leaf = λ k i w d b s s₁ s₂ rest gap r known behind. leaf-front k i w d b s s₁ s₂ rest gap r known behind;
         at-inner = λ k t f w d b s s₁ s₂ s₃ s₄ s₅ rest bl first p comma others q inner behind.
             inner-node-front k t f w d b s s₁ s₂ s₃ s₄ s₅ rest bl p comma q inner behind;
+        at-single = λ k t w d b s s₁ s₂ s₃ s₄ rest enough bl only p closes inner behind.
+            single-front k t w d b s s₁ s₂ s₃ s₄ rest enough bl p closes inner behind;
         at-last = λ k t s s₁ rest only p closes.
             front-as (Then (λ s rest. Node R k s t rest) (BlanksAnd 41)) (λ s rest. Children R k s (last t) rest)
             (λ s rest h. the-last (h .first) (h .second))
@@ -200,12 +216,14 @@ pub record Allows (R R′ : Rules) : Type 0 where
   pub leafNames : (w : List ℕ) (i : ℕ) → R .leafName w i → R′ .leafName w i
   pub innerNames : (w : List ℕ) → R .innerName w → R′ .innerName w
   pub numbers : (w : List ℕ) → R .number w → R′ .number w
+  pub singles : R .fewest ≤ 1 → R′ .fewest ≤ 1
 
-pub lifted-allows : (R : Rules) → Allows R lifted
-lifted-allows R = record { leafNames = λ w i h. tt; innerNames = λ w h. tt; numbers = λ w h. tt }
+-- where two nodes are wanted, limits and roster are lifted for any number of nodes
+pub lifted-allows : (R : Rules) (least : ℕ) → (R .fewest ≤ 1 → ⊥) → Allows R (liftedTo least)
+lifted-allows R least two = record { leafNames = λ w i h. tt; innerNames = λ w h. tt; numbers = λ w h. tt; singles = λ enough. absurd (two enough) }
 
 module _ (R R′ : Rules) (allows : Allows R R′) where
-  colon-allowed : {w s rest : List ℕ} → ColonNumber R w s rest → ColonNumber R′ w s rest
+  pub colon-allowed : {w s rest : List ℕ} → ColonNumber R w s rest → ColonNumber R′ w s rest
   colon-allowed (colon {w = w} bl gap n short) = colon bl gap n (allows .numbers w short)
 
   pub numbers-allowed : {d b s rest : List ℕ} → Numbers R d b s rest → Numbers R′ d b s rest
@@ -224,6 +242,8 @@ module _ (R R′ : Rules) (allows : Allows R R′) where
         at-leaf = λ k i w d b s s₁ s₂ rest gap r known behind. a-leaf gap r (allows .leafNames w i known) (numbers-allowed behind);
         at-inner = λ k t f w d b s s₁ s₂ s₃ s₄ s₅ rest bl first p comma others q inner behind.
             an-inner bl p comma q (inner-allowed inner) (numbers-allowed behind);
+        at-single = λ k t w d b s s₁ s₂ s₃ s₄ rest enough bl only p closes inner behind.
+            a-single (allows .singles enough) bl p closes (inner-allowed inner) (numbers-allowed behind);
         at-last = λ k t s s₁ rest only p closes. the-last p closes;
         at-more = λ k t f s s₁ s₂ rest first p comma others q. one-more p comma q;
       }
@@ -238,8 +258,28 @@ module _ (R R′ : Rules) (allows : Allows R R′) where
   text-allowed (text only ends) = text (node-allowed only) ends
 
 -- with limits and roster lifted, what was a tree is one
+pub strict-lifted : (names : List (List ℕ)) → Allows (strict names) lifted
+strict-lifted names = lifted-allows (strict names) 2 two-wanted
+
 pub lift-node : (names : List (List ℕ)) {k : ℕ} {s rest : List ℕ} {t : Tree} → Node (strict names) k s t rest → Node lifted k s t rest
-lift-node names d = node-allowed (strict names) lifted (lifted-allows (strict names)) d
+lift-node names d = node-allowed (strict names) lifted (strict-lifted names) d
 
 pub lift-text : (names : List (List ℕ)) {k : ℕ} {s rest : List ℕ} {t : Tree} → Text (strict names) k s t rest → Text lifted k s t rest
-lift-text names d = text-allowed (strict names) lifted (lifted-allows (strict names)) d
+lift-text names d = text-allowed (strict names) lifted (strict-lifted names) d
+
+-- and it stays one where a parenthesis may have fewer nodes
+module _ (least : ℕ) where
+  pub loosen-node : {k : ℕ} {s rest : List ℕ} {t : Tree} → Node lifted k s t rest → Node (liftedTo least) k s t rest
+  loosen-node d = node-allowed lifted (liftedTo least) (lifted-allows lifted least two-wanted) d
+
+  pub loosen-children : {k : ℕ} {s rest : List ℕ} {f : Forest} → Children lifted k s f rest → Children (liftedTo least) k s f rest
+  loosen-children d = children-allowed lifted (liftedTo least) (lifted-allows lifted least two-wanted) d
+
+  pub loosen-inner : {w s rest : List ℕ} → Inner lifted w s rest → Inner (liftedTo least) w s rest
+  loosen-inner d = inner-allowed lifted (liftedTo least) (lifted-allows lifted least two-wanted) d
+
+  pub loosen-colon : {w s rest : List ℕ} → ColonNumber lifted w s rest → ColonNumber (liftedTo least) w s rest
+  loosen-colon d = colon-allowed lifted (liftedTo least) (lifted-allows lifted least two-wanted) d
+
+  pub loosen-text : {k : ℕ} {s rest : List ℕ} {t : Tree} → Text lifted k s t rest → Text (liftedTo least) k s t rest
+  loosen-text d = text-allowed lifted (liftedTo least) (lifted-allows lifted least two-wanted) d

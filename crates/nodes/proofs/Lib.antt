@@ -4,6 +4,7 @@ pub mod Derivations
 pub mod Exact
 pub mod Fronts
 pub mod Fuel
+pub mod Glued
 pub mod Growth
 pub mod Leaves
 pub mod Locality
@@ -11,10 +12,15 @@ pub mod Meaning
 pub mod MeaningContexts
 pub mod MeaningCounts
 pub mod MeaningLifted
+pub mod MeaningSpecies
 pub mod MeaningSteps
+pub mod MeaningTokens
 pub mod NodeAnswers
 pub mod NodeSteps
 pub mod NodeWays
+pub mod OneNumber
+pub mod Refusals
 pub mod Rests
 pub mod Sound
+pub mod Spans
 pub mod Unique

@@ -15,7 +15,7 @@ use Rattle.nodes.specs.Grammar.Number.{whole, decimal}
 use Rattle.nodes.specs.Grammar.ColonNumber.{colon}
 use Rattle.nodes.specs.Grammar.Numbers.{nothing, distance, both, support}
 use Rattle.nodes.specs.Grammar.Inner.{nameless, named}
-use Rattle.nodes.specs.Meaning.{plusIf, count}
+use Rattle.nodes.specs.Meaning.{extra, count}
 use Rattle.nodes.proofs.Derivations.{Steps, over-node, over-children}
 
 pub count-append : (b : ℕ) (x y : List ℕ) → count b (x ++ y) ≡ count b x + count b y
@@ -23,11 +23,16 @@ unfolding count
 count-append b [] y = omega arith
 count-append b (c ∷ x) y = go (eqb c b) (count-append b x y)
   where
-    go : (t : Bool) → count b (x ++ y) ≡ count b x + count b y → plusIf t (count b (x ++ y)) ≡ plusIf t (count b x) + count b y
+    go : (t : Bool) → count b (x ++ y) ≡ count b x + count b y → extra t 1 + count b (x ++ y) ≡ extra t 1 + count b x + count b y
     go true h = omega arith
     go false h = omega arith
 
-differ : (test : ℕ → Bool) (b c : ℕ) → test b ≡ false → test c ≡ true → eqb c b ≡ false
+-- another byte does not count
+pub count-other : (b c : ℕ) (s : List ℕ) → eqb c b ≡ false → count b (c ∷ s) ≡ count b s
+unfolding count
+count-other b c s e = rw e (omega arith)
+
+pub differ : (test : ℕ → Bool) (b c : ℕ) → test b ≡ false → test c ≡ true → eqb c b ≡ false
 differ test b c non is = go (eqb c b) refl
   where
     go : (t : Bool) → eqb c b ≡ t → eqb c b ≡ false
@@ -40,31 +45,27 @@ module _ (b : ℕ) (no-blank : isBlank b ≡ false) (no-name : isName b ≡ fals
   abbrev Even : List ℕ → List ℕ → Type 0
   Even s rest = count b s ≡ count b rest
 
-  count-other : (c : ℕ) (s : List ℕ) → eqb c b ≡ false → count b (c ∷ s) ≡ count b s
-  unfolding count
-  count-other c s e = rw e refl
-
   even-blanks : {s rest : List ℕ} → Blanks s rest → Even s rest
   even-blanks none = refl
-  even-blanks (blank {b = c} {s = s} is d) = count-other c s (differ isBlank b c no-blank is) ∙ even-blanks d
+  even-blanks (blank {b = c} {s = s} is d) = count-other b c s (differ isBlank b c no-blank is) ∙ even-blanks d
 
   even-run : (test : ℕ → Bool) {w s rest : List ℕ} → test b ≡ false → Run test w s rest → Even s rest
-  even-run test non (one {b = c} {rest = rest} is) = count-other c rest (differ test b c non is)
-  even-run test non (next {b = c} {s = s} is d) = count-other c s (differ test b c non is) ∙ even-run test non d
+  even-run test non (one {b = c} {rest = rest} is) = count-other b c rest (differ test b c non is)
+  even-run test non (next {b = c} {s = s} is d) = count-other b c s (differ test b c non is) ∙ even-run test non d
 
   even-number : {w s rest : List ℕ} → Number w s rest → Even s rest
   even-number (whole d) = even-run isDigit no-digit d
-  even-number (decimal {mid = mid} d e) = even-run isDigit no-digit d ∙ (count-other 46 mid no-point ∙ even-run isDigit no-digit e)
+  even-number (decimal {mid = mid} d e) = even-run isDigit no-digit d ∙ (count-other b 46 mid no-point ∙ even-run isDigit no-digit e)
 
   module _ {R : Rules} where
     even-colon : {w s rest : List ℕ} → ColonNumber R w s rest → Even s rest
-    even-colon (colon {s₁ = m} a c n fits) = even-blanks a ∙ (count-other 58 m no-colon ∙ (even-blanks c ∙ even-number n))
+    even-colon (colon {s₁ = m} a c n fits) = even-blanks a ∙ (count-other b 58 m no-colon ∙ (even-blanks c ∙ even-number n))
 
     even-numbers : {d c s rest : List ℕ} → Numbers R d c s rest → Even s rest
     even-numbers nothing = refl
     even-numbers (distance c) = even-colon c
     even-numbers (both c e) = even-colon c ∙ even-colon e
-    even-numbers (support {mid = m} c e) = even-blanks c ∙ (count-other 58 m no-colon ∙ even-colon e)
+    even-numbers (support {mid = m} c e) = even-blanks c ∙ (count-other b 58 m no-colon ∙ even-colon e)
 
     even-inner : {w s rest : List ℕ} → Inner R w s rest → Even s rest
     even-inner nameless = refl
@@ -138,6 +139,9 @@ level-steps R = record {
   at-inner = λ k t f w d b s s₁ s₂ s₃ s₄ s₅ rest bl first p comma others q inner behind.
       let x = evenly-blanks bl in let y = evenly-blanks comma in let z = evenly-inner inner in let v = evenly-numbers behind in
       record { level = omega arith; ending = omega arith };
+  at-single = λ k t w d b s s₁ s₂ s₃ s₄ rest enough bl only p closes inner behind.
+      let x = evenly-blanks bl in let y = evenly-blanks closes in let z = evenly-inner inner in let v = evenly-numbers behind in
+      record { level = omega arith; ending = omega arith };
   at-last = λ k t s s₁ rest only p closes. let x = evenly-blanks closes in record { level = omega arith; ending = omega arith };
   at-more = λ k t f s s₁ s₂ rest first p comma others q. let x = evenly-blanks comma in record { level = omega arith; ending = omega arith };
 }
@@ -147,8 +151,3 @@ node-level {R} d = over-node R (λ k s t rest. Levelled 0 s rest) (λ k s f rest
 
 pub children-level : {R : Rules} {k : ℕ} {f : Forest} {s rest : List ℕ} → Children R k s f rest → Levelled 1 s rest
 children-level {R} d = over-children R (λ k s t rest. Levelled 0 s rest) (λ k s f rest. Levelled 1 s rest) (level-steps R) d
-
--- a byte that is no semicolon
-pub no-semicolon : (b : ℕ) (s : List ℕ) → eqb b 59 ≡ false → count 59 (b ∷ s) ≡ count 59 s
-unfolding count
-no-semicolon b s e = rw e refl

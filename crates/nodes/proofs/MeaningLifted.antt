@@ -1,4 +1,4 @@
--- A text of the grammar with limits and roster lifted is refused for a limit, a leaf's name or a missing species, and for nothing else.
+-- A text of the loosest grammar is refused for a limit, a leaf's name, a single child or a missing species, and for nothing else.
 use Prim.Native.Nat.{ℕ, zero, suc, _+_, _*_, _≤_, _<_}
 use mathlib.Core.Path.{_≡_, refl, sym, ap, _∙_}
 use mathlib.Core.Bool.{Bool, true, false}
@@ -18,7 +18,7 @@ use Rattle.tokens.specs.Answers.{Answer, andThen}
 use Rattle.tokens.specs.Answers.Answer.{parsed, refused}
 use Rattle.tokens.specs.Tokens.{numberBytes, nextIs, nextName, blanks, skip, number, numberBehind, secondNumber, numbersBy, numbers, name, innerName}
 use Rattle.nodes.specs.Reading.{openMost, leafNew, leafKnown, leafAt, closing, afterFirst, opened, afterChild, readNode, readForest, complete, ended, readTreeTo, readTree}
-use Rattle.nodes.specs.Grammar.{lifted, Blanks, Run, Number, ColonNumber, Numbers, Inner, Node, Text}
+use Rattle.nodes.specs.Grammar.{loosest, Blanks, Run, Number, ColonNumber, Numbers, Inner, Node, Text}
 use Rattle.nodes.specs.Grammar.Number.{whole, decimal}
 use Rattle.nodes.specs.Grammar.ColonNumber.{colon}
 use Rattle.nodes.specs.Grammar.Numbers.{nothing, distance, both, support}
@@ -30,12 +30,12 @@ use Rattle.nodes.proofs.Answers.{parsed-refused}
 use Rattle.nodes.proofs.Rests.{tail-drop}
 use Rattle.nodes.proofs.Fronts.{blanks-front, node-front}
 use Rattle.nodes.proofs.MeaningContexts.{front-shorter}
-use Rattle.nodes.proofs.Locality.{spanWith, spanOf, number-long, name-long}
+use Rattle.nodes.proofs.Spans.{spanWith, spanOf, number-long, name-long}
 
--- ---- the numbers that name a limit, a leaf's name or a missing species: 4, 5, 6, 8 and 9
+-- ---- the numbers that name a limit, a leaf's name, a single child or a missing species: 4 to 9
 
 abbrev pub Limit : ℕ → Type 0
-Limit n = (4 ≤ n) × (n ≤ 9) × (n ≡ 7 → ⊥)
+Limit n = (4 ≤ n) × (n ≤ 9)
 
 four : Limit 4
 four = omega arith
@@ -45,6 +45,9 @@ five = omega arith
 
 six : Limit 6
 six = omega arith
+
+seven : Limit 7
+seven = omega arith
 
 eight : Limit 8
 eight = omega arith
@@ -107,7 +110,7 @@ unfolding numberBehind
 numberBehind-passes {s = s} {m = m} gap n stop p = rw (blanks-skip gap (name-no-blank m (number-first n))) (number-passes n stop (p + blanks s))
 
 second-passes :
-    (w d : List ℕ) {b s rest : List ℕ} → ColonNumber lifted b s rest → Follows rest → (p : ℕ)
+    (w d : List ℕ) {b s rest : List ℕ} → ColonNumber loosest b s rest → Follows rest → (p : ℕ)
     → Passes rest (secondNumber (nextIs 58 (skip s)) w d s p)
 second-passes w d {s = s} (colon {s₁ = s₁} bl gap n any) follows p =
     rw (skip-is 58 refl bl, skip-to 58 refl bl)
@@ -116,7 +119,7 @@ second-passes w d {s = s} (colon {s₁ = s₁} bl gap n any) follows p =
 
 first-passes :
     (w : List ℕ) {d s mid rest : List ℕ}
-    → ColonNumber lifted d s mid → Stopped mid → ((x : List ℕ) (q : ℕ) → Passes rest (secondNumber (nextIs 58 (skip mid)) w x mid q)) → (p : ℕ)
+    → ColonNumber loosest d s mid → Stopped mid → ((x : List ℕ) (q : ℕ) → Passes rest (secondNumber (nextIs 58 (skip mid)) w x mid q)) → (p : ℕ)
     → Passes rest (numbersBy (nextIs 58 (skip s)) w s p)
 first-passes w {s = s} (colon {s₁ = s₁} {s₂ = s₂} bl gap n any) stop second p =
     let e : skip s₁ ≡ s₂ = blanks-skip gap (name-no-blank s₂ (number-first n)) in
@@ -124,21 +127,21 @@ first-passes w {s = s} (colon {s₁ = s₁} {s₂ = s₂} bl gap n any) stop sec
     (passes-then (λ d s p. secondNumber (nextIs 58 (skip s)) w d s p) (numberBehind-passes gap n stop (p + blanks s + 1)) second)
 
 support-passes :
-    (w : List ℕ) {b s mid rest : List ℕ} → Blanks s (58 ∷ mid) → ColonNumber lifted b mid rest → Follows rest → (p : ℕ)
+    (w : List ℕ) {b s mid rest : List ℕ} → Blanks s (58 ∷ mid) → ColonNumber loosest b mid rest → Follows rest → (p : ℕ)
     → Passes rest (numbersBy (nextIs 58 (skip s)) w s p)
 support-passes w {s = s} {mid = mid} bl (colon {s₁ = s₁} bl₁ gap n any) follows p =
     rw (skip-is 58 refl bl, skip-to 58 refl bl, skip-is 58 refl bl₁, skip-to 58 refl bl₁)
     (passes-then (λ b s p. parsed (record { name = w; distance = []; support = b }) s p)
     (numberBehind-passes gap n (follows .stopped) (p + blanks s + 1 + blanks mid + 1)) (λ x q. reads))
 
-numbers-passes : (w : List ℕ) {d b s rest : List ℕ} → Numbers lifted d b s rest → Follows rest → (p : ℕ) → Passes rest (numbers w s p)
+numbers-passes : (w : List ℕ) {d b s rest : List ℕ} → Numbers loosest d b s rest → Follows rest → (p : ℕ) → Passes rest (numbers w s p)
 unfolding numbers
 numbers-passes w nothing follows p = rw (follows-no-colon follows) reads
 numbers-passes w (distance c) follows p = first-passes w c (follows .stopped) (λ x q. rw (follows-no-colon follows) reads) p
 numbers-passes w (both c e) follows p = first-passes w c (colon-stopped e) (λ x q. second-passes w x e follows q) p
 numbers-passes w (support bl c) follows p = support-passes w bl c follows p
 
-innerName-passes : {w s rest : List ℕ} → Inner lifted w s rest → Stopped rest → (p : ℕ) → Passes rest (innerName s p)
+innerName-passes : {w s rest : List ℕ} → Inner loosest w s rest → Stopped rest → (p : ℕ) → Passes rest (innerName s p)
 unfolding innerName
 innerName-passes nameless stop p = rw (stopped-skip-name stop) reads
 innerName-passes {s = s} (named {mid = mid} gap r any) stop p =
@@ -148,7 +151,7 @@ innerName-passes {s = s} (named {mid = mid} gap r any) stop p =
 
 -- ---- leaves and what closes a node
 
-leaf-passes : (names : List (List ℕ)) (seen : ℕ) {w d b m mid rest : List ℕ} → Run isName w m mid → Numbers lifted d b mid rest → Follows rest → (p : ℕ)
+leaf-passes : (names : List (List ℕ)) (seen : ℕ) {w d b m mid rest : List ℕ} → Run isName w m mid → Numbers loosest d b mid rest → Follows rest → (p : ℕ)
     → Passes rest (leafAt names seen m p)
 unfolding leafAt
 leaf-passes names seen {mid = mid} {rest = rest} r behind follows p =
@@ -164,7 +167,7 @@ leaf-passes names seen {mid = mid} {rest = rest} r behind follows p =
     known true i q = fresh (apart (single i) seen) i q
 
 closing-passes :
-    (t : Tree) (f : Forest) {w d b s m rest : List ℕ} → Inner lifted w s m → Numbers lifted d b m rest → Follows rest → (p : ℕ)
+    (t : Tree) (f : Forest) {w d b s m rest : List ℕ} → Inner loosest w s m → Numbers loosest d b m rest → Follows rest → (p : ℕ)
     → Passes rest (closing t f s p)
 unfolding closing
 closing-passes t f inner behind follows p =
@@ -181,7 +184,7 @@ module _ (names : List (List ℕ)) where
   ForestPasses depth s f rest = (k room seen p : ℕ) → 2 * length s + 1 < k → Passes rest (readForest k names room seen s p)
 
   leaf-step :
-      (depth i : ℕ) (w d b s s₁ s₂ rest : List ℕ) → Blanks s s₁ → Run isName w s₁ s₂ → Numbers lifted d b s₂ rest
+      (depth i : ℕ) (w d b s s₁ s₂ rest : List ℕ) → Blanks s s₁ → Run isName w s₁ s₂ → Numbers loosest d b s₂ rest
       → NodePasses depth s (leaf i (record { name = []; distance = d; support = b })) rest
   unfolding readNode
   leaf-step depth i w d b s s₁ s₂ rest gap r behind follows zero room seen p l = absurd (omega arith)
@@ -193,7 +196,7 @@ module _ (names : List (List ℕ)) where
   -- behind the first child
   others-pass :
       (k depth room seen : ℕ) (t : Tree) (f : Forest) (w d b s s₁ s₂ s₃ rest : List ℕ)
-      → Blanks s (44 ∷ s₁) → ForestPasses depth s₁ f s₂ → Inner lifted w s₂ s₃ → Numbers lifted d b s₃ rest → Follows rest
+      → Blanks s (44 ∷ s₁) → ForestPasses depth s₁ f s₂ → Inner loosest w s₂ s₃ → Numbers loosest d b s₃ rest → Follows rest
       → 2 * length s₁ + 1 < k → (x : Tree) (p : ℕ)
       → Passes rest (afterFirst (nextIs 44 (skip s)) (nextIs 41 (skip s)) (λ e s p. readForest k names room e s p) seen x (skip s) p)
   others-pass k depth room seen t f w d b s s₁ s₂ s₃ rest comma others inner behind follows l x p =
@@ -202,7 +205,7 @@ module _ (names : List (List ℕ)) where
 
   opened-pass :
       (k depth room seen : ℕ) (t : Tree) (f : Forest) (w d b s s₁ s₂ s₃ s₄ s₅ rest : List ℕ)
-      → NodePasses depth s₁ t s₂ → Blanks s₂ (44 ∷ s₃) → ForestPasses depth s₃ f s₄ → Inner lifted w s₄ s₅ → Numbers lifted d b s₅ rest → Follows rest
+      → NodePasses depth s₁ t s₂ → Blanks s₂ (44 ∷ s₃) → ForestPasses depth s₃ f s₄ → Inner loosest w s₄ s₅ → Numbers loosest d b s₅ rest → Follows rest
       → 2 * length s₁ < k → 2 * length s₃ + 1 < k → (p : ℕ)
       → Passes rest (opened (λ r e s p. readNode k names r e s p) (λ r e s p. readForest k names r e s p) room seen (40 ∷ s₁) p)
   opened-pass k depth zero seen t f w d b s s₁ s₂ s₃ s₄ s₅ rest first comma others inner behind follows l l′ p = halts eight
@@ -214,18 +217,41 @@ module _ (names : List (List ℕ)) where
 
   inner-step :
       (depth : ℕ) (t : Tree) (f : Forest) (w d b s s₁ s₂ s₃ s₄ s₅ rest : List ℕ)
-      → Blanks s (40 ∷ s₁) → Node lifted depth s₁ t s₂ → NodePasses depth s₁ t s₂ → Blanks s₂ (44 ∷ s₃) → ForestPasses depth s₃ f s₄ → Inner lifted w s₄ s₅
-      → Numbers lifted d b s₅ rest → NodePasses (suc depth) s (node t f (record { name = w; distance = d; support = b })) rest
+      → Blanks s (40 ∷ s₁) → Node loosest depth s₁ t s₂ → NodePasses depth s₁ t s₂ → Blanks s₂ (44 ∷ s₃) → ForestPasses depth s₃ f s₄ → Inner loosest w s₄ s₅
+      → Numbers loosest d b s₅ rest → NodePasses (suc depth) s (node t f (record { name = w; distance = d; support = b })) rest
   unfolding readNode nextName
   inner-step depth t f w d b s s₁ s₂ s₃ s₄ s₅ rest bl child first comma others inner behind follows zero room seen p l = absurd (omega arith)
   inner-step depth t f w d b s s₁ s₂ s₃ s₄ s₅ rest bl child first comma others inner behind follows (suc k) room seen p l =
       let e : skip s ≡ 40 ∷ s₁ = skip-to 40 refl bl in
       let no-leaf : nextName (skip s) ≡ false = rw e refl in
       let l₁ = front-shorter (blanks-front bl) in
-      let l₂ = front-shorter (node-front lifted child) in
+      let l₂ = front-shorter (node-front loosest child) in
       let l₃ = front-shorter (blanks-front comma) in
       rw (no-leaf, skip-is 40 refl bl, e)
       (opened-pass k depth room seen t f w d b s s₁ s₂ s₃ s₄ s₅ rest first comma others inner behind follows (omega arith) (omega arith) (p + blanks s))
+
+  -- the single child was read, and `)` follows it
+  single-pass :
+      (k depth room seen : ℕ) (t : Tree) (s₁ s₂ s₃ rest : List ℕ)
+      → NodePasses depth s₁ t s₂ → Blanks s₂ (41 ∷ s₃) → 2 * length s₁ < k → (p : ℕ)
+      → Passes rest (opened (λ r e s p. readNode k names r e s p) (λ r e s p. readForest k names r e s p) room seen (40 ∷ s₁) p)
+  single-pass k depth zero seen t s₁ s₂ s₃ rest only closes l p = halts eight
+  single-pass k depth (suc room) seen t s₁ s₂ s₃ rest only closes l p =
+      let e : skip s₂ ≡ 41 ∷ s₃ = skip-to 41 refl closes in
+      let no-comma : nextIs 44 (skip s₂) ≡ false = rw e (next-not 44 41 s₃ refl) in
+      passes-then
+      (λ t s p. afterFirst (nextIs 44 (skip s)) (nextIs 41 (skip s)) (λ e s p. readForest k names room e s p) seen t (skip s) (p + blanks s))
+      (only (closing-follows closes) k room seen (p + 1) l) (λ x q. rw (no-comma, skip-is 41 refl closes) (halts seven))
+
+  single-step :
+      (depth : ℕ) (t : Tree) (s s₁ s₂ s₃ rest : List ℕ) → Blanks s (40 ∷ s₁) → NodePasses depth s₁ t s₂ → Blanks s₂ (41 ∷ s₃) → NodePasses (suc depth) s t rest
+  unfolding readNode nextName
+  single-step depth t s s₁ s₂ s₃ rest bl only closes follows zero room seen p l = absurd (omega arith)
+  single-step depth t s s₁ s₂ s₃ rest bl only closes follows (suc k) room seen p l =
+      let e : skip s ≡ 40 ∷ s₁ = skip-to 40 refl bl in
+      let no-leaf : nextName (skip s) ≡ false = rw e refl in
+      let l₁ = front-shorter (blanks-front bl) in
+      rw (no-leaf, skip-is 40 refl bl, e) (single-pass k depth room seen t s₁ s₂ s₃ rest only closes (omega arith) (p + blanks s))
 
   last-step :
       (depth : ℕ) (t : Tree) (s s₁ rest : List ℕ) → NodePasses depth s t s₁ → Blanks s₁ (41 ∷ rest) → ForestPasses depth s (last t) rest
@@ -240,11 +266,11 @@ module _ (names : List (List ℕ)) where
 
   more-step :
       (depth : ℕ) (t : Tree) (f : Forest) (s s₁ s₂ rest : List ℕ)
-      → Node lifted depth s t s₁ → NodePasses depth s t s₁ → Blanks s₁ (44 ∷ s₂) → ForestPasses depth s₂ f rest → ForestPasses depth s (more t f) rest
+      → Node loosest depth s t s₁ → NodePasses depth s t s₁ → Blanks s₁ (44 ∷ s₂) → ForestPasses depth s₂ f rest → ForestPasses depth s (more t f) rest
   unfolding readForest
   more-step depth t f s s₁ s₂ rest child first comma others zero room seen p l = absurd (omega arith)
   more-step depth t f s s₁ s₂ rest child first comma others (suc k) room seen p l =
-      let l₁ = front-shorter (node-front lifted child) in
+      let l₁ = front-shorter (node-front loosest child) in
       let l₂ = front-shorter (blanks-front comma) in
       passes-then
       (λ t s p. afterChild (nextIs 44 (skip s)) (nextIs 41 (skip s)) (λ e s p. readForest k names room e s p) seen t (skip s) (p + blanks s))
@@ -253,12 +279,13 @@ module _ (names : List (List ℕ)) where
       rw (skip-is 44 refl comma, skip-to 44 refl comma)
       (passes-then (λ f s p. parsed (more x f) s p) (others k room (union seen (cluster x)) (q + blanks s₁ + 1) (omega arith)) (λ y z. reads)))
 
-  pass-steps : Steps lifted NodePasses ForestPasses
+  pass-steps : Steps loosest NodePasses ForestPasses
   pass-steps =
       record {
         at-leaf = λ k i w d b s s₁ s₂ rest gap r known behind. leaf-step k i w d b s s₁ s₂ rest gap r behind;
         at-inner = λ k t f w d b s s₁ s₂ s₃ s₄ s₅ rest bl first p comma others q inner behind.
             inner-step k t f w d b s s₁ s₂ s₃ s₄ s₅ rest bl first p comma q inner behind;
+        at-single = λ k t w d b s s₁ s₂ s₃ s₄ rest enough bl only p closes inner behind. single-step k t s s₁ s₂ s₃ rest bl p closes;
         at-last = λ k t s s₁ rest only p closes. last-step k t s s₁ rest p closes;
         at-more = λ k t f s s₁ s₂ rest first p comma others q. more-step k t f s s₁ s₂ rest first p comma q;
       }
@@ -269,18 +296,18 @@ module _ (names : List (List ℕ)) where
   ended-passes true t rest p = reads
   ended-passes false t rest p = halts nine
 
-  text-passes : (needed : ℕ) {k : ℕ} {s rest : List ℕ} {t : Tree} → Text lifted k s t rest → (p : ℕ) → Passes rest (readTree names needed s p)
+  text-passes : (needed : ℕ) {k : ℕ} {s rest : List ℕ} {t : Tree} → Text loosest k s t rest → (p : ℕ) → Passes rest (readTree names needed s p)
   unfolding readTree readTreeTo
   text-passes needed {s = s} {rest = rest} (text {s₁ = m} d ends) p =
       passes-then (λ t s p. ended (nextIs 59 (skip s)) needed t (skip s) (p + blanks s))
-      (over-node lifted NodePasses ForestPasses pass-steps d (semicolon-follows ends) (2 * length s + 1) openMost 0 p (omega arith))
+      (over-node loosest NodePasses ForestPasses pass-steps d (semicolon-follows ends) (2 * length s + 1) openMost 0 p (omega arith))
       (λ x q. rw (skip-is 59 refl ends, skip-to 59 refl ends) (ended-passes (within needed (cluster x)) x rest (q + blanks m)))
 
   passed : {A : Type 0} {rest : List ℕ} {a : Answer A} {n q : ℕ} → Passes rest a → a ≡ refused n q → Limit n
   passed reads e = absurd (parsed-refused e)
   passed {n = n} (halts {n = k} l) e = let f : k ≡ n = cc in rw (← f) l
 
-  -- a text of that grammar is refused by 4, 5, 6, 8 or 9 alone
+  -- a text of that grammar is refused by 4 to 9 alone
   pub text-limits :
-      (needed : ℕ) {k : ℕ} {s rest : List ℕ} {t : Tree} → Text lifted k s t rest → (p : ℕ) {n q : ℕ} → readTree names needed s p ≡ refused n q → Limit n
+      (needed : ℕ) {k : ℕ} {s rest : List ℕ} {t : Tree} → Text loosest k s t rest → (p : ℕ) {n q : ℕ} → readTree names needed s p ≡ refused n q → Limit n
   text-limits needed d p h = passed (text-passes needed d p) h

@@ -2,7 +2,7 @@
 use Prim.Native.Nat.{ℕ, zero, suc, _+_, _-_, _≤_, _<_}
 use mathlib.Core.Path.{_≡_, refl, sym, ap, _∙_}
 use mathlib.Core.Logic.{_⊎_, inl, inr, ⊎-elim}
-use mathlib.Core.Bool.{Bool, true, false}
+use mathlib.Core.Bool.{Bool, true, false, not}
 use mathlib.Core.List.{List, [], _∷_, _++_, tail, append-assoc, append-cancel-right}
 use native.Mathlib.Omega.{arith}
 use borrow.Author.Tests.{leb-false}
@@ -16,7 +16,7 @@ use Rattle.clusters.proofs.Sets.{within-false, apart-false, single-apart, minus
 use Rattle.labels.specs.Bytes.{isDigit, isName, oneMore, run}
 use Rattle.labels.specs.Labels.{labelBytes, word}
 use Rattle.trees.specs.Tree.{Tree, Forest}
-use Rattle.roster.specs.Roster.{same, position, countOn}
+use Rattle.roster.specs.Roster.{same, position}
 use Rattle.roster.proofs.Positions.{same-is}
 use Rattle.tokens.specs.Answers.{Answer}
 use Rattle.tokens.specs.Answers.Answer.{parsed, refused}
@@ -33,8 +33,8 @@ use Rattle.nodes.proofs.Answers.{refused-parsed, parsed-refused}
 use Rattle.nodes.proofs.Rests.{tail-drop, moves-length, skip-moves, skip-tail, numberBehind-advances, name-moves, innerName-moves, nextIs-tail, readNode-advances, readForest-advances}
 use Rattle.nodes.proofs.Sound.{skip-blanks, nextIs-cons, skip-byte, run-derives, number-read, name-read, innerName-read, readNode-sound, readForest-sound}
 use Rattle.nodes.proofs.Exact.{no-name-run, stopped-name, colon-stops, run-splits, run-exact}
-use Rattle.nodes.proofs.Fronts.{Front, Then, BlanksAnd, front-then, blanks-front, byte-front, run-front, colon-front, inner-front, node-front, children-front, inner-allowed, children-allowed, lifted-allows, lift-node}
-use Rattle.nodes.proofs.MeaningCounts.{evenly-blanks, evenly-name, evenly-colon, evenly-inner, node-level, children-level, no-semicolon}
+use Rattle.nodes.proofs.Fronts.{Front, Then, BlanksAnd, front-then, blanks-front, byte-front, run-front, colon-front, inner-front, node-front, children-front, inner-allowed, children-allowed, strict-lifted, lift-node}
+use Rattle.nodes.proofs.MeaningCounts.{evenly-blanks, evenly-name, evenly-colon, evenly-inner, node-level, children-level, count-other}
 use Rattle.nodes.proofs.MeaningContexts.{NodeOf, ChildrenOf}
 
 -- ---- thirteen bytes of a number, with `0` behind them
@@ -114,7 +114,7 @@ step-byte b s p is other =
     record {
       front = byte-front b d;
       moved = moves-length (skip-tail b s p is .moves);
-      even = evenly-blanks d .ending ∙ no-semicolon b (tail (skip s)) other;
+      even = evenly-blanks d .ending ∙ count-other 59 b (tail (skip s)) other;
     }
 
 -- a colon and a number
@@ -135,7 +135,7 @@ step-colon s p is h =
 pub step-inner :
     (names : List (List ℕ)) (s : List ℕ) (p : ℕ) {w rest : List ℕ} {q : ℕ} → innerName s p ≡ parsed w rest q → Step (Inner lifted w) s p rest q
 step-inner names s p h =
-    let d = inner-allowed (strict names) lifted (lifted-allows (strict names)) (innerName-read names s p h) in
+    let d = inner-allowed (strict names) lifted (strict-lifted names) (innerName-read names s p h) in
     record { front = inner-front lifted d; moved = moves-length (innerName-moves s p h); even = evenly-inner d .ending }
 
 pub step-here : (b : ℕ) (s : List ℕ) (p : ℕ) → nextIs b s ≡ true → eqb b 59 ≡ false → Step (BlanksAnd b) s p (tail s) (p + 1)
@@ -143,7 +143,7 @@ step-here b s p is other =
     record {
       front = record { bytes = b ∷ []; split = nextIs-cons b s is; anywhere = λ behind. none };
       moved = moves-length (nextIs-tail b s p is .moves);
-      even = ap (count 59) (nextIs-cons b s is) ∙ no-semicolon b (tail s) other;
+      even = ap (count 59) (nextIs-cons b s is) ∙ count-other 59 b (tail s) other;
     }
 
 module _ (k : ℕ) (names : List (List ℕ)) (room seen : ℕ) (s : List ℕ) (p : ℕ) where
@@ -154,7 +154,7 @@ module _ (k : ℕ) (names : List (List ℕ)) (room seen : ℕ) (s : List ℕ) (p
 
   pub step-forest : {f : Forest} {rest : List ℕ} {q : ℕ} → readForest k names room seen s p ≡ parsed f rest q → Step (ChildrenOf room f) s p rest q
   step-forest {f} {rest} {q} h =
-      let d = children-allowed (strict names) lifted (lifted-allows (strict names)) (readForest-sound k names room seen s p f rest q h .derives) in
+      let d = children-allowed (strict names) lifted (strict-lifted names) (readForest-sound k names room seen s p f rest q h .derives) in
       record {
         front = children-front lifted d;
         moved = moves-length (readForest-advances k names room seen s p f rest q h .moves);
@@ -170,8 +170,8 @@ same-position w v [] e l = absurd (omega arith)
 same-position w v (x ∷ names) e l = go (same w x) refl (same v x) refl e l (same-position w v names)
   where
     go :
-        (t : Bool) → same w x ≡ t → (t′ : Bool) → same v x ≡ t′ → countOn t (position w names) ≡ countOn t′ (position v names)
-        → countOn t′ (position v names) < suc (length names)
+        (t : Bool) → same w x ≡ t → (t′ : Bool) → same v x ≡ t′ → oneMore (not t) (position w names) ≡ oneMore (not t′) (position v names)
+        → oneMore (not t′) (position v names) < suc (length names)
         → (position w names ≡ position v names → position v names < length names → w ≡ v) → w ≡ v
     go true a true b e l h = same-is w x a ∙ sym (same-is v x b)
     go true a false b e l h = absurd (omega arith)

@@ -36,7 +36,7 @@ use Rattle.nodes.specs.Grammar.Node.{a-leaf, an-inner}
 use Rattle.nodes.specs.Grammar.Children.{the-last, one-more}
 use Rattle.nodes.specs.Grammar.Text.{text}
 use Rattle.nodes.proofs.Answers.{refused-parsed, andThen-parsed, unexpected-parsed}
-use Rattle.nodes.proofs.Derivations.{Steps, over-node}
+use Rattle.nodes.proofs.Derivations.{two-wanted, Steps, over-node}
 use Rattle.nodes.proofs.Rests.{Reader, Advances, nextName-run, tail-drop, readTree-advances}
 
 -- ---- blanks, bytes, runs
@@ -446,6 +446,7 @@ known-steps names =
     record {
       at-leaf = λ k i w d b s s₁ s₂ rest bl r known behind j h. rw (List·Memᴰ·eq-of-singleton h) (known .2);
       at-inner = λ k t f w d b s s₁ s₂ s₃ s₄ s₅ rest bl first p comma others q inner behind i h. either-known i (leaves t) (leavesOf f) (p i) (q i) h;
+      at-single = λ k t w d b s s₁ s₂ s₃ s₄ rest enough bl only p closes inner behind. absurd (two-wanted enough);
       at-last = λ k t s s₁ rest only p closes. p;
       at-more = λ k t f s s₁ s₂ rest first p comma others q i h. either-known i (leaves t) (leavesOf f) (p i) (q i) h;
     }

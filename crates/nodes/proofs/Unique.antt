@@ -15,7 +15,7 @@ use Rattle.roster.specs.Roster.{position}
 use Rattle.tokens.specs.Tokens.{nextName, skip, numbers, name, innerName}
 use Rattle.nodes.specs.Grammar.{strict, Blanks, Run, Numbers, Inner, Node, Children, Text}
 use Rattle.nodes.specs.Grammar.Text.{text}
-use Rattle.nodes.proofs.Derivations.{Steps, over-node, LeafForm, InnerForm, LastForm, MoreForm, node-form, children-form}
+use Rattle.nodes.proofs.Derivations.{two-wanted, Steps, over-node, LeafForm, InnerForm, LastForm, MoreForm, node-form, children-form}
 use Rattle.nodes.proofs.Exact.{Gives, gives-one, Same, Follows, comma-follows, closing-follows, semicolon-follows, blanks-skip, skip-to, run-first, name-no-blank, stopped-name, numbers-gives, numbers-stopped, name-gives, innerName-gives}
 
 module _ (names : List (List ℕ)) where
@@ -70,7 +70,7 @@ module _ (names : List (List ℕ)) where
       (k i : ℕ) (w d b s s₁ s₂ rest : List ℕ)
       → Blanks s s₁ → Run isName w s₁ s₂ → (length w ≤ labelBytes) × (position w names ≡ i) × (i < length names) → Numbers (strict names) d b s₂ rest
       → NodeOne k s (leaf i (record { name = []; distance = d; support = b })) rest
-  leaf-one k i w d b s s₁ s₂ rest gap r known behind follows k′ t′ rest′ d′ follows′ = go (node-form (strict names) d′)
+  leaf-one k i w d b s s₁ s₂ rest gap r known behind follows k′ t′ rest′ d′ follows′ = go (node-form (strict names) two-wanted d′)
     where
       go :
           LeafForm (strict names) s t′ rest′ ⊎ InnerForm (strict names) s t′ rest′
@@ -87,7 +87,7 @@ module _ (names : List (List ℕ)) where
       (k : ℕ) (t : Tree) (f : Forest) (w d b s s₁ s₂ s₃ s₄ s₅ rest : List ℕ)
       → Blanks s (40 ∷ s₁) → NodeOne k s₁ t s₂ → Blanks s₂ (44 ∷ s₃) → ForestOne k s₃ f s₄ → Inner (strict names) w s₄ s₅
       → Numbers (strict names) d b s₅ rest → NodeOne (suc k) s (node t f (record { name = w; distance = d; support = b })) rest
-  inner-one k t f w d b s s₁ s₂ s₃ s₄ s₅ rest opens p comma q inner behind follows k′ t′ rest′ d′ follows′ = go (node-form (strict names) d′)
+  inner-one k t f w d b s s₁ s₂ s₃ s₄ s₅ rest opens p comma q inner behind follows k′ t′ rest′ d′ follows′ = go (node-form (strict names) two-wanted d′)
     where
       go :
           LeafForm (strict names) s t′ rest′ ⊎ InnerForm (strict names) s t′ rest′
@@ -107,7 +107,7 @@ module _ (names : List (List ℕ)) where
           record { value = cc (a .value, g .value, m .value, o .is); left = m .left }
 
   last-one : (k : ℕ) (t : Tree) (s s₁ rest : List ℕ) → NodeOne k s t s₁ → Blanks s₁ (41 ∷ rest) → ForestOne k s (last t) rest
-  last-one k t s s₁ rest p closes k′ f′ rest′ d′ = go (children-form (strict names) d′)
+  last-one k t s s₁ rest p closes k′ f′ rest′ d′ = go (children-form (strict names) two-wanted d′)
     where
       go : LastForm (strict names) k′ s f′ rest′ ⊎ MoreForm (strict names) k′ s f′ rest′ → Same (last t) f′ rest rest′
       go (inl o) =
@@ -122,7 +122,7 @@ module _ (names : List (List ℕ)) where
   more-one :
       (k : ℕ) (t : Tree) (f : Forest) (s s₁ s₂ rest : List ℕ)
       → NodeOne k s t s₁ → Blanks s₁ (44 ∷ s₂) → ForestOne k s₂ f rest → ForestOne k s (more t f) rest
-  more-one k t f s s₁ s₂ rest p comma q k′ f′ rest′ d′ = go (children-form (strict names) d′)
+  more-one k t f s s₁ s₂ rest p comma q k′ f′ rest′ d′ = go (children-form (strict names) two-wanted d′)
     where
       go : LastForm (strict names) k′ s f′ rest′ ⊎ MoreForm (strict names) k′ s f′ rest′ → Same (more t f) f′ rest rest′
       go (inl o) =
@@ -142,6 +142,7 @@ module _ (names : List (List ℕ)) where
         at-leaf = λ k i w d b s s₁ s₂ rest gap r known behind. leaf-one k i w d b s s₁ s₂ rest gap r known behind;
         at-inner = λ k t f w d b s s₁ s₂ s₃ s₄ s₅ rest bl first p comma others q inner behind.
             inner-one k t f w d b s s₁ s₂ s₃ s₄ s₅ rest bl p comma q inner behind;
+        at-single = λ k t w d b s s₁ s₂ s₃ s₄ rest enough bl only p closes inner behind. absurd (two-wanted enough);
         at-last = λ k t s s₁ rest only p closes. last-one k t s s₁ rest p closes;
         at-more = λ k t f s s₁ s₂ rest first p comma others q. more-one k t f s s₁ s₂ rest p comma q;
       }

@@ -91,7 +91,7 @@ pub record ListReads (text : List ℕ) (seen stored : ℕ) (before after : List 
   pub says : nodeSays text r ≡ andThen answer (λ f rest q. parsed (forestMet seen stored f) rest q)
   pub stores : (f : Forest) (rest : List ℕ) (q : ℕ) → answer ≡ parsed f rest q → after ≡ sets before stored (clustersOf f)
 
--- the promises of the readers of a leaf, a node, a list and a tree: over every list of names that the table has, and at every depth that suffices
+-- the promise of `leaf`: for all names that the table holds
 unfoldable pub ReadsLeaf : List ℕ → List ℕ → ℕ → Cursor → List ℕ → List ℕ → NodeRead → Type 0
 ReadsLeaf text table count c before after r =
     (names : List (List ℕ))
@@ -106,7 +106,7 @@ ReadsNode text table count c room before after r =
     → 2 * (length text - c .at) < k
     → NodeReads text (c .seen) (c .stored) before after (readNode k names room (c .seen) (drop (c .at) text) (c .at)) r
 
--- the promise of `list`
+-- the promise of `list`: the same, and its measure is one more
 unfoldable pub ReadsList : List ℕ → List ℕ → ℕ → Cursor → ℕ → List ℕ → List ℕ → NodeRead → Type 0
 ReadsList text table count c room before after r =
     (names : List (List ℕ))

@@ -12,23 +12,33 @@ use Rattle.trees.specs.Tree.Forest.{last, more}
 use Rattle.roster.specs.Roster.{position}
 use Rattle.tokens.specs.Tokens.{numberBytes}
 
--- which names and numbers a grammar takes: the roster and the limits
+-- which names and numbers a grammar takes, by the roster and the limits, and how many nodes it wants in a parenthesis
 pub record Rules : Type 1 where
   pub leafName : List ℕ → ℕ → Type 0
   pub innerName : List ℕ → Type 0
   pub number : List ℕ → Type 0
+  pub fewest : ℕ
 
--- 01's: a leaf's name is on the roster, at its species; names and numbers keep their limits
+-- 01's: a leaf's name is on the roster, at its species; names and numbers keep their limits; "a parenthesis of two or more nodes"
 abbrev pub strict : List (List ℕ) → Rules
 strict names = record {
   leafName = λ w i. (length w ≤ labelBytes) × (position w names ≡ i) × (i < length names);
   innerName = λ w. length w ≤ labelBytes;
   number = λ w. length w ≤ numberBytes;
+  fewest = 2;
 }
 
 -- limits and roster lifted: any name may be any species
+abbrev pub liftedTo : ℕ → Rules
+liftedTo least = record { leafName = λ w i. Unit {0}; innerName = λ w. Unit {0}; number = λ w. Unit {0}; fewest = least }
+
+-- still with two or more nodes in a parenthesis
 abbrev pub lifted : Rules
-lifted = record { leafName = λ w i. Unit {0}; innerName = λ w. Unit {0}; number = λ w. Unit {0} }
+lifted = liftedTo 2
+
+-- with a single node too
+abbrev pub loosest : Rules
+loosest = liftedTo 1
 
 -- "Space, tab, line feed and carriage return may stand between tokens"
 pub data Blanks : List ℕ → List ℕ → Type 0 where
@@ -62,7 +72,7 @@ pub data Inner (R : Rules) : List ℕ → List ℕ → List ℕ → Type 0 where
   named : {w s mid rest : List ℕ} → Blanks s mid → Run isName w mid rest → R .innerName w → Inner R w s rest
 
 -- "A node is a leaf's name, or a parenthesis of two or more nodes parted by commas"; at most k parentheses are open at once in it.
--- Children are those behind a first comma, up to and with the closing parenthesis
+-- Children are those behind a first comma, up to and with the closing parenthesis. A parenthesis of a single node (not 01's) draws what it holds
 mutual
   pub data Node (R : Rules) : ℕ → List ℕ → Tree → List ℕ → Type 0 where
     a-leaf :
@@ -73,6 +83,10 @@ mutual
         {k : ℕ} {t : Tree} {f : Forest} {w d b s s₁ s₂ s₃ s₄ s₅ rest : List ℕ}
         → Blanks s (40 ∷ s₁) → Node R k s₁ t s₂ → Blanks s₂ (44 ∷ s₃) → Children R k s₃ f s₄ → Inner R w s₄ s₅ → Numbers R d b s₅ rest
         → Node R (suc k) s (node t f (record { name = w; distance = d; support = b })) rest
+    a-single :
+        {k : ℕ} {t : Tree} {w d b s s₁ s₂ s₃ s₄ rest : List ℕ}
+        → R .fewest ≤ 1 → Blanks s (40 ∷ s₁) → Node R k s₁ t s₂ → Blanks s₂ (41 ∷ s₃) → Inner R w s₃ s₄ → Numbers R d b s₄ rest
+        → Node R (suc k) s t rest
 
   pub data Children (R : Rules) : ℕ → List ℕ → Forest → List ℕ → Type 0 where
     the-last : {k : ℕ} {t : Tree} {s s₁ rest : List ℕ} → Node R k s t s₁ → Blanks s₁ (41 ∷ rest) → Children R k s (last t) rest

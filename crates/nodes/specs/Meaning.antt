@@ -12,7 +12,7 @@ use Rattle.trees.specs.Tree.{Tree, cluster}
 use Rattle.roster.specs.Roster.{position}
 use Rattle.tokens.specs.Tokens.{numberBytes}
 use Rattle.nodes.specs.Reading.{openMost}
-use Rattle.nodes.specs.Grammar.{strict, lifted, Blanks, Run, Number, Node, Text}
+use Rattle.nodes.specs.Grammar.{Rules, strict, lifted, loosest, Blanks, Run, Number, Node, Text}
 
 -- ---- which bytes decide
 
@@ -29,15 +29,15 @@ extra false n = 0
 unfoldable pub reach : ℕ → List ℕ → ℕ → ℕ
 reach number s d = suc (d + extra (judgedAtEnd number) (run isName (drop d s)))
 
--- ---- what could stand: the grammar with limits and roster lifted
+-- ---- what could stand: the grammar with limits and roster lifted, and where 7 is lifted too with single nodes in parentheses
 
 -- a whole tree text
-abbrev pub IsText : List ℕ → Type 0
-IsText s = (k : ℕ) × (t : Tree) × Text lifted k s t []
+abbrev pub IsText : Rules → List ℕ → Type 0
+IsText R s = (k : ℕ) × (t : Tree) × Text R k s t []
 
 -- a whole node
-abbrev pub IsNode : List ℕ → Type 0
-IsNode s = (k : ℕ) × (t : Tree) × Node lifted k s t []
+abbrev pub IsNode : Rules → List ℕ → Type 0
+IsNode R s = (k : ℕ) × (t : Tree) × Node R k s t []
 
 -- a whole name, of a leaf or an inner node, blanks before it
 abbrev pub IsName : List ℕ → Type 0
@@ -47,41 +47,44 @@ IsName s = (w : List ℕ) × (mid : List ℕ) × Blanks s mid × Run isName w mi
 abbrev pub IsNumber : List ℕ → Type 0
 IsNumber s = (w : List ℕ) × (mid : List ℕ) × Blanks s mid × Number w mid []
 
--- the bytes u begin some text
-pub record BeginsText (u : List ℕ) : Type 0 where
+-- the bytes u begin some text by these rules
+pub record Begins (R : Rules) (u : List ℕ) : Type 0 where
   pub more : List ℕ
-  pub text : IsText (u ++ more)
+  pub text : IsText R (u ++ more)
 
--- behind u any such piece may stand: with one and the same end behind the piece it makes a text
-pub record MayStand (Piece : List ℕ → Type 0) (u : List ℕ) : Type 0 where
+-- limits and roster lifted
+abbrev pub BeginsText : List ℕ → Type 0
+BeginsText u = Begins lifted u
+
+-- all lifted that 4 to 9 name: "but for the fault they name"
+abbrev pub CouldBegin : List ℕ → Type 0
+CouldBegin u = Begins loosest u
+
+-- behind u any such piece may stand: with one and the same end behind the piece it makes a text by these rules
+pub record MayStand (R : Rules) (Piece : List ℕ → Type 0) (u : List ℕ) : Type 0 where
   pub end : List ℕ
-  pub text : (v : List ℕ) → Piece v → IsText (u ++ v ++ end)
+  pub text : (v : List ℕ) → Piece v → IsText R (u ++ v ++ end)
 
--- a node, a name or a number may stand behind u
+-- a node may stand behind u
 abbrev pub NodeMayStand : List ℕ → Type 0
-NodeMayStand u = MayStand IsNode u
+NodeMayStand u = MayStand lifted (IsNode lifted) u
 
 -- a name may stand behind u
 abbrev pub NameMayStand : List ℕ → Type 0
-NameMayStand u = MayStand IsName u
+NameMayStand u = MayStand lifted IsName u
 
 -- a number may stand behind u
 abbrev pub NumberMayStand : List ℕ → Type 0
-NumberMayStand u = MayStand IsNumber u
+NumberMayStand u = MayStand lifted IsNumber u
 
 -- the byte b stands at d
 abbrev pub ByteAt : List ℕ → ℕ → ℕ → Type 0
 ByteAt s d b = (d < length s) × (getD s d 0 ≡ b)
 
--- one more, or none
-abbrev pub plusIf : Bool → ℕ → ℕ
-plusIf true n = suc n
-plusIf false n = n
-
 -- how often the byte b stands in s
 unfoldable pub count : ℕ → List ℕ → ℕ
 count b [] = 0
-count b (c ∷ s) = plusIf (eqb c b) (count b s)
+count b (c ∷ s) = extra (eqb c b) 1 + count b s
 
 -- "open parentheses at once": those opened less those closed
 unfoldable pub opens : List ℕ → ℕ
@@ -89,11 +92,12 @@ opens u = count 40 u - count 41 u
 
 -- ---- what each number says of the text s and the byte d at fault
 
--- "3 | byte not allowed here | that byte": what stands before it begins a text, and with it none
+-- "3 | byte not allowed here | that byte": what stands before it begins a text, and with it none does, whatever other numbers name is lifted:
+-- "7, 8 and 9 are for bytes that could stand there but for the fault they name, otherwise it is 3"
 pub record Stray (s : List ℕ) (d : ℕ) : Type 0 where
   pub inside : d < length s
   pub begun : BeginsText (take d s)
-  pub not-allowed : BeginsText (take (suc d) s) → ⊥
+  pub not-allowed : CouldBegin (take (suc d) s) → ⊥
 
 -- "4 | sixteenth byte of a name": the name begins at c, and d is its sixteenth letter or digit
 pub record LongName (s : List ℕ) (d : ℕ) : Type 0 where
@@ -130,7 +134,7 @@ pub record RepeatedName (names : List (List ℕ)) (s : List ℕ) (d : ℕ) : Typ
   pub same-name : word (drop c s) ≡ word (drop d s)
 
 -- "7 | `)` closes a single child | the `)`": behind a `(` stands one node and blanks; "for bytes that could stand there but for the fault":
--- with a comma and a second child before it, it could
+-- with single nodes in parentheses, it could
 pub record SingleChild (s : List ℕ) (d : ℕ) : Type 0 where
   pub closes : ByteAt s d 41
   pub before : List ℕ
@@ -142,7 +146,7 @@ pub record SingleChild (s : List ℕ) (d : ℕ) : Type 0 where
   pub behind : List ℕ
   pub one : Node lifted k within child behind
   pub gap : Blanks behind []
-  pub could : BeginsText (take d s ++ 44 ∷ 97 ∷ 41 ∷ [])
+  pub could : CouldBegin (take (suc d) s)
 
 -- "8 | sixteenth open parenthesis | the `(`": it could stand there, and fifteen are open
 pub record TooDeep (s : List ℕ) (d : ℕ) : Type 0 where
@@ -154,7 +158,7 @@ pub record TooDeep (s : List ℕ) (d : ℕ) : Type 0 where
 pub record Missing (names : List (List ℕ)) (needed : ℕ) (s : List ℕ) (d : ℕ) : Type 0 where
   pub ends : ByteAt s d 59
   pub tree : Tree
-  pub drawn : Text (strict names) openMost (take (d + 1) s) tree []
+  pub drawn : Text (strict names) openMost (take (suc d) s) tree []
   pub species : ℕ
   pub wanted : Has needed species
   pub absent : Has (cluster tree) species → ⊥

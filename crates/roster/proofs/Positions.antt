@@ -4,13 +4,14 @@ use native.Mathlib.Nat.{not-suc-le-zero}
 use native.Mathlib.Decide.{decLt}
 use native.Mathlib.Omega.{arith}
 use mathlib.Core.Path.{_≡_, refl, sym, ap, ap₂, _∙_}
-use mathlib.Core.Bool.{Bool, true, false, false≢true}
+use mathlib.Core.Bool.{Bool, true, false, not, false≢true}
 use mathlib.Core.List.{List, [], _∷_, _++_}
 use lib.ListN.{length, getD, length-append, List·getD-append}
 use lib.Seq.{getD-append-seam}
 use lib.Dec.{eqb}
 use borrow.Author.Tests.{eq-eqb, eqb-true}
-use Rattle.roster.specs.Roster.{same, position, countOn}
+use Rattle.labels.specs.Bytes.{oneMore}
+use Rattle.roster.specs.Roster.{same, position}
 use Rattle.trees.proofs.Booleans.{both}
 use Rattle.roster.proofs.Each.{Each}
 
@@ -34,7 +35,7 @@ unfolding position
 position-within w [] = zero-le
 position-within w (v ∷ ns) = by (same w v) (position-within w ns)
   where
-    by : (t : Bool) → position w ns ≤ length ns → countOn t (position w ns) ≤ suc (length ns)
+    by : (t : Bool) → position w ns ≤ length ns → oneMore (not t) (position w ns) ≤ suc (length ns)
     by true h = zero-le
     by false h = omega arith
 
@@ -50,8 +51,8 @@ unfolding position
 position-known w [] more h = absurd (not-suc-le-zero h)
 position-known w (v ∷ ns) more h = by (same w v) h (position-known w ns more)
   where
-    by : (t : Bool) → countOn t (position w ns) < suc (length ns) → (position w ns < length ns → position w (ns ++ more) ≡ position w ns)
-        → countOn t (position w (ns ++ more)) ≡ countOn t (position w ns)
+    by : (t : Bool) → oneMore (not t) (position w ns) < suc (length ns) → (position w ns < length ns → position w (ns ++ more) ≡ position w ns)
+        → oneMore (not t) (position w (ns ++ more)) ≡ oneMore (not t) (position w ns)
     by true h next = refl
     by false h next = rw (next (omega arith))
 
@@ -61,8 +62,8 @@ unfolding position
 position-new w [] h = rw (same-self w)
 position-new w (v ∷ ns) h = by (same w v) h (position-new w ns)
   where
-    by : (t : Bool) → countOn t (position w ns) ≡ suc (length ns) → (position w ns ≡ length ns → position w (ns ++ (w ∷ [])) ≡ length ns)
-        → countOn t (position w (ns ++ (w ∷ []))) ≡ suc (length ns)
+    by : (t : Bool) → oneMore (not t) (position w ns) ≡ suc (length ns) → (position w ns ≡ length ns → position w (ns ++ (w ∷ [])) ≡ length ns)
+        → oneMore (not t) (position w (ns ++ (w ∷ []))) ≡ suc (length ns)
     by true h next = absurd (omega arith)
     by false h next = rw (next (omega arith))
 

@@ -5,7 +5,7 @@ use mathlib.Core.List.{List, [], _∷_, map}
 use lib.ListN.{length, getD, drop}
 use lib.Dec.{eqb, leb, ltb}
 use Rattle.trees.specs.Lists.{keep, upTo}
-use Rattle.labels.specs.Bytes.{isName, run}
+use Rattle.labels.specs.Bytes.{isName, oneMore, run}
 use Rattle.labels.specs.Labels.{labelBytes, word}
 
 -- two names are the same, byte for byte
@@ -15,22 +15,17 @@ same [] (y ∷ l) = false
 same (x ∷ k) [] = false
 same (x ∷ k) (y ∷ l) = eqb x y && same k l
 
--- here, or one further on
-abbrev pub countOn : Bool → ℕ → ℕ
-countOn true n = zero
-countOn false n = suc n
-
 -- where a name stands in the list of names: its species; the list's length where it is unknown
 unfoldable pub position : List ℕ → List (List ℕ) → ℕ
 unfolding same
 position w [] = zero
-position w (v ∷ l) = countOn (same w v) (position w l)
+position w (v ∷ l) = oneMore (not (same w v)) (position w l)
 
--- the byte at p, and the one before it; 0 where there is none
+-- the byte at p; 0 where there is none
 abbrev pub byteAt : List ℕ → ℕ → ℕ
 byteAt line p = getD line p 0
 
--- the byte before p
+-- the byte before p; 0 where there is none
 abbrev pub byteBefore : List ℕ → ℕ → ℕ
 byteBefore line zero = 0
 byteBefore line (suc p) = getD line p 0

@@ -8,12 +8,13 @@ use native.Mathlib.Omega.{arith}
 use lib.Dec.{leb}
 use lib.ListN.{length, getD}
 use borrow.Author.Tests.{ltb-false, leb-true, le-leb, le-ltb, not-false}
+use Rattle.labels.specs.Bytes.{oneMore}
 use Rattle.clusters.specs.Sets.{whole}
 use Rattle.trees.specs.Valid.{valid}
 use Rattle.roster.proofs.Least.{least-first, least-none}
 use Rattle.trees.specs.Records.{recordsIn}
 use Rattle.roster.specs.Verdict.{Test, verdict, verdictBy, lengthTest}
-use Rattle.lineages.specs.Checks.{speciesTest, countTest, firstBad, countOn, recordsTest}
+use Rattle.lineages.specs.Checks.{speciesTest, countTest, firstBad, recordsTest}
 use Rattle.search.specs.Promise.{firstStrange, allowedTest, searchTests}
 use Rattle.search.specs.Candidates.{Accepted}
 
@@ -57,7 +58,7 @@ unfolding firstBad
 first-bad-all n [] h g m = absurd (List·Memᴰ·not-nil m)
 first-bad-all n (x ∷ l) h g m = go (valid (whole n) x) refl h (List·Memᴰ·cases-cons m) (λ k p. first-bad-all n l k g p)
   where
-    go : (b : Bool) → valid (whole n) x ≡ b → suc (length l) ≤ countOn b (firstBad n l) → (g ≡ x) ⊎ List·Memᴰ g l
+    go : (b : Bool) → valid (whole n) x ≡ b → suc (length l) ≤ oneMore b (firstBad n l) → (g ≡ x) ⊎ List·Memᴰ g l
         → (length l ≤ firstBad n l → List·Memᴰ g l → valid (whole n) g ≡ true) → valid (whole n) g ≡ true
     go true e k (inl p) ih = ap (valid (whole n)) p ∙ e
     go true e k (inr p) ih = ih (omega arith) p

@@ -23,7 +23,8 @@ use Rattle.reader.specs.Promise.{textMost, readingOf, fromStart, inLimit, onRos
 use Rattle.reader.specs.declared.Reading.{Reading}
 use Rattle.reader.specs.Accepted.{Draws}
 use Rattle.reader.proofs.Accepts.{accepted-derives, derives-accepted}
-use Rattle.nodes.proofs.Meaning.{refusal-means, refusal-numbers}
+use Rattle.nodes.proofs.Meaning.{refusal-means}
+use Rattle.nodes.proofs.Refusals.{refusal-numbers}
 use Rattle.texts.specs.Writing.{written}
 use Rattle.writer.specs.Promise.{Writes}
 use Rattle.writer.proofs.RosterNames.{good-names}

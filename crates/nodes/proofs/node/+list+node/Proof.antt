@@ -166,35 +166,17 @@ list-rest t c = record {
 list-node-requires : (t : ℕ) → list-lts.Need-node-requires (list-calls t) (list-at t) list.Post
 list-node-requires t c κs = (let e = c .before .before .before .before .pre .0 in omega arith, c .before .before .before .before .pre .1)
 
-list-enum-known-first : (t : ℕ) → list-lts.Need-enum-known-first (list-calls t) (list-at t) list.Post
-list-enum-known-first t c = search needs
-
-list-enum-told : (t : ℕ) → list-lts.Need-enum-told (list-calls t) (list-at t) list.Post
-list-enum-told t c = search needs
-
-list-same-length : (t : ℕ) → list-lts.Need-same-length (list-calls t) (list-at t) list.Post
-list-same-length t c = search needs
-
 list-returns : (t : ℕ) → list-lts.Need-returns (list-calls t) (list-at t) list.Post
 unfolding ReadsList
 list-returns t c = λ names holds k deep.
     let start = c .before .before .before .before .before .before .before .before .before in
     child-refused-way (list-asked t start) names holds k deep (list-child t (c .before .before)) _ (c .enum-told .given .1)
 
-list-blanks-requires : (t : ℕ) → list-lts.Need-blanks-requires (list-calls t) (list-at t) list.Post
-list-blanks-requires t c κs = search needs
-
-list-next-is-requires : (t : ℕ) → list-lts.Need-next-is-requires (list-calls t) (list-at t) list.Post
-list-next-is-requires t c κs = search needs
-
 list-add-moved : (t : ℕ) → list-lts.Need-add-moved (list-calls t) (list-at t) list.Post
 list-add-moved t c =
     let start = c .before .before .before .before .before .before .before .before .before .before .before .before .before in
     let h = next-is-inside (start .args .text .now) (c .before .before .blanks .result) 44 (list-comma t c) in
     omega arith
-
-list-moved-requires : (t : ℕ) → list-lts.Need-moved-requires (list-calls t) (list-at t) list.Post
-list-moved-requires t c κs = search needs
 
 list-list-requires : (t : ℕ) → list-lts.Need-list-requires (list-calls t) (list-at t) list.Post
 list-list-requires t c κs =
@@ -214,15 +196,6 @@ list-list-requires t c κs =
     let e = start .pre .0 in
     (omega arith, given-moved _ _ _ _ _ _ _ (c .before .moved .ensures) (more .given))
 
-list-enum-known-others : (t : ℕ) → list-lts.Need-enum-known-others (list-calls t) (list-at t) list.Post
-list-enum-known-others t c = search needs
-
-list-enum-told-2 : (t : ℕ) → list-lts.Need-enum-told-2 (list-calls t) (list-at t) list.Post
-list-enum-told-2 t c = search needs
-
-list-same-length-2 : (t : ℕ) → list-lts.Need-same-length-2 (list-calls t) (list-at t) list.Post
-list-same-length-2 t c = search needs
-
 list-returns-2 : (t : ℕ) → list-lts.Need-returns-2 (list-calls t) (list-at t) list.Post
 unfolding ReadsList
 list-returns-2 t c = λ names holds k deep.
@@ -232,12 +205,6 @@ list-returns-2 t c = λ names holds k deep.
     let start = child .before .before .before .before .before .before .before in
     rest-refused-way (list-asked t start) names holds k deep (list-child t child) (list-followed t behind) (list-comma t comma)
     (list-rest t (c .before .before)) _ (c .enum-told2 .given .1)
-
-list-union-requires : (t : ℕ) → list-lts.Need-union-requires (list-calls t) (list-at t) list.Post
-list-union-requires t c κs = search needs
-
-list-same-length-3 : (t : ℕ) → list-lts.Need-same-length-3 (list-calls t) (list-at t) list.Post
-list-same-length-3 t c = search needs
 
 list-returns-3 : (t : ℕ) → list-lts.Need-returns-3 (list-calls t) (list-at t) list.Post
 unfolding ReadsList
@@ -251,21 +218,12 @@ list-returns-3 t c = λ names holds k deep.
     (c .union .result) (c .before .before .others .given .1)
     (c .union .ensures)
 
-list-next-is-requires-2 : (t : ℕ) → list-lts.Need-next-is-requires-2 (list-calls t) (list-at t) list.Post
-list-next-is-requires-2 t c κs = search needs
-
 list-add-moved-2 : (t : ℕ) → list-lts.Need-add-moved-2 (list-calls t) (list-at t) list.Post
 list-add-moved-2 t c =
     let at-blanks = c .before .before .before .before in
     let start = at-blanks .before .before .before .before .before .before .before .before .before .before .before in
     let h = next-is-inside (start .args .text .now) (at-blanks .blanks .result) 41 (sym (c .before .next-is2 .ensures) ∙ c .if2 .taken) in
     omega arith
-
-list-moved-requires-2 : (t : ℕ) → list-lts.Need-moved-requires-2 (list-calls t) (list-at t) list.Post
-list-moved-requires-2 t c κs = search needs
-
-list-same-length-4 : (t : ℕ) → list-lts.Need-same-length-4 (list-calls t) (list-at t) list.Post
-list-same-length-4 t c = search needs
 
 list-returns-4 : (t : ℕ) → list-lts.Need-returns-4 (list-calls t) (list-at t) list.Post
 unfolding ReadsList
@@ -277,12 +235,6 @@ list-returns-4 t c = λ names holds k deep.
     last-way (list-asked t start) names holds k deep (list-child t child) (list-followed t behind) (c .moved2 .result) (list-no-comma t no-comma)
     (sym (c .before .before .next-is2 .ensures) ∙ c .before .if2 .taken)
     (c .moved2 .ensures)
-
-list-stray-requires : (t : ℕ) → list-lts.Need-stray-requires (list-calls t) (list-at t) list.Post
-list-stray-requires t c κs = search needs
-
-list-same-length-5 : (t : ℕ) → list-lts.Need-same-length-5 (list-calls t) (list-at t) list.Post
-list-same-length-5 t c = search needs
 
 list-returns-5 : (t : ℕ) → list-lts.Need-returns-5 (list-calls t) (list-at t) list.Post
 unfolding ReadsList
@@ -373,20 +325,8 @@ node-others t c = record {
   reads = c .before .before .list .ensures;
 }
 
-node-blanks-requires : (t : ℕ) → node-lts.Need-blanks-requires (node-calls t) (node-at t) node.Post
-node-blanks-requires t c κs = search needs
-
-node-next-name-requires : (t : ℕ) → node-lts.Need-next-name-requires (node-calls t) (node-at t) node.Post
-node-next-name-requires t c κs = search needs
-
-node-moved-requires : (t : ℕ) → node-lts.Need-moved-requires (node-calls t) (node-at t) node.Post
-node-moved-requires t c κs = search needs
-
 node-leaf-requires : (t : ℕ) → node-lts.Need-leaf-requires (node-calls t) (node-at t) node.Post
 node-leaf-requires t c κs = given-moved _ _ _ _ _ _ _ (c .before .moved .ensures) (c .before .before .before .before .before .before .before .before .pre .1)
-
-node-same-length : (t : ℕ) → node-lts.Need-same-length (node-calls t) (node-at t) node.Post
-node-same-length t c = search needs
 
 node-returns : (t : ℕ) → node-lts.Need-returns (node-calls t) (node-at t) node.Post
 unfolding ReadsNode
@@ -399,12 +339,6 @@ node-returns t c = λ names holds k deep.
     let blanks = c .before .before .before .before .before .before .before .blanks in
     leaf-way (node-asked t start) names holds (blanks .result) (blanks .ensures) k deep (moved .result) _ (leaf .result)
     (sym (next-name .ensures) ∙ if1 .taken) (moved .ensures) (leaf .ensures)
-
-node-next-is-requires : (t : ℕ) → node-lts.Need-next-is-requires (node-calls t) (node-at t) node.Post
-node-next-is-requires t c κs = search needs
-
-node-stray-requires : (t : ℕ) → node-lts.Need-stray-requires (node-calls t) (node-at t) node.Post
-node-stray-requires t c κs = search needs
 
 node-returns-2 : (t : ℕ) → node-lts.Need-returns-2 (node-calls t) (node-at t) node.Post
 unfolding ReadsNode
@@ -430,12 +364,6 @@ node-add-moved t c =
     let h = opening-inside (node-asked t start) (start .pre .1 .holds .0) (start .pre .1 .holds .1) (node-opening t c) in
     omega arith
 
-node-moved-requires-2 : (t : ℕ) → node-lts.Need-moved-requires-2 (node-calls t) (node-at t) node.Post
-node-moved-requires-2 t c κs = search needs
-
-node-sub-node : (t : ℕ) → node-lts.Need-sub-node (node-calls t) (node-at t) node.Post
-node-sub-node t c = search needs
-
 node-node-requires : (t : ℕ) → node-lts.Need-node-requires (node-calls t) (node-at t) node.Post
 node-node-requires t c κs =
     let start = c .before .before .before .before .before .before .before .before .before .before .before in
@@ -445,33 +373,12 @@ node-node-requires t c κs =
     let e = start .pre .0 in
     (omega arith, given-moved _ _ _ _ _ _ _ (c .before .moved2 .ensures) (start .pre .1))
 
-node-enum-known-first : (t : ℕ) → node-lts.Need-enum-known-first (node-calls t) (node-at t) node.Post
-node-enum-known-first t c = search needs
-
-node-enum-told : (t : ℕ) → node-lts.Need-enum-told (node-calls t) (node-at t) node.Post
-node-enum-told t c = search needs
-
-node-same-length-2 : (t : ℕ) → node-lts.Need-same-length-2 (node-calls t) (node-at t) node.Post
-node-same-length-2 t c = search needs
-
 node-returns-4 : (t : ℕ) → node-lts.Need-returns-4 (node-calls t) (node-at t) node.Post
 unfolding ReadsNode
 node-returns-4 t c = λ names holds k deep.
     let opened = c .before .before .before .before .before .before .before in
     let start = opened .before .before .before .before .before .before .before .before .before in
     first-refused-way (node-asked t start) names holds (node-opening t opened) k deep (node-first t (c .before .before)) _ (c .enum-told .given .1)
-
-node-blanks-requires-2 : (t : ℕ) → node-lts.Need-blanks-requires-2 (node-calls t) (node-at t) node.Post
-node-blanks-requires-2 t c κs = search needs
-
-node-next-is-requires-2 : (t : ℕ) → node-lts.Need-next-is-requires-2 (node-calls t) (node-at t) node.Post
-node-next-is-requires-2 t c κs = search needs
-
-node-no-comma-requires : (t : ℕ) → node-lts.Need-no-comma-requires (node-calls t) (node-at t) node.Post
-node-no-comma-requires t c κs = search needs
-
-node-same-length-3 : (t : ℕ) → node-lts.Need-same-length-3 (node-calls t) (node-at t) node.Post
-node-same-length-3 t c = search needs
 
 node-returns-5 : (t : ℕ) → node-lts.Need-returns-5 (node-calls t) (node-at t) node.Post
 unfolding ReadsNode
@@ -489,12 +396,6 @@ node-add-moved-2 t c =
     let start = behind .before .before .before .before .before .before .before .before .before .before .before .before .before .before .before .before .before .before in
     let h = next-is-inside (start .args .text .now) (behind .blanks2 .result) 44 (node-comma t c) in
     omega (arith, start .good .0 .0)
-
-node-moved-requires-3 : (t : ℕ) → node-lts.Need-moved-requires-3 (node-calls t) (node-at t) node.Post
-node-moved-requires-3 t c κs = search needs
-
-node-sub-list : (t : ℕ) → node-lts.Need-sub-list (node-calls t) (node-at t) node.Post
-node-sub-list t c = search needs
 
 node-list-requires : (t : ℕ) → node-lts.Need-list-requires (node-calls t) (node-at t) node.Post
 node-list-requires t c κs =
@@ -515,15 +416,6 @@ node-list-requires t c κs =
     let e = start .pre .0 in
     (omega arith, given-moved _ _ _ _ _ _ _ (c .before .moved3 .ensures) (more .given))
 
-node-enum-known-others : (t : ℕ) → node-lts.Need-enum-known-others (node-calls t) (node-at t) node.Post
-node-enum-known-others t c = search needs
-
-node-enum-told-2 : (t : ℕ) → node-lts.Need-enum-told-2 (node-calls t) (node-at t) node.Post
-node-enum-told-2 t c = search needs
-
-node-same-length-4 : (t : ℕ) → node-lts.Need-same-length-4 (node-calls t) (node-at t) node.Post
-node-same-length-4 t c = search needs
-
 node-returns-6 : (t : ℕ) → node-lts.Need-returns-6 (node-calls t) (node-at t) node.Post
 unfolding ReadsNode
 node-returns-6 t c = λ names holds k deep.
@@ -535,12 +427,6 @@ node-returns-6 t c = λ names holds k deep.
     others-refused-way (node-asked t start) names holds (node-opening t opened) k deep (node-first t first) (node-followed t behind) (node-comma t comma)
     (node-others t (c .before .before)) _
     (c .enum-told2 .given .1)
-
-node-closing-requires : (t : ℕ) → node-lts.Need-closing-requires (node-calls t) (node-at t) node.Post
-node-closing-requires t c κs = search needs
-
-node-union-requires : (t : ℕ) → node-lts.Need-union-requires (node-calls t) (node-at t) node.Post
-node-union-requires t c κs = search needs
 
 node-ended-requires : (t : ℕ) → node-lts.Need-ended-requires (node-calls t) (node-at t) node.Post
 node-ended-requires t c κs =
@@ -582,64 +468,64 @@ node-returns-7 t c = λ names holds k deep.
 pub +list+node-spec : {M : Type 1} → statement M
 +list+node-spec = close μ-list μ-node (λ t. list-lts.spec (list-calls t) (list-at t) list.Post
     (list-node-requires t)
-    (list-enum-known-first t)
-    (list-enum-told t)
-    (list-same-length t)
+    (λ c. search needs)
+    (λ c. search needs)
+    (λ c. search needs)
     (list-returns t)
-    (list-blanks-requires t)
-    (list-next-is-requires t)
+    (λ c κs. search needs)
+    (λ c κs. search needs)
     (list-add-moved t)
-    (list-moved-requires t)
+    (λ c κs. search needs)
     (list-list-requires t)
-    (list-enum-known-others t)
-    (list-enum-told-2 t)
-    (list-same-length-2 t)
+    (λ c. search needs)
+    (λ c. search needs)
+    (λ c. search needs)
     (list-returns-2 t)
-    (list-union-requires t)
-    (list-same-length-3 t)
+    (λ c κs. search needs)
+    (λ c. search needs)
     (list-returns-3 t)
-    (list-next-is-requires-2 t)
+    (λ c κs. search needs)
     (list-add-moved-2 t)
-    (list-moved-requires-2 t)
-    (list-same-length-4 t)
+    (λ c κs. search needs)
+    (λ c. search needs)
     (list-returns-4 t)
-    (list-stray-requires t)
-    (list-same-length-5 t)
+    (λ c κs. search needs)
+    (λ c. search needs)
     (list-returns-5 t))
     (λ t. node-lts.spec (node-calls t) (node-at t) node.Post
-    (node-blanks-requires t)
-    (node-next-name-requires t)
-    (node-moved-requires t)
+    (λ c κs. search needs)
+    (λ c κs. search needs)
+    (λ c κs. search needs)
     (node-leaf-requires t)
-    (node-same-length t)
+    (λ c. search needs)
     (node-returns t)
-    (node-next-is-requires t)
-    (node-stray-requires t)
+    (λ c κs. search needs)
+    (λ c κs. search needs)
     (node-returns-2 t)
     (node-returns-3 t)
     (node-add-moved t)
-    (node-moved-requires-2 t)
-    (node-sub-node t)
+    (λ c κs. search needs)
+    (λ c. search needs)
     (node-node-requires t)
-    (node-enum-known-first t)
-    (node-enum-told t)
-    (node-same-length-2 t)
+    (λ c. search needs)
+    (λ c. search needs)
+    (λ c. search needs)
     (node-returns-4 t)
-    (node-blanks-requires-2 t)
-    (node-next-is-requires-2 t)
-    (node-no-comma-requires t)
-    (node-same-length-3 t)
+    (λ c κs. search needs)
+    (λ c κs. search needs)
+    (λ c κs. search needs)
+    (λ c. search needs)
     (node-returns-5 t)
     (node-add-moved-2 t)
-    (node-moved-requires-3 t)
-    (node-sub-list t)
+    (λ c κs. search needs)
+    (λ c. search needs)
     (node-list-requires t)
-    (node-enum-known-others t)
-    (node-enum-told-2 t)
-    (node-same-length-4 t)
+    (λ c. search needs)
+    (λ c. search needs)
+    (λ c. search needs)
     (node-returns-6 t)
-    (node-closing-requires t)
-    (node-union-requires t)
+    (λ c κs. search needs)
+    (λ c κs. search needs)
     (node-ended-requires t)
     (node-same-length-5 t)
     (node-returns-7 t))
