@@ -86,7 +86,7 @@ module _ (n : ℕ) (genes : List ℕ) (count : ℕ) {bad : ℕ} (small : n ≤ 1
   checked-valid = none-bad n (recordsIn count genes) small (omega (arith, length-recordsIn count genes))
 
   pub checked-countable : AllCountable (recordsIn count genes)
-  checked-countable g m = record { species = whole n; valid = checked-valid g m; small = whole-small n small }
+  checked-countable g m = record { species = whole n; valid = checked-valid g m; small = whole-below-sixteen n small }
 
   pub checked-markable : AllMarkable (2 ^ n) (recordsIn count genes)
   checked-markable g m =
