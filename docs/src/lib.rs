@@ -1,4 +1,4 @@
-//! A straightforward version of the whole library, written from document 01 alone: what the proved one is compared with.
+//! A straightforward version of the whole library, written from document 01 and the requests of document 02 that have landed: what the proved one is compared with.
 pub mod cases;
 pub mod lineages;
 pub mod reader;

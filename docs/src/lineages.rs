@@ -2,22 +2,40 @@
 use crate::trees::{binary, clusters, valid, Record};
 use crate::{Refusal, GENES, SPECIES};
 
-/// How many clusters of the gene tree are maximal within a.
-pub fn k(gene: &Record, a: u16) -> usize {
-    let inside: Vec<u16> = clusters(gene).iter().copied().filter(|&x| x & a == x).collect();
-    inside.iter().filter(|&&x| !inside.iter().any(|&y| y != x && x & y == x)).count()
+/// The clusters that are maximal among those that pass the test.
+fn maximal(all: &[u16], test: impl Fn(u16) -> bool) -> Vec<u16> {
+    let passed: Vec<u16> = all.iter().copied().filter(|&x| test(x)).collect();
+    passed.iter().copied().filter(|&x| !passed.iter().any(|&y| y != x && x & y == x)).collect()
 }
 
-/// The same by one pass from the largest cluster down: one within a is maximal when nothing that was counted before holds it.
+/// Unresolved nodes counted as unknown (02, #101): how many nodes of the gene tree have a child whose cluster is maximal within a,
+/// or one where a holds all its species.
+pub fn k(gene: &Record, a: u16) -> usize {
+    let all = clusters(gene);
+    if all.iter().all(|&x| x & a == x) {
+        return 1;
+    }
+    let within = maximal(all, |x| x & a == x);
+    all.iter().filter(|&&p| maximal(all, |x| x != p && x & p == x).iter().any(|child| within.contains(child))).count()
+}
+
+/// The same by one pass from the smallest cluster up: one that is not within a is counted when it is the first to hold some species of a.
 pub fn k_by_pass(gene: &Record, a: u16) -> usize {
-    let (mut count, mut covered) = (0, 0);
-    for &x in clusters(gene).iter().rev() {
-        if x & a == x && x & covered == 0 {
-            count += 1;
-            covered |= x;
+    let (mut count, mut loose, mut all) = (0, a, true);
+    for &x in clusters(gene) {
+        if x & a != x {
+            all = false;
+            if x & loose != 0 {
+                count += 1;
+                loose &= !x;
+            }
         }
     }
-    count
+    if all {
+        1
+    } else {
+        count
+    }
 }
 
 pub fn weight_of(genes: &[Record], a: u16) -> usize {

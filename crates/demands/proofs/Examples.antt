@@ -66,10 +66,10 @@ examples =
     ∷ scored abcd ab-cd ab-c-d 1
     -- the same on `((a,c),(b,d));` | 2
     ∷ scored abcd ab-cd ac-bd 2
-    -- `(a,b,c,d);` on `((a,b),(c,d));` | 2
-    ∷ scored abcd star ab-cd 2
-    -- `(a,b,c,d);` on `(((a,b),c),d);` | 3
-    ∷ scored abcd star ab-c-d 3
+    -- `(a,b,c,d);` on `((a,b),(c,d));` | 0 (#101)
+    ∷ scored abcd star ab-cd 0
+    -- `(a,b,c,d);` on `(((a,b),c),d);` | 0 (#101)
+    ∷ scored abcd star ab-c-d 0
     -- `((a,b),c);` `((a,b),c);` `((a,c),b);`, all | 1, `((a,b),c);`
     ∷ searched abc (ab-c ∷ ab-c ∷ ac-b ∷ []) every 0 1 ab-c
     -- one of each three-species binary tree, all | 2, `(a,(b,c));`

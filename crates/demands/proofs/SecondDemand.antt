@@ -7,10 +7,11 @@ use mathlib.Core.List.{List, map}
 use native.Mathlib.Omega.{arith}
 use lib.ListN.{length, take}
 use Rattle.clusters.specs.Sets.{whole, within}
-use Rattle.trees.specs.Lists.{Among, keep, total}
+use Rattle.trees.specs.Lists.{Among, keep, some, total}
 use Rattle.trees.specs.Tree.{Tree, On, clusters}
-use Rattle.trees.specs.Drawn.{maximal}
-use Rattle.trees.specs.Records.{listed, recordOf, ValidOn, recordsIn}
+use Rattle.trees.specs.Drawn.{maximal, children}
+use Rattle.trees.specs.Valid.{every, among}
+use Rattle.trees.specs.Records.{listed, recordOf, ValidOn, GeneValid, BinaryOn, recordsIn}
 use Rattle.trees.proofs.Bounds.{whole-below-sixteen}
 use Rattle.trees.proofs.Nodes.{clusters-once}
 use Rattle.trees.proofs.Recorded.{among-record, record-among, record-same, valid-of-drawn}
@@ -29,8 +30,9 @@ use Rattle.writer.proofs.RosterNames.{good-names}
 use Rattle.texts.proofs.Lengths.{text-most}
 use Rattle.writer.proofs.Outcomes.{writes-once, writes-done}
 use Rattle.writer.proofs.RoundTrip.{write-read, reads-zero}
-use Rattle.weights.specs.Count.{kOf, extra, weight, score}
+use Rattle.weights.specs.Count.{kDrawn, kOf, oneOr, extra, weight, score}
 use Rattle.weights.specs.Lineages.{lineages}
+use Rattle.weights.proofs.Compared.{k-never-more, k-binary}
 use Rattle.lineages.specs.Promise.{Weighs, Scores}
 use Rattle.demands.specs.ReadAs.{SameClusters, ReadAs}
 use Rattle.demands.specs.Scorable.{Scorable}
@@ -134,10 +136,27 @@ one-form line text text′ start start′ t t′ rest rest′ q q′ out r r′ 
 
 -- ---- "The score of a species tree equals the sum, over its clusters and all gene trees, of the number of maximal gene clusters within that cluster, less one"
 
--- "the number of maximal gene clusters within that cluster": k counts those clusters of g within A that lie properly within no other such one
-pub maximal-within : (g : List ℕ) (a : ℕ) → kOf (listed g) a ≡ length (maximal (keep (λ (x : ℕ). within x a) (listed g)))
+-- "the number of maximal gene clusters within that cluster": k is their number where the gene tree is binary ("Binary counts stay", #101)
+pub maximal-within :
+    (n : ℕ) (g : List ℕ) (a : ℕ) → n ≤ 16 → GeneValid n g → BinaryOn (whole n) g
+    → kOf (listed g) a ≡ length (maximal (keep (λ (x : ℕ). within x a) (listed g)))
+unfolding kDrawn
+maximal-within n g a few v two = k-binary v (whole-below-sixteen n few) a two
+
+-- in any gene tree it is never more
+pub never-more-than-maximal :
+    (n : ℕ) (g : List ℕ) (a : ℕ) → n ≤ 16 → GeneValid n g → kOf (listed g) a ≤ length (maximal (keep (λ (x : ℕ). within x a) (listed g)))
+unfolding kDrawn
+never-more-than-maximal n g a few v = k-never-more v (whole-below-sixteen n few) a
+
+-- "count the gene tree's nodes with at least one child whose cluster is maximal within A, or one where A holds all its species" (#101)
+pub nodes-with-a-maximal-child :
+    (g : List ℕ) (a : ℕ)
+    → kOf (listed g) a
+    ≡ oneOr (every (λ (x : ℕ). within x a) (listed g))
+    (length (keep (λ (p : ℕ). some (λ (x : ℕ). among x (maximal (keep (λ (y : ℕ). within y a) (listed g)))) (children (listed g) p)) (listed g)))
 unfolding kOf
-maximal-within g a = refl
+nodes-with-a-maximal-child g a = refl
 
 -- the scoring call gives the sum, over the species tree's clusters A and the gene records g, of k - 1
 pub score-is-the-sum :

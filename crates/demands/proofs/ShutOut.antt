@@ -95,52 +95,52 @@ write-a r after w = (w .answer, w .bytes)
 -- cluster 3, `a` with `b`, weighs nothing in two trees that have it, and 1 where the second does not
 weigh-alike : (r : Reply) → Weighs 3 (ab-c ++ ab-c) 2 3 r → r ≡ record { number = 0; place = 0; value = 0 }
 unfolding ab-c Weighs weightTests clusterTest ones onesIn trailingZeros whole single union has within apart size lowest keep some insert sorted
-    recordOf properly maximal every among rising singlesFrom nested valid binary verdict lengthTest kOf extra total weight score pieces speciesTest
+    recordOf properly maximal every among rising singlesFrom nested valid binary verdict lengthTest kOf placed byLowest children extra total weight score pieces speciesTest
     countTest firstBad recordsTest
 weigh-alike r p = p
 
 weigh-unlike : (r : Reply) → Weighs 3 (ab-c ++ ac-b) 2 3 r → r ≡ record { number = 0; place = 0; value = 1 }
 unfolding ab-c ac-b Weighs weightTests clusterTest ones onesIn trailingZeros whole single union has within apart size lowest keep some insert sorted
-    recordOf properly maximal every among rising singlesFrom nested valid binary verdict lengthTest kOf extra total weight score pieces speciesTest
+    recordOf properly maximal every among rising singlesFrom nested valid binary verdict lengthTest kOf placed byLowest children extra total weight score pieces speciesTest
     countTest firstBad recordsTest
 weigh-unlike r p = p
 
 -- and so for the score of `((a,b),c);`
 score-alike : (r : Reply) → Scores 3 (ab-c ++ ab-c) 2 ab-c r → r ≡ record { number = 0; place = 0; value = 0 }
 unfolding ab-c Scores scoreTests speciesRecordTest ones onesIn trailingZeros whole single union has within apart size lowest keep some insert sorted
-    recordOf properly maximal every among rising singlesFrom nested valid binary verdict lengthTest kOf extra total weight score pieces speciesTest
+    recordOf properly maximal every among rising singlesFrom nested valid binary verdict lengthTest kOf placed byLowest children extra total weight score pieces speciesTest
     countTest firstBad recordsTest
 score-alike r p = p
 
 score-unlike : (r : Reply) → Scores 3 (ab-c ++ ac-b) 2 ab-c r → r ≡ record { number = 0; place = 0; value = 1 }
 unfolding ab-c ac-b Scores scoreTests speciesRecordTest ones onesIn trailingZeros whole single union has within apart size lowest keep some insert
-    sorted recordOf properly maximal every among rising singlesFrom nested valid binary verdict lengthTest kOf extra total weight score pieces
+    sorted recordOf properly maximal every among rising singlesFrom nested valid binary verdict lengthTest kOf placed byLowest children extra total weight score pieces
     speciesTest countTest firstBad recordsTest
 score-unlike r p = p
 
 mark-one : (r : Reply) (after : List ℕ) → Marks 1 a-record 1 room r after → (r ≡ record { number = 0; place = 0; value = 0 }) × (after ≡ 0 ∷ 1 ∷ [])
 unfolding a-record room markTests shown marks upTo ones onesIn trailingZeros whole single union has within apart size lowest keep some insert sorted
-    recordOf properly maximal every among rising singlesFrom nested valid binary verdict lengthTest kOf extra total weight score pieces speciesTest
+    recordOf properly maximal every among rising singlesFrom nested valid binary verdict lengthTest kOf placed byLowest children extra total weight score pieces speciesTest
     countTest firstBad recordsTest
 mark-one r after p = (p .reply, p .bytes)
 
 find-ab-c : (r : Found) (s p : List ℕ) → Finds 3 ab-c 1 every-cluster lent lent r s p → r ≡ record { number = 0; place = 0; score = 0; numbers = ab-c }
 unfolding ab-c every-cluster lent ones onesIn trailingZeros whole single union has within apart size lowest keep some insert sorted recordOf properly
-    maximal every among rising singlesFrom nested valid binary verdict lengthTest kOf extra total weight score pieces speciesTest countTest firstBad
+    maximal every among rising singlesFrom nested valid binary verdict lengthTest kOf placed byLowest children extra total weight score pieces speciesTest countTest firstBad
     recordsTest shown marks upTo least clustersIn isLow lows each forks treesTo treesOn those all scoreOf treesOver leastTrees best allowedIn
     firstStrange allowedTest searchTests bestFor
 find-ab-c r s p f = f .reply
 
 find-ac-b : (r : Found) (s p : List ℕ) → Finds 3 ac-b 1 every-cluster lent lent r s p → r ≡ record { number = 0; place = 0; score = 0; numbers = ac-b }
 unfolding ac-b every-cluster lent ones onesIn trailingZeros whole single union has within apart size lowest keep some insert sorted recordOf properly
-    maximal every among rising singlesFrom nested valid binary verdict lengthTest kOf extra total weight score pieces speciesTest countTest firstBad
+    maximal every among rising singlesFrom nested valid binary verdict lengthTest kOf placed byLowest children extra total weight score pieces speciesTest countTest firstBad
     recordsTest shown marks upTo least clustersIn isLow lows each forks treesTo treesOn those all scoreOf treesOver leastTrees best allowedIn
     firstStrange allowedTest searchTests bestFor
 find-ac-b r s p f = f .reply
 
 find-both : (r : Found) (s p : List ℕ) → Finds 3 (ab-c ++ ac-b) 2 every-cluster lent lent r s p → r ≡ record { number = 0; place = 0; score = 1; numbers = ab-c }
 unfolding ab-c ac-b every-cluster lent ones onesIn trailingZeros whole single union has within apart size lowest keep some insert sorted recordOf
-    properly maximal every among rising singlesFrom nested valid binary verdict lengthTest kOf extra total weight score pieces speciesTest countTest
+    properly maximal every among rising singlesFrom nested valid binary verdict lengthTest kOf placed byLowest children extra total weight score pieces speciesTest countTest
     firstBad recordsTest shown marks upTo least clustersIn isLow lows each forks treesTo treesOn those all scoreOf treesOver leastTrees best allowedIn
     firstStrange allowedTest searchTests bestFor
 find-both r s p f = f .reply
@@ -149,7 +149,7 @@ find-tables :
     (r : Found) (s p : List ℕ) → Finds 3 ab-c 1 every-cluster lent lent r s p
     → (s ≡ noTree ∷ 0 ∷ 0 ∷ 0 ∷ 0 ∷ 1 ∷ 1 ∷ 0 ∷ []) × (p ≡ 0 ∷ 0 ∷ 0 ∷ 1 ∷ 0 ∷ 1 ∷ 2 ∷ 3 ∷ [])
 unfolding ab-c every-cluster lent ones onesIn trailingZeros whole single union has within apart size lowest keep some insert sorted recordOf properly
-    maximal every among rising singlesFrom nested valid binary verdict lengthTest kOf extra total weight score pieces speciesTest countTest firstBad
+    maximal every among rising singlesFrom nested valid binary verdict lengthTest kOf placed byLowest children extra total weight score pieces speciesTest countTest firstBad
     recordsTest shown marks upTo least clustersIn isLow lows each forks treesTo treesOn those all scoreOf treesOver leastTrees best allowedIn
     firstStrange allowedTest searchTests bestFor
 find-tables r s p f = (f .scoreTable, f .splitTable)

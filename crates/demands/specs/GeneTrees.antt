@@ -13,6 +13,6 @@ pub record RecordsOf (n : ℕ) (genes : List (List ℕ)) (trees : List Tree) : T
   pub records : genes ≡ map (λ (t : Tree). recordOf (clusters t)) trees
   pub on : (t : Tree) → List·Memᴰ t trees → On (whole n) t
 
--- "the sum, over its clusters and all gene trees, of the number of maximal gene clusters within that cluster, less one"
+-- "the sum, over its clusters and all gene trees", of k, "less one": k is the count of #101, over the clusters of the tree as drawn
 unfoldable pub scoreOver : List Tree → List ℕ → ℕ
 scoreOver trees species = total (map (λ (a : ℕ). total (map (λ (t : Tree). kOf (clusters t) a - 1) trees)) (listed species))

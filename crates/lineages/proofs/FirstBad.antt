@@ -16,7 +16,6 @@ use Rattle.trees.proofs.ValidTest.{valid-decides}
 use Rattle.lineages.specs.Checks.{firstBad}
 use Rattle.weights.specs.Work.{AllCountable, AllMarkable}
 use Rattle.trees.proofs.Lent.{length-recordsIn, recordsFrom, records-from-first, records-next, records-from-last}
-use Rattle.weights.proofs.Checked.{valid-countable}
 
 first-bad-none : (n : ℕ) → firstBad n [] ≡ 0
 unfolding firstBad
@@ -87,7 +86,7 @@ module _ (n : ℕ) (genes : List ℕ) (count : ℕ) {bad : ℕ} (small : n ≤ 1
   checked-valid = none-bad n (recordsIn count genes) small (omega (arith, length-recordsIn count genes))
 
   pub checked-countable : AllCountable (recordsIn count genes)
-  checked-countable g m = valid-countable (checked-valid g m)
+  checked-countable g m = record { species = whole n; valid = checked-valid g m; small = whole-below-sixteen n small }
 
   pub checked-markable : AllMarkable (2 ^ n) (recordsIn count genes)
   checked-markable g m =

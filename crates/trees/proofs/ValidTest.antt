@@ -70,7 +70,7 @@ tells-leb a b = record { holds = leb-true a b; told = le-leb a b }
 tells-ltb : (a b : ℕ) → Tells (ltb a b) (a < b)
 tells-ltb a b = record { holds = ltb-true a b; told = lt-ltb a b }
 
-tells-within : (a b : ℕ) → Tells (within a b) (Within a b)
+pub tells-within : (a b : ℕ) → Tells (within a b) (Within a b)
 tells-within a b = record { holds = within-true a b; told = true-within a b }
 
 tells-apart : (a b : ℕ) → Tells (apart a b) (Apart a b)
@@ -82,7 +82,7 @@ tells-has a i = tells-eqb (a / 2 ^ i % 2) 1
 
 -- ---- the tests of lists
 
-tells-every : {P : ℕ → Type 0} (test : ℕ → Bool) (l : List ℕ) → ((x : ℕ) → Tells (test x) (P x)) → Tells (every test l) ((x : ℕ) → Among x l → P x)
+pub tells-every : {P : ℕ → Type 0} (test : ℕ → Bool) (l : List ℕ) → ((x : ℕ) → Tells (test x) (P x)) → Tells (every test l) ((x : ℕ) → Among x l → P x)
 unfolding every
 tells-every test [] d = record { holds = λ e x h. absurd (List·Memᴰ·not-nil h); told = λ f. refl }
 tells-every {P} test (y ∷ l) d = tells-also join (λ f. (f y (here refl), λ x h. f x (there h))) (tells-and (d y) (tells-every test l d))

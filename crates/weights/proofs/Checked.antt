@@ -1,23 +1,19 @@
--- What follows for gene records that were checked: they can be counted for every cluster, and marked.
+-- What follows for gene records that were checked: where their clusters stand, and how many extra lineages they have.
 use Prim.Native.Nat.{ℕ, suc, _+_, _-_, _≤_, _<_}
 use mathlib.Core.Path.{_≡_, ap, ap₂, _∙_}
-use mathlib.Core.Bool.{Bool, true, false, not}
 use mathlib.Core.List.{List, [], _∷_}
 use native.Mathlib.Omega.{arith}
 use lib.ListN.{length, take, drop, getD, length-take, length-drop, drop-of-length-le}
-use lib.Seq.{take-all, drop-cons, getD-take, getD-drop}
-use Rattle.clusters.specs.Sets.{within}
-use Rattle.trees.specs.Lists.{Among, keepIf, keep, some}
-use Rattle.trees.specs.Records.{count, listed, Form, ValidOn}
+use lib.Seq.{drop-cons, getD-take, getD-drop}
+use Rattle.clusters.proofs.Sizes.{size-le}
+use Rattle.trees.specs.Lists.{Among}
+use Rattle.trees.specs.Records.{count, listed, Form}
 use Rattle.trees.proofs.Places.{place-among}
-use Rattle.trees.specs.Drawn.{properly, maximal}
-use Rattle.weights.specs.Count.{kOf, extra}
-use Rattle.weights.specs.Work.{CountableIn, Countable}
+use Rattle.weights.specs.Count.{extra}
+use Rattle.weights.specs.Work.{Countable}
+use Rattle.weights.proofs.Bounds.{extra-lt-all}
 
--- ---- a record and the part behind its first number
-
-pub behind-first : (g : List ℕ) → take (length g - 1) (drop 1 g) ≡ drop 1 g
-behind-first g = take-all (length g - 1) (drop 1 g) (omega (arith, length-drop 1 g))
+-- ---- where the clusters of a record stand
 
 pub listed-fits : {g : List ℕ} → Form g → count g ≤ length (drop 1 g)
 listed-fits {g} f = let l = f .thirty-two in let k = f .counted in omega (arith, length-drop 1 g)
@@ -46,32 +42,8 @@ listed-at {g} i f one last = place-among g (count g) (f .thirty-two) (f .counted
 pub listed-none : {g : List ℕ} (i : ℕ) → Form g → count g < i → drop (i - 1) (listed g) ≡ []
 listed-none {g} i f past = drop-of-length-le (listed g) {i = i - 1} (omega (arith, length-take (count g) (drop 1 g)))
 
--- ---- records that can be counted
-
-pub countable-in : {g : List ℕ} (a : ℕ) → Countable g → CountableIn a (listed g)
-countable-in a can = record { rising = can .form .rising; some = can .some; nested = λ x y h k v w. can .nested x y h k }
-
-pub valid-countable : {s : ℕ} {g : List ℕ} → ValidOn s g → Countable g
-valid-countable v = record { form = v .form; some = λ x h. v .inside x h .0; nested = v .nested }
-
 -- ---- bounds
 
-length-keep : (test : ℕ → Bool) (l : List ℕ) → length (keep test l) ≤ length l
-unfolding keep
-length-keep test [] = omega arith
-length-keep test (x ∷ l) = go (test x) (length-keep test l)
-  where
-    go : (b : Bool) → length (keep test l) ≤ length l → length (keepIf b x (keep test l)) ≤ suc (length l)
-    go true h = omega arith
-    go false h = omega arith
-
-pub k-le-length : (cs : List ℕ) (a : ℕ) → kOf cs a ≤ length cs
-unfolding kOf maximal
-k-le-length cs a =
-    let inner : List ℕ = keep (λ x. within x a) cs in
-    omega (arith, length-keep (λ x. not (some (λ y. properly x y) inner)) inner, length-keep (λ x. within x a) cs)
-
--- a record has at most 31 clusters, so at most 31 extra lineages
-pub extra-le : {g : List ℕ} (a : ℕ) → Countable g → extra g a ≤ 31
-unfolding extra
-extra-le {g} a can = let few = can .form .counted in omega (arith, k-le-length (listed g) a, length-take (count g) (drop 1 g))
+-- a gene tree has at most 16 species, so at most 15 extra lineages
+pub extra-le : {g : List ℕ} (a : ℕ) → Countable g → extra g a ≤ 15
+extra-le {g} a can = omega (arith, extra-lt-all (can .valid) (can .small) a, size-le 16 (can .small))

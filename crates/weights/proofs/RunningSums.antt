@@ -39,14 +39,14 @@ module _ {genes : List ℕ} {count a sum i : ℕ} (now : WeighedTo genes count a
       let none : weight (recordsFrom (i - 1) count genes) a ≡ 0 = rw (all, records-from-last) (weight-none a) in
       omega (arith, now .left)
 
--- no weight passes 31 times the gene trees
-pub weight-small : {count : ℕ} (genes : List ℕ) (a : ℕ) → count ≤ 4096 → AllCountable (recordsIn count genes) → weight (recordsIn count genes) a ≤ 126976
+-- no weight passes 15 times the gene trees
+pub weight-small : {count : ℕ} (genes : List ℕ) (a : ℕ) → count ≤ 4096 → AllCountable (recordsIn count genes) → weight (recordsIn count genes) a ≤ 61440
 weight-small {count} genes a few can =
-    omega (arith, weight-le 31 (recordsIn count genes) a (λ g m. extra-le a (can g m)), length-recordsIn count genes)
+    omega (arith, weight-le 15 (recordsIn count genes) a (λ g m. extra-le a (can g m)), length-recordsIn count genes)
 
 pub weighed-fits :
     {genes : List ℕ} {count a sum i e : ℕ} → WeighedTo genes count a sum i → count ≤ 4096 → AllCountable (recordsIn count genes) → i ≤ count
-    → e ≡ extra (take 32 (drop (32 * (i - 1)) genes)) a → sum + e ≤ 126976
+    → e ≡ extra (take 32 (drop (32 * (i - 1)) genes)) a → sum + e ≤ 61440
 weighed-fits {genes} {count} {a} {sum} {i} {e} now few can l read =
     omega (arith, now .left, weighed-one now l, weight-small genes a few can)
 
@@ -75,13 +75,13 @@ module _ {genes : List (List ℕ)} {species : List ℕ} {sum i : ℕ} (now : Sco
 -- no score passes 31 times the largest weight
 pub score-small :
     {count : ℕ} (genes : List ℕ) {species : List ℕ} → count ≤ 4096 → AllCountable (recordsIn count genes) → Form species
-    → score (recordsIn count genes) species ≤ 3936256
+    → score (recordsIn count genes) species ≤ 1904640
 score-small {count} genes {species} few can form =
-    let b = weights-le 126976 (recordsIn count genes) (listed species) (λ a. weight-small genes a few can) in
+    let b = weights-le 61440 (recordsIn count genes) (listed species) (λ a. weight-small genes a few can) in
     let c = form .counted in
     omega (arith, score-weights (recordsIn count genes) species, length-take (countOf species) (drop 1 species))
 
 pub scored-fits :
     {count sum i w : ℕ} (genes : List ℕ) {species : List ℕ} → ScoredTo (recordsIn count genes) species sum i → count ≤ 4096
-    → AllCountable (recordsIn count genes) → Form species → i ≤ countOf species → w ≡ weight (recordsIn count genes) (getD species i 0) → sum + w ≤ 3936256
+    → AllCountable (recordsIn count genes) → Form species → i ≤ countOf species → w ≡ weight (recordsIn count genes) (getD species i 0) → sum + w ≤ 1904640
 scored-fits genes now few can form l read = omega (arith, now .left, scored-one now form l, score-small genes few can form)

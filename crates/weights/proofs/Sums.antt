@@ -10,6 +10,7 @@ use Rattle.clusters.proofs.Members.{whole-has}
 use Rattle.clusters.proofs.Sizes.{size-whole}
 use Rattle.trees.specs.Records.{count, listed, SpeciesValid, AllValid}
 use Rattle.trees.specs.Lists.{total}
+use Rattle.trees.proofs.Bounds.{whole-below-sixteen}
 use Rattle.weights.specs.Count.{extra, weight, score}
 use Rattle.weights.proofs.Bounds.{extra-of-single, extra-of-whole, extra-lt-all}
 
@@ -109,11 +110,12 @@ weight-of-nothing [] a f = weight-none a
 weight-of-nothing (g ∷ l) a f = omega (arith, weight-cons g l a, f g (here refl), weight-of-nothing l a (λ h m. f h (there m)))
 
 -- "single species and the whole set weigh 0"
-pub singles-weigh-nothing : (n i : ℕ) (genes : List (List ℕ)) → i < n → AllValid n genes → weight genes (single i) ≡ 0
-singles-weigh-nothing n i genes l v = weight-of-nothing genes (single i) (λ g m. extra-of-single (v g m) i (whole-has n i l))
+pub singles-weigh-nothing : (n i : ℕ) (genes : List (List ℕ)) → n ≤ 16 → i < n → AllValid n genes → weight genes (single i) ≡ 0
+singles-weigh-nothing n i genes few l v =
+    weight-of-nothing genes (single i) (λ g m. extra-of-single (v g m) (whole-below-sixteen n few) i (whole-has n i l))
 
-pub whole-weighs-nothing : (n : ℕ) (genes : List (List ℕ)) → AllValid n genes → weight genes (whole n) ≡ 0
-whole-weighs-nothing n genes v = weight-of-nothing genes (whole n) (λ g m. extra-of-whole (v g m))
+pub whole-weighs-nothing : (n : ℕ) (genes : List (List ℕ)) → n ≤ 16 → AllValid n genes → weight genes (whole n) ≡ 0
+whole-weighs-nothing n genes few v = weight-of-nothing genes (whole n) (λ g m. extra-of-whole (v g m) (whole-below-sixteen n few))
 
 -- ---- bounds
 
@@ -128,7 +130,7 @@ weights-le b genes (a ∷ cs) f = omega (arith, weights-cons genes a cs, f a, we
 
 -- a gene tree adds at most 15 to a weight
 pub weight-bound : {n : ℕ} (genes : List (List ℕ)) (a : ℕ) → n ≤ 16 → AllValid n genes → weight genes a ≤ 15 * length genes
-weight-bound {n} genes a l v = weight-le 15 genes a (λ g m. omega (arith, extra-lt-all (v g m) a, size-whole n))
+weight-bound {n} genes a l v = weight-le 15 genes a (λ g m. omega (arith, extra-lt-all (v g m) (whole-below-sixteen n l) a, size-whole n))
 
 -- inside the limits a score is at most 31 times 61,440
 pub score-bound :

@@ -1,4 +1,4 @@
--- The maximal clusters within A: which they are, and that k is their number whatever list shows them.
+-- The maximal clusters within A: which they are, and that 01's count is their number whatever list shows them.
 use Prim.Native.Nat.{ℕ}
 use mathlib.Core.Path.{_≡_, refl, sym, ap, _∙_}
 use mathlib.Core.Bool.{Bool, true, false, not, true≢false}
@@ -13,7 +13,7 @@ use Rattle.trees.specs.Drawn.{properly, maximal}
 use Rattle.trees.proofs.Listing.{keep-among, among-keep, some-of, of-some, none-twice-keep}
 use Rattle.trees.proofs.Order.{among-sorted, sorted-among, length-sorted, rising-sorted, sorted-same}
 use Rattle.trees.proofs.Children.{properly-true, true-properly}
-use Rattle.weights.specs.Count.{kOf}
+use Rattle.weights.specs.Count.{maximalWithin, kDrawn}
 
 -- ---- lists that hold no number twice
 
@@ -35,15 +35,12 @@ pub record Top (cs : List ℕ) (a x : ℕ) : Type 0 where
 inner : List ℕ → ℕ → List ℕ
 inner cs a = keep (λ x. within x a) cs
 
-unfoldable pub tops : List ℕ → ℕ → List ℕ
-tops cs a = maximal (keep (λ x. within x a) cs)
-
-pub k-tops : (cs : List ℕ) (a : ℕ) → kOf cs a ≡ length (tops cs a)
-unfolding kOf tops
+pub k-tops : (cs : List ℕ) (a : ℕ) → kDrawn cs a ≡ length (maximalWithin cs a)
+unfolding kDrawn
 k-tops cs a = refl
 
-pub k-none : (a : ℕ) → kOf [] a ≡ 0
-unfolding kOf maximal keep some
+pub k-none : (a : ℕ) → kDrawn [] a ≡ 0
+unfolding kDrawn maximalWithin maximal keep some
 k-none a = refl
 
 among-inner : {x : ℕ} (cs : List ℕ) (a : ℕ) → Among x (inner cs a) → Among x cs × Within x a
@@ -79,20 +76,20 @@ none-of-top {x} cs a t = go (some (λ y. properly x y) (inner cs a)) refl
         absurd (p .1 (t .greatest (y .0) (k .0) (k .1) (p .0)))
     go false e = refl
 
-pub among-tops : {x : ℕ} (cs : List ℕ) (a : ℕ) → Among x (tops cs a) → Top cs a x
-unfolding tops maximal inner
+pub among-tops : {x : ℕ} (cs : List ℕ) (a : ℕ) → Among x (maximalWithin cs a) → Top cs a x
+unfolding maximalWithin maximal inner
 among-tops {x} cs a h =
     let k = among-keep (λ x. not (some (λ y. properly x y) (inner cs a))) (inner cs a) h in
     top-of-none cs a (k .0) (not-true (some (λ y. properly x y) (inner cs a)) (k .1))
 
-pub tops-among : {x : ℕ} (cs : List ℕ) (a : ℕ) → Top cs a x → Among x (tops cs a)
-unfolding tops maximal inner
+pub tops-among : {x : ℕ} (cs : List ℕ) (a : ℕ) → Top cs a x → Among x (maximalWithin cs a)
+unfolding maximalWithin maximal inner
 tops-among {x} cs a t =
     keep-among (λ x. not (some (λ y. properly x y) (inner cs a))) (inner cs a) (inner-among cs a (t .among) (t .inside))
     (ap not (none-of-top cs a t))
 
-pub tops-once : (cs : List ℕ) (a : ℕ) → NoneTwice cs → NoneTwice (tops cs a)
-unfolding tops maximal inner
+pub tops-once : (cs : List ℕ) (a : ℕ) → NoneTwice cs → NoneTwice (maximalWithin cs a)
+unfolding maximalWithin maximal inner
 tops-once cs a p =
     none-twice-keep (λ x. not (some (λ y. properly x y) (inner cs a))) (inner cs a) (none-twice-keep (λ x. within x a) cs p)
 
@@ -101,17 +98,17 @@ tops-once cs a p =
 -- k is the length of any list that holds exactly the maximal clusters within A, each once
 pub k-counts :
     (cs : List ℕ) (a : ℕ) (l : List ℕ) → NoneTwice cs → NoneTwice l → ((x : ℕ) → Top cs a x → Among x l) → ((x : ℕ) → Among x l → Top cs a x)
-    → kOf cs a ≡ length l
+    → kDrawn cs a ≡ length l
 k-counts cs a l p q f g =
-    k-tops cs a ∙ same-length (tops cs a) l (tops-once cs a p) q (λ x h. f x (among-tops cs a h)) (λ x h. tops-among cs a (g x h))
+    k-tops cs a ∙ same-length (maximalWithin cs a) l (tops-once cs a p) q (λ x h. f x (among-tops cs a h)) (λ x h. tops-among cs a (g x h))
 
 -- what a list with the same clusters has maximal within A
 pub top-also : {a x : ℕ} {cs ds : List ℕ} → (Among x cs → Among x ds) → ((y : ℕ) → Among y ds → Within y a → Among y cs) → Top cs a x → Top ds a x
 top-also f g t = record { among = f (t .among); inside = t .inside; greatest = λ y m w v. t .greatest y (g y m w) w v }
 
 -- the order of the clusters does not matter
-pub k-same : (cs ds : List ℕ) (a : ℕ) → NoneTwice cs → NoneTwice ds → ((x : ℕ) → Among x cs → Among x ds) → ((x : ℕ) → Among x ds → Among x cs) → kOf cs a ≡ kOf ds a
+pub k-same : (cs ds : List ℕ) (a : ℕ) → NoneTwice cs → NoneTwice ds → ((x : ℕ) → Among x cs → Among x ds) → ((x : ℕ) → Among x ds → Among x cs) → kDrawn cs a ≡ kDrawn ds a
 k-same cs ds a p q f g =
-    k-counts cs a (tops ds a) p (tops-once ds a q) (λ x t. tops-among ds a (top-also (f x) (λ y m w. g y m) t))
+    k-counts cs a (maximalWithin ds a) p (tops-once ds a q) (λ x t. tops-among ds a (top-also (f x) (λ y m w. g y m) t))
     (λ x h. top-also (g x) (λ y m w. f y m) (among-tops ds a h))
     ∙ sym (k-tops ds a)

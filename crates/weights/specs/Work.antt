@@ -1,23 +1,16 @@
 -- What counting and marking ask of gene records, and the bytes while they are marked.
-use Prim.Native.Nat.{ℕ, _≤_, _<_}
+use Prim.Native.Nat.{ℕ, _^_, _<_}
 use mathlib.Core.List.{List, [], _∷_, map, List·Memᴰ}
 use lib.ListN.{set}
-use Rattle.clusters.specs.Sets.{Within}
-use Rattle.trees.specs.Lists.{Among, Rising, upTo}
-use Rattle.trees.specs.Records.{listed, Form, Nested}
+use Rattle.trees.specs.Lists.{Among, upTo}
+use Rattle.trees.specs.Records.{listed, Form, ValidOn}
 use Rattle.weights.specs.Marks.{shown, flag}
 
--- clusters that can be counted for A: rising, each with a species, and any two within A disjoint or nested
-pub record CountableIn (a : ℕ) (cs : List ℕ) : Type 0 where
-  pub rising : Rising cs
-  pub some : (x : ℕ) → Among x cs → 1 ≤ x
-  pub nested : (x y : ℕ) → Among x cs → Among y cs → Within x a → Within y a → Nested x y
-
--- a gene record that can be counted for every A: what a valid one is, whatever its species
+-- a gene record that can be counted: the valid record of a tree on some set of species
 pub record Countable (g : List ℕ) : Type 0 where
-  pub form : Form g
-  pub some : (x : ℕ) → Among x (listed g) → 1 ≤ x
-  pub nested : (x y : ℕ) → Among x (listed g) → Among y (listed g) → Nested x y
+  pub species : ℕ
+  pub valid : ValidOn species g
+  pub small : species < 2 ^ 16
 
 -- every gene record can be counted
 abbrev pub AllCountable : List (List ℕ) → Type 0

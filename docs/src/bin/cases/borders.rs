@@ -11,6 +11,7 @@ pub fn borders(c: &mut Cases) {
     count_borders(c);
     search_borders(c);
     program_borders(c);
+    unresolved_borders(c);
 }
 
 fn roster_borders(c: &mut Cases) {
@@ -163,6 +164,20 @@ fn count_borders(c: &mut Cases) {
     c.weight(4, &two, 2, 6);
     c.mark(4, &[crossed, star].concat(), 2, 16);
     c.mark(1, &record(&[1]), 1, 2);
+}
+
+/// Unresolved nodes (#101): every cluster of a star, of a node of three beside two leaves, and of two unresolved nodes below one.
+fn unresolved_borders(c: &mut Cases) {
+    let star = record(&[1, 2, 4, 8, 15]);
+    let beside = record(&[1, 2, 4, 7, 8, 16, 31]);
+    let below = record(&[1, 2, 4, 7, 8, 16, 32, 56, 63]);
+    for (n, gene) in [(4, star), (5, beside), (6, below)] {
+        for cluster in 1..1usize << n {
+            c.weight(n, &gene, 1, cluster);
+        }
+        c.weight(n, &[gene; 3].concat(), 3, (1 << n) - 2);
+        c.search(n, &[gene; 2].concat(), 2, &vec![1; 1 << n], 1 << n, 1 << n);
+    }
 }
 
 fn search_borders(c: &mut Cases) {

@@ -16,6 +16,7 @@ pub fn drawn(c: &mut Cases, s: &mut Seeded) {
     }
     (0..150).for_each(|_| input(c, s));
     full_inputs(c, s);
+    (0..150).for_each(|_| unresolved(c, s));
 }
 
 fn roster(c: &mut Cases, s: &mut Seeded) {
@@ -74,6 +75,16 @@ fn counts(c: &mut Cases, s: &mut Seeded) {
     if n <= 10 {
         c.mark(n, &genes, count, (1 << n) + 3);
     }
+}
+
+/// Unresolved gene trees (#101): the weight of a cluster, and the score of a species tree.
+fn unresolved(c: &mut Cases, s: &mut Seeded) {
+    let n = 3 + s.below(14);
+    let count = 1 + s.below(3);
+    let genes: Vec<u16> = (0..count).flat_map(|_| s.gene(n, false)).collect();
+    let cluster = 1 + s.below((1 << n) - 1);
+    c.weight(n, &genes, count, cluster);
+    c.score(n, &genes, count, &s.gene(n, true));
 }
 
 fn search(c: &mut Cases, s: &mut Seeded) {
