@@ -15,3 +15,4 @@ pub mod Solved
 pub mod Signed
 pub mod Taken
 pub mod Locality
+pub mod Lots

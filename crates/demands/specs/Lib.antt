@@ -7,3 +7,4 @@ pub mod Input
 pub mod Signed
 pub mod ReadAs
 pub mod Scorable
+pub mod Lots
