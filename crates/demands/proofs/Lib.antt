@@ -16,3 +16,4 @@ pub mod Signed
 pub mod Taken
 pub mod Locality
 pub mod Lots
+pub mod LotsExample
