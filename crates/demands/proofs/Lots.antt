@@ -18,7 +18,7 @@ use Rattle.search.proofs.Demand.Replied.{answered, nothing as none-there}
 use Rattle.search.proofs.Lots.{AddedUp, some-member, least-exactly, sum-le-whole, sum-reached-exactly, least-shared-exactly, score-of-lots, reply-is-least}
 use Rattle.search.proofs.Lots.{competes-too, zeros-and-ones-too}
 use Rattle.search.proofs.Unread.{first-bytes-same}
-use Rattle.demands.specs.Lots.{Searched, records, Lent, InAnyOrder, LotsOf, Passed, LeastIn, LeastInEach, sumOfLeast}
+use Rattle.demands.specs.Lots.{Searched, records, InAnyOrder, LotsOf, Passed, LeastIn, LeastInEach, sumOfLeast}
 use Rattle.demands.specs.Lots.InAnyOrder.{nothing, put}
 
 -- ---- in any order

@@ -4,7 +4,7 @@ use mathlib.Core.Path.{_≡_, refl, ap, _∙_}
 use mathlib.Core.List.{List, [], _∷_, _++_}
 use native.Mathlib.Omega.{arith}
 use lib.Count.{ones, onesIn, trailingZeros}
-use lib.ListN.{length, take, drop, replicate, length-append}
+use lib.ListN.{length, take, replicate, length-append}
 use lib.Seq.{take-at, drop-at, take-all}
 use Rattle.clusters.specs.Sets.{whole, single, union, has, within, apart, size, lowest}
 use Rattle.trees.specs.Drawn.{properly, maximal, placed, byLowest, children}
@@ -21,7 +21,7 @@ use Rattle.tables.specs.Allowed.{allowedIn}
 use Rattle.solver.specs.Best.{bestFor, foundBy}
 use Rattle.solver.specs.declared.Found.{Found}
 use Rattle.search.specs.Promise.{firstStrange, allowedTest, searchTests, foundOr, Finds}
-use Rattle.demands.specs.Lots.{Searched, records, Lent, InAnyOrder, LotsOf, LeastIn}
+use Rattle.demands.specs.Lots.{Searched, Lent, LotsOf, LeastIn}
 use Rattle.demands.specs.Lots.InAnyOrder.{nothing, put}
 use Rattle.demands.proofs.Lots.{of-both, equal-exactly-when-least-for-both}
 
@@ -90,10 +90,15 @@ call {genes} {count} {allowed} {r} {s} {p} f = record {
   finds = f;
 }
 
--- its reply is what the promise says
+-- its reply is what the promise says: of a tree, its number and score
 replied-so : {genes : List ℕ} {count : ℕ} {allowed : List ℕ} {r : Found} {s p : List ℕ} → Finds 3 genes count allowed lent lent r s p → r ≡ replyTo genes count allowed
 unfolding replyTo
 replied-so f = f .reply
+
+scored :
+    {genes : List ℕ} {count : ℕ} {allowed : List ℕ} {r : Found} {s p : List ℕ} {m : ℕ} {c : List ℕ} → Finds 3 genes count allowed lent lent r s p
+    → replyTo genes count allowed ≡ tree m c → (r .number ≡ 0) × (r .score ≡ m)
+scored f e = let told = replied-so f ∙ e in (ap (λ (r : Found). r .number) told, ap (λ (r : Found). r .score) told)
 
 lent-enough :
     {genes : List ℕ} {count : ℕ} {allowed : List ℕ} {r : Found} {s p : List ℕ} (f : Finds 3 genes count allowed lent lent r s p)
@@ -138,17 +143,12 @@ pub lots-that-agree :
     (second : Finds 3 ab-c 1 every-cluster lent lent q s′ p′) (both : Finds 3 (ab-c ++ ab-c) 2 every-cluster lent lent w s″ p″)
     → (r .score ≡ 0) × (q .score ≡ 0) × (w .score ≡ 0) × ((c : List ℕ) × LeastIn (call first) c × LeastIn (call second) c)
 unfolding call
-lots-that-agree {r} {q} {w} first second both =
-    let one : r .score ≡ 0 = ap (λ (f : Found). f .score) (replied-so first ∙ replies .0) in
-    let two : q .score ≡ 0 = ap (λ (f : Found). f .score) (replied-so second ∙ replies .0) in
-    let all : w ≡ tree 0 ab-c = replied-so both ∙ replies .2 in
+lots-that-agree first second both =
+    let one = scored first (replies .0) in
+    let two = scored second (replies .0) in
+    let all = scored both (replies .2) in
     let lots = parted ab-c ab-c every-cluster first second both (sizes .0) (sizes .0) (sizes .2) in
-    let sum : w .score ≡ 0 = ap (λ (f : Found). f .score) all in (
-      one,
-      two,
-      sum,
-      equal-exactly-when-least-for-both (call first) (call second) lots (ap (λ (f : Found). f .number) all) .0 (omega arith),
-    )
+    (one .1, two .1, all .1, equal-exactly-when-least-for-both (call first) (call second) lots (all .0) .0 (omega arith))
 
 -- `((a,b),c);` in one lot and `((a,c),b);` in the other: the least scores are 0 and 0, the whole's is 1, and no tree is least for both
 pub lots-that-differ :
@@ -156,18 +156,15 @@ pub lots-that-differ :
     (second : Finds 3 ac-b 1 every-cluster lent lent q s′ p′) (both : Finds 3 (ac-b ++ ab-c) 2 every-cluster lent lent w s″ p″)
     → (r .score ≡ 0) × (q .score ≡ 0) × (w .score ≡ 1) × ((c : List ℕ) → LeastIn (call first) c → LeastIn (call second) c → ⊥)
 unfolding call
-lots-that-differ {r} {q} {w} first second both =
-    let one : r .score ≡ 0 = ap (λ (f : Found). f .score) (replied-so first ∙ replies .0) in
-    let two : q .score ≡ 0 = ap (λ (f : Found). f .score) (replied-so second ∙ replies .1) in
-    let all : w ≡ tree 1 ab-c = replied-so both ∙ replies .3 in
-    let lots = parted ab-c ac-b every-cluster first second both (sizes .0) (sizes .1) (sizes .2) in
-    let more : w .score ≡ 1 = ap (λ (f : Found). f .score) all in (
-      one,
-      two,
-      more,
-      λ c l k.
-          let e = equal-exactly-when-least-for-both (call first) (call second) lots (ap (λ (f : Found). f .number) all) .1 (c, l, k) in
-          omega arith,
+lots-that-differ first second both =
+    let one = scored first (replies .0) in
+    let two = scored second (replies .1) in
+    let all = scored both (replies .3) in
+    let lots = parted ab-c ac-b every-cluster first second both (sizes .0) (sizes .1) (sizes .2) in (
+      one .1,
+      two .1,
+      all .1,
+      λ c l k. let e = equal-exactly-when-least-for-both (call first) (call second) lots (all .0) .1 (c, l, k) in omega arith,
     )
 
 -- without allowed clusters there is no tree on three species, and all three searches say so
