@@ -88,13 +88,14 @@ length-of-lots {n} (s ∷ lots) =
       length-of-lots lots,
     )
 
--- ---- when the search itself is come to
+-- ---- when the checks are passed
 
 -- no check finds a fault in what was handed over
 abbrev AcceptedIn : {n : ℕ} → Searched n → Type 0
 AcceptedIn {n} s = Accepted n (s .genes) (s .count) (s .allowed) (s .scores) (s .splits)
 
-passed-exactly : {n : ℕ} (s : Searched n) → Passed s ↔ AcceptedIn s
+-- the checks are passed exactly when n, count, the lent slices, the gene records and the allowed bytes are as 01 asks
+pub passed-exactly : {n : ℕ} (s : Searched n) → Passed s ↔ AcceptedIn s
 passed-exactly {n} s = (accepted-of (s .finds), λ a. told (replied (s .finds) a))
   where
     told : Replied n (records s) (s .allowed) (s .reply) → Passed s
@@ -157,7 +158,7 @@ module _ {n : ℕ} {lots : List (Searched n)} {whole : Searched n} (parted : Lot
         allowed-bytes = zeros-and-ones-too (as-the-whole s (lot .1)) (a .allowed-bytes);
       }
 
-  -- the whole passes the checks exactly when every lot does
+  -- for lots that are non-empty and together inside the limit, the whole passes the checks exactly when every lot does
   pub passed-together : Passed whole ↔ ((s : Searched n) → List·Memᴰ s lots → Passed s)
   passed-together = (
     λ p s m. passed-exactly s .1 (lot-accepted (passed-exactly whole .0 p) s m),
