@@ -23,3 +23,5 @@ pub mod LineFeeds
 pub mod RefusalLines
 pub mod ProgramFaults
 pub mod Locality
+pub mod Lots
+pub mod LotsExample

@@ -11,3 +11,4 @@ pub mod CallFaults
 pub mod InOrder
 pub mod ProgramFaults
 pub mod Deciding
+pub mod Lots

@@ -4,5 +4,6 @@ pub mod RecordsOfTrees
 pub mod BestTrees
 pub mod Accepted
 pub mod Demand
+pub mod Lots
 pub mod Unread
 pub mod Finding

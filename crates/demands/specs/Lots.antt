@@ -1,0 +1,71 @@
+-- Lots of gene trees (#102, "Two batches of loci"): a search over each of them, and one over the whole.
+use Prim.Native.Nat.{ℕ, _*_, _^_, _≤_}
+use mathlib.Core.Path.{_≡_}
+use mathlib.Core.Logic.{_⊎_}
+use mathlib.Core.List.{List, [], _∷_, _++_, map, List·Memᴰ}
+use lib.ListN.{length, take}
+use Rattle.trees.specs.Lists.{total}
+use Rattle.trees.specs.Records.{recordsIn}
+use Rattle.splits.specs.BinaryTrees.{each}
+use Rattle.search.specs.Promise.{Finds}
+use Rattle.search.specs.LeastAmong.{LeastFor}
+use Rattle.solver.specs.declared.Found.{Found}
+
+-- a search that was made for n species: what was handed over, and any outcome that meets its promise
+pub record Searched (n : ℕ) : Type 0 where
+  pub genes : List ℕ
+  pub count : ℕ
+  pub allowed : List ℕ
+  pub scores : List ℕ
+  pub splits : List ℕ
+  pub reply : Found
+  pub scoresAfter : List ℕ
+  pub splitsAfter : List ℕ
+  pub finds : Finds n genes count allowed scores splits reply scoresAfter splitsAfter
+
+-- the gene records that it was handed
+abbrev pub records : {n : ℕ} → Searched n → List (List ℕ)
+records s = recordsIn (s .count) (s .genes)
+
+-- it was lent enough: not "fewer than 32 entries for each record counted", nor "fewer than 2^n for an allowed set or a table"
+pub record Lent {n : ℕ} (s : Searched n) : Type 0 where
+  pub genes-long : 32 * s .count ≤ length (s .genes)
+  pub allowed-long : 2 ^ n ≤ length (s .allowed)
+  pub scores-long : 2 ^ n ≤ length (s .scores)
+  pub splits-long : 2 ^ n ≤ length (s .splits)
+
+-- the second list has what the first has and nothing else, in any order
+pub data InAnyOrder {A : Type 0} : List A → List A → Type 0 where
+  nothing : InAnyOrder [] []
+  put : {x : A} {l : List A} (front behind : List A) → InAnyOrder l (front ++ behind) → InAnyOrder (x ∷ l) (front ++ (x ∷ behind))
+
+-- "Loci arrive in two lots and she searches each" (#102): searches over lots, two or any other number, and one over the whole; "for one roster": all for one n
+pub record LotsOf {n : ℕ} (lots : List (Searched n)) (whole : Searched n) : Type 0 where
+  -- the whole has the gene records of all lots, in any order
+  pub gathered : InAnyOrder (each (λ (s : Searched n). records s) lots) (records whole)
+  -- "and one allowed set": its 2^n bytes are equal
+  pub one-allowed-set : (s : Searched n) → List·Memᴰ s lots → take (2 ^ n) (s .allowed) ≡ take (2 ^ n) (whole .allowed)
+  -- there is a lot, and "both lots non-empty"
+  pub some-lot : 1 ≤ length lots
+  pub non-empty : (s : Searched n) → List·Memᴰ s lots → 1 ≤ s .count
+  -- "and together inside the limit"
+  pub inside-the-limit : total (map (λ (s : Searched n). s .count) lots) ≤ 4096
+  -- no call is lent too little
+  pub whole-lent : Lent whole
+  pub lots-lent : (s : Searched n) → List·Memᴰ s lots → Lent s
+
+-- every check was passed: the reply is a tree (0), or that there is none (14)
+abbrev pub Passed : {n : ℕ} → Searched n → Type 0
+Passed s = (s .reply .number ≡ 0) ⊎ (s .reply .number ≡ 14)
+
+-- a tree least for what a search was handed: a binary tree over its allowed clusters, and none scores less over its gene trees
+abbrev pub LeastIn : {n : ℕ} → Searched n → List ℕ → Type 0
+LeastIn {n} s c = LeastFor n (s .allowed) (records s) c
+
+-- "some tree is least for both" (#102): for every lot
+abbrev pub LeastInEach : {n : ℕ} → List (Searched n) → List ℕ → Type 0
+LeastInEach {n} lots c = (s : Searched n) → List·Memᴰ s lots → LeastIn s c
+
+-- "the sum of the lots' least scores" (#102)
+abbrev pub sumOfLeast : {n : ℕ} → List (Searched n) → ℕ
+sumOfLeast {n} lots = total (map (λ (s : Searched n). s .reply .score) lots)
