@@ -5,7 +5,6 @@ ghost use Prim.Native.Nat.{_≤_};
 ghost use Rattle.clusters.specs.Sets.{Within, within, size, lowest};
 ghost use Rattle.trees.specs.Drawn.{properly};
 ghost use Rattle.texts.specs.Work.{Listed, ChildWith};
-use trees::Record;
 
 // Whether c lies properly within the cluster and holds the species.
 fn inner_with(c: u32, cluster: u32, species: u32) -> bool
@@ -22,14 +21,13 @@ fn inner_with(c: u32, cluster: u32, species: u32) -> bool
 
 // The child that holds the lowest species of what is left: of the clusters properly within the cluster that hold it the largest,
 // and that is the last in the record.
-pub(crate) fn child(tree: Record, cluster: u32, left: u32) -> u32
-    requires { ⌜ Listed (tree .numbers) cluster ⌝ }
+pub(crate) fn child(numbers: &[u16], cluster: u32, left: u32) -> u32
+    requires { ⌜ Listed (now numbers) cluster ⌝ }
     requires { ⌜ 2 ≤ size cluster ⌝ }
     requires { ⌜ (1 ≤ left) × Within left cluster ⌝ }
-    ensures { λ r. ⌜ ChildWith (tree .numbers) cluster (lowest left) r ⌝ }
+    ensures { λ r. ⌜ ChildWith (now (numbers .entry)) cluster (lowest left) r ⌝ }
 {
     let species = clusters::single(clusters::lowest(left) as usize);
-    let numbers = tree.numbers;
     let m = numbers[0] as usize;
     let mut largest = species;
     let mut i = 1;

@@ -6,15 +6,14 @@ ghost use Rattle.printing.specs.Work.{Put};
 ghost use Rattle.texts.specs.Work.{Listed, clusterText};
 use crate::child::child;
 use crate::label::label;
-use trees::Record;
 
-// Writes the text of the cluster's node from `at` on; answers the offset behind it. Each call has its own copy of the record,
-// and goes from a cluster to its children, which are smaller. `writer` calls it with a valid record, where there is room for the text.
-pub fn node(out: &mut [u8], at: usize, table: &[u8], tree: Record, cluster: u32) -> usize
-    requires { ⌜ Listed (tree .numbers) cluster ⌝ }
+// Writes the text of the cluster's node from `at` on; answers the offset behind it. Every call looks into the one record that is lent,
+// carries only the cluster it is at, and goes on to its children, which are smaller. `writer` calls it with a valid record, where there is room for the text.
+pub fn node(out: &mut [u8], at: usize, table: &[u8], numbers: &[u16], cluster: u32) -> usize
+    requires { ⌜ Listed (now numbers) cluster ⌝ }
     requires { ⌜ length (now table) ≡ 512 ⌝ }
-    requires { ⌜ at + length (clusterText (now table) (tree .numbers) cluster) ≤ length (now out) ⌝ }
-    ensures { λ end. ⌜ Put (now (out .entry)) at (clusterText (now (table .entry)) (tree .numbers) cluster) end (now (out .exit)) ⌝ }
+    requires { ⌜ at + length (clusterText (now table) (now numbers) cluster) ≤ length (now out) ⌝ }
+    ensures { λ end. ⌜ Put (now (out .entry)) at (clusterText (now (table .entry)) (now (numbers .entry)) cluster) end (now (out .exit)) ⌝ }
 {
     if clusters::size(cluster) == 1 {
         return label(out, at, table, clusters::lowest(cluster) as usize);
@@ -24,8 +23,8 @@ pub fn node(out: &mut [u8], at: usize, table: &[u8], tree: Record, cluster: u32)
     let mut mark = b'(';
     while left != 0 {
         out[end] = mark;
-        let next = child(tree, cluster, left);
-        end = node(out, end + 1, table, tree, next);
+        let next = child(numbers, cluster, left);
+        end = node(out, end + 1, table, numbers, next);
         left -= next;
         mark = b',';
     }

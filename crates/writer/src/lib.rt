@@ -24,7 +24,7 @@ pub fn write(line: &[u8], tree: Record, out: &mut [u8]) -> Reply
     if out.len() < length {
         return refused(12, 0);
     }
-    let end = texts::node::node(out, 0, &table, tree, all);
+    let end = texts::node::node(out, 0, &table, &numbers, all);
     out[end] = b';';
     Reply {
         number: 0,

@@ -92,16 +92,16 @@ returns-3 c =
 
 node-requires : tie.Need-node-requires
 node-requires c κs =
-    let sound = c .before .before .before .before .before in
+    let sound = c .before .before .before .before .before .before in
     let named = sound .before .before .before .before in
     let start = named .before .before .before .before .before .before in
     let g = given named in
     let v = valid-there sound in
-    (given-listed g v, (given-table g, given-room g v (start .args .out .now) (room-there (c .before .before))))
+    (given-listed g v, (given-table g, given-room g v (start .args .out .now) (room-there (c .before .before .before))))
 
 slice-write-out : tie.Need-slice-write-out
 slice-write-out c =
-    let roomy = c .before .before .before .before .before in
+    let roomy = c .before .before .before .before .before .before in
     let sound = roomy .before .before .before in
     let named = sound .before .before .before .before in
     let start = named .before .before .before .before .before .before in
@@ -112,7 +112,7 @@ reply-of number place value = record { number = number; place = place; value = v
 
 returns-4 : tie.Need-returns-4
 returns-4 c =
-    let roomy = c .before .before .before .before .before in
+    let roomy = c .before .before .before .before .before .before in
     let measured = roomy .before in
     let sound = measured .before .before in
     let named = sound .before .before .before .before in
@@ -142,6 +142,7 @@ write-spec =
     (λ c κs. given-counts (given (c .before .before .before .before .before)) (valid-there (c .before)))
     (λ c κs. search needs)
     returns-3
+    (λ c. search needs)
     (λ c. search needs)
     node-requires
     slice-write-out

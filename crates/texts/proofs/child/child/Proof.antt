@@ -11,22 +11,22 @@ use Rattle.texts.proofs.child.child.Statement.{statement}
 use Rattle.texts.proofs.child.child.Tie as tie
 
 abbrev Inv-loop : tie.InvT-loop
-Inv-loop cluster left species numbers m largest₀ i₀ largest i = (1 ≤ i) × (i ≤ m + 1) × Largest numbers cluster (lowest left) largest i
+Inv-loop numbers cluster left species m largest₀ i₀ largest i = (1 ≤ i) × (i ≤ m + 1) × Largest numbers cluster (lowest left) largest i
 
 abbrev μ-loop : tie.MeasureT-loop
-μ-loop cluster left species numbers m largest₀ i₀ largest i = m + 1 - i
+μ-loop numbers cluster left species m largest₀ i₀ largest i = m + 1 - i
 
 -- of what is left and of the cluster itself, so that a child looked for by the cluster is refused by what the loop holds
 single-requires : tie.Need-single-requires Inv-loop μ-loop
 single-requires c κs =
-    let s = c .before in
+    let s = c .before .before in
     let l = lowest-thirty-two (s .pre .0) (s .args .left) (s .pre .1 .1 .0) (s .pre .1 .1 .1) (s .pre .1 .0) in
     let k = lowest-sixteen (s .pre .0) in
     omega (arith, c .lowest .ensures)
 
 loop-holds : tie.Need-loop-holds Inv-loop μ-loop
 loop-holds c =
-    let s = c .before .before .before in (
+    let s = c .before .before .before .before in (
       omega arith,
       omega arith,
       rw (c .before .single .ensures, c .before .before .lowest .ensures)
@@ -34,16 +34,19 @@ loop-holds c =
     )
 
 mul-c : tie.Need-mul-c Inv-loop μ-loop
-mul-c c = let f = c .before .before .before .before .before .pre .0 .valid .form .counted in search needs
+mul-c c = let f = c .before .before .before .before .before .before .pre .0 .valid .form .counted in search needs
 
-array-read-c : tie.Need-array-read-c Inv-loop μ-loop
-array-read-c c = let f = c .before .before .before .before .before .pre .0 .valid .form .counted in omega arith
+shared-slice-read-c : tie.Need-shared-slice-read-c Inv-loop μ-loop
+shared-slice-read-c c = let f = c .before .before .before .before .before .before .before .pre .0 .valid .form in omega (arith, f .counted, f .thirty-two)
 
 loop-again : tie.Need-loop-again Inv-loop μ-loop
 loop-again c =
-    let h = c .before .before .before .before .before .before .before .pre .0 in
-    let l = c .before .before .before .loop .inv in
-    let one = c .before .before .before .before .before .single .ensures ∙ ap single (c .before .before .before .before .before .before .lowest .ensures) in
+    let h = c .before .before .before .before .before .before .before .before .before .pre .0 in
+    let l = c .before .before .before .before .loop .inv in
+    let one =
+    c .before .before .before .before .before .before .single .ensures
+    ∙ ap single (c .before .before .before .before .before .before .before .lowest .ensures)
+    in
     let told = c .before .inner-with .ensures in (
       omega arith,
       omega arith,
@@ -52,7 +55,7 @@ loop-again c =
     )
 
 returns : tie.Need-returns Inv-loop μ-loop
-returns c = largest-child (c .before .before .before .before .before .pre .0) (c .before .loop .inv .2) (omega arith)
+returns c = largest-child (c .before .before .before .before .before .before .pre .0) (c .before .loop .inv .2) (omega arith)
 
 pub child-spec : {M : Type 1} → statement M
 child-spec =
@@ -63,12 +66,12 @@ child-spec =
     (λ c κs. search needs)
     (λ c. search needs)
     single-requires
-    (λ c. search needs)
-    (λ c. search needs)
+    (λ c. let f = c .before .before .before .before .pre .0 .valid .form .thirty-two in omega arith)
+    (λ c. omega (arith, c .shared-slice-known2 .given 0))
     loop-holds
     mul-c
-    array-read-c
-    (λ c. search needs)
+    shared-slice-read-c
+    (λ c. omega (arith, c .shared-slice-known3 .given (c .before .before .loop .i)))
     (λ c κs. search needs)
     (λ c. search needs)
     (λ c. search needs)

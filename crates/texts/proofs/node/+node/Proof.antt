@@ -19,25 +19,26 @@ use Rattle.texts.proofs.child.child.Reads as child-reads
 use Rattle.texts.proofs.label.label.Reads as label-reads
 use Rattle.texts.proofs.node.+node.{statement}
 use Rattle.texts.proofs.node.+node.Tie.{close}
-use Rattle.texts.proofs.NodeText.{Begun, lowest-sixteen, leaf-text, two-species, begun-all, begun-within, begun-room, begun-next, begun-end}
+use Rattle.texts.proofs.NodeText.{Begun, Onward, lowest-sixteen, leaf-text, two-species, begun-all, begun-within, begun-room, begun-next, begun-end}
 
-abbrev μ-node : Measures 2 node-kinds.ps ℕ
+abbrev μ-node : Measures 3 node-kinds.ps ℕ
 μ-node κs a = size (a .1 .1 .1 .1 .0)
 
-abbrev node-at : ℕ → In 2 node-kinds.ps
-node-at t = and 2 node-kinds.ps (is 2 node-kinds.ps μ-node t) node.Pre
+abbrev node-at : ℕ → In 3 node-kinds.ps
+node-at t = and 3 node-kinds.ps (is 3 node-kinds.ps μ-node t) node.Pre
 
-abbrev node-below : ℕ → In 2 node-kinds.ps
-node-below t = and 2 node-kinds.ps (falls 2 node-kinds.ps _<_ μ-node t) node.Pre
+abbrev node-below : ℕ → In 3 node-kinds.ps
+node-below t = and 3 node-kinds.ps (falls 3 node-kinds.ps _<_ μ-node t) node.Pre
 
 abbrev node-Inv-loop : node-lts.InvT-loop
-node-Inv-loop out₀ at table tree cluster end₀ left₀ mark₀ out end left mark = Begun table (tree .numbers) cluster out₀ at out end left mark
+node-Inv-loop out₀ at table numbers cluster end₀ left₀ mark₀ out end left mark = Begun table numbers cluster out₀ at out end left mark
 
 abbrev node-μ-loop : node-lts.MeasureT-loop
-node-μ-loop out₀ at table tree cluster end₀ left₀ mark₀ out end left mark = left
+node-μ-loop out₀ at table numbers cluster end₀ left₀ mark₀ out end left mark = left
 
-pub +node-spec : {M : Type 1} → statement M
-+node-spec = close μ-node λ t. node-lts.spec (
+-- what `node` calls
+abbrev node-calls : ℕ → node-lts.Claims
+node-calls t = (
   size-reads.Asked,
   size-reads.Learnt,
   lowest-reads.Asked,
@@ -49,6 +50,21 @@ pub +node-spec : {M : Type 1} → statement M
   node-below t,
   node.Post,
 )
+
+-- a child is found: it can be written, and the loop goes on behind it
+onward :
+    (t : ℕ) (c : node-lts.After-child (node-calls t) (node-at t) node.Post node-Inv-loop node-μ-loop)
+    → let turn = c .before .before in
+    let s = turn .before .before .before .before .before .before .args in
+    Onward (s .table .now) (s .numbers .now) (s .cluster) (s .out .now) (s .at) (turn .loop .out) (turn .loop .end) (turn .loop .left) (turn .loop .mark)
+    (c .child .result)
+onward t c =
+    let turn = c .before .before in
+    let s = turn .before .before .before .before .before .before in
+    begun-next (s .pre .1 .0) (s .args .table .now) (s .args .out .now) (s .args .at) (turn .loop .inv) (omega arith) (c .child .ensures)
+
+pub +node-spec : {M : Type 1} → statement M
++node-spec = close μ-node λ t. node-lts.spec (node-calls t)
     (node-at t)
     node.Post
     node-Inv-loop
@@ -57,31 +73,31 @@ pub +node-spec : {M : Type 1} → statement M
     (λ c κs. search needs)
     (λ c. search needs)
     (λ c κs.
-    let s = c .before .before .before .before .before .before in
+    let s = c .before .before .before .before .before .before .before in
     let h = s .pre .1 .0 in
     let e = leaf-text h (s .args .table .now) (sym (c .before .before .before .size .ensures) ∙ c .before .before .if1 .taken) in
     let l = c .lowest .ensures in
     let b = lowest-sixteen h in
     let table = s .args .table .now in
-    let f : length (nameIn table (c .lowest .result)) ≡ length (clusterText table (s .args .tree .numbers) (s .args .cluster)) = rw (l, e) in
+    let f : length (nameIn table (c .lowest .result)) ≡ length (clusterText table (s .args .numbers .now) (s .args .cluster)) = rw (l, e) in
     (omega arith, omega arith))
     (λ c. put-length (c .before .before .label .ensures))
     (λ c.
     let one = c .before .before .before .before .before in
-    let s = one .before .before .before .before in
+    let s = one .before .before .before .before .before in
     let e = leaf-text (s .pre .1 .0) (s .args .table .now) (sym (one .before .size .ensures) ∙ one .if1 .taken) in
     rw (e, ← c .before .before .before .lowest .ensures) (c .before .before .label .ensures))
     (λ c.
-    let s = c .before .before .before .before in
+    let s = c .before .before .before .before .before in
     begun-all (s .pre .1 .0) (s .args .table .now) (s .args .out .now) (s .args .at) (λ e. c .if1 .left (c .before .size .ensures ∙ e)))
     (λ c.
-    let s = c .before .before .before .before .before .before in
+    let s = c .before .before .before .before .before .before .before in
     let b = c .before .loop .inv in
     let k = begun-room (s .pre .1 .0) (s .args .table .now) (s .args .out .now) (s .args .at) b in
     let l = b .long in
     omega arith)
     (λ c κs.
-    let s = c .before .before .before .before .before .before in
+    let s = c .before .before .before .before .before .before .before in
     let h = s .pre .1 .0 in (
       h,
       (
@@ -90,53 +106,37 @@ pub +node-spec : {M : Type 1} → statement M
       ),
     ))
     (λ c.
-    let found = c .before in
-    let turn = found .before .before in
-    let s = turn .before .before .before .before .before in
-    let o = begun-next (s .pre .1 .0) (s .args .table .now) (s .args .out .now) (s .args .at) (turn .loop .inv) (omega arith) (found .child .ensures) in
+    let o = onward t (c .before) in
     let r = o .room in
     search needs)
     (λ c κs.
-    let found = c .before in
-    let turn = found .before .before in
-    let s = turn .before .before .before .before .before in
-    let o = begun-next (s .pre .1 .0) (s .args .table .now) (s .args .out .now) (s .args .at) (turn .loop .inv) (omega arith) (found .child .ensures) in
+    let o = onward t (c .before) in
+    let turn = c .before .before .before in
+    let s = turn .before .before .before .before .before .before in
     let l = turn .loop .inv .long in
     let f = o .smaller in
     let r = o .room in
     (omega arith, (o .listed, (s .pre .1 .1 .0, simp length-set (omega arith)))))
+    (λ c. onward t (c .before .before .before .before) .most)
     (λ c.
-    let found = c .before .before .before .before in
-    let turn = found .before .before in
-    let s = turn .before .before .before .before .before in
-    let o = begun-next (s .pre .1 .0) (s .args .table .now) (s .args .out .now) (s .args .at) (turn .loop .inv) (omega arith) (found .child .ensures) in
-    o .most)
-    (λ c.
-    let found = c .before .before .before .before in
-    let turn = found .before .before in
-    let s = turn .before .before .before .before .before in
-    let o = begun-next (s .pre .1 .0) (s .args .table .now) (s .args .out .now) (s .args .at) (turn .loop .inv) (omega arith) (found .child .ensures) in
+    let o = onward t (c .before .before .before .before) in
     let p = o .some in
     let q = o .most in
     omega arith)
     (λ c.
-    let found = c .before .before .before .before in
-    let turn = found .before .before in
-    let s = turn .before .before .before .before .before in
-    let o = begun-next (s .pre .1 .0) (s .args .table .now) (s .args .out .now) (s .args .at) (turn .loop .inv) (omega arith) (found .child .ensures) in
-    o .then (c .before .before .node .result) (c .before .before .node .last .0) (c .before .before .node .ensures))
+    onward t (c .before .before .before .before) .then (c .before .before .node .result) (c .before .before .node .last .0) (c .before .before .node .ensures))
     (λ c.
-    let s = c .before .before .before .before .before .before in
+    let s = c .before .before .before .before .before .before .before in
     let b = c .before .loop .inv in
     let k = begun-room (s .pre .1 .0) (s .args .table .now) (s .args .out .now) (s .args .at) b in
     let l = b .long in
     omega arith)
     (λ c.
-    let s = c .before .before .before .before .before .before in
+    let s = c .before .before .before .before .before .before .before in
     let b = c .before .loop .inv in
     let k = begun-room (s .pre .1 .0) (s .args .table .now) (s .args .out .now) (s .args .at) b in
     search needs)
     (λ c. simp length-set (c .before .loop .inv .long))
     (λ c.
-    let s = c .before .before .before .before .before .before in
+    let s = c .before .before .before .before .before .before .before in
     begun-end (s .pre .1 .0) (s .args .table .now) (s .args .out .now) (s .args .at) (c .before .loop .inv) (omega arith))
