@@ -6,10 +6,11 @@ use mathlib.Core.List.{List, [], _∷_, _++_, map, List·Memᴰ, List·Memᴰ·h
 use mathlib.Core.List.{Memᴰ·append-left, Memᴰ·append-right, List·Memᴰ·append-cases}
 use native.Mathlib.Omega.{arith}
 use lib.ListN.{length, length-append}
-use Rattle.trees.specs.Lists.{total}
+use Rattle.trees.specs.Lists.{total, InAnyOrder}
+use Rattle.trees.specs.Lists.InAnyOrder.{nothing, put}
 use Rattle.trees.proofs.Lent.{length-recordsIn}
 use Rattle.weights.specs.Count.{score}
-use Rattle.weights.proofs.Sums.{score-append, score-anywhere}
+use Rattle.weights.proofs.Sums.{score-reordered}
 use Rattle.splits.specs.BinaryTrees.{each}
 use Rattle.splits.proofs.Membership.{among-each, each-among}
 use Rattle.search.specs.Candidates.{Accepted, Candidate, SameAllowed}
@@ -18,8 +19,7 @@ use Rattle.search.proofs.Demand.Replied.{answered, nothing as none-there}
 use Rattle.search.proofs.Lots.{AddedUp, some-member, least-exactly, sum-le-whole, sum-reached-exactly, least-shared-exactly, score-of-lots, reply-is-least}
 use Rattle.search.proofs.Lots.{competes-too, zeros-and-ones-too}
 use Rattle.search.proofs.Unread.{first-bytes-same}
-use Rattle.demands.specs.Lots.{Searched, records, InAnyOrder, LotsOf, Passed, LeastIn, LeastInEach, sumOfLeast}
-use Rattle.demands.specs.Lots.InAnyOrder.{nothing, put}
+use Rattle.demands.specs.Lots.{Searched, records, LotsOf, Passed, LeastIn, LeastInEach, sumOfLeast}
 
 -- ---- in any order
 
@@ -52,18 +52,6 @@ module _ {A : Type 0} where
           second : (y ≡ x) ⊎ List·Memᴰ y behind → List·Memᴰ y (x ∷ l)
           second (inl e) = here e
           second (inr k) = there (later (Memᴰ·append-right front k))
-
--- the score does not depend on it
-any-order-score : {l k : List (List ℕ)} (c : List ℕ) → InAnyOrder l k → score l c ≡ score k c
-any-order-score c nothing = refl
-any-order-score c (put {x = x} {l = l} front behind o) =
-    omega (
-      arith,
-      any-order-score c o,
-      score-append (x ∷ []) l c,
-      score-append (x ∷ []) (front ++ behind) c,
-      score-anywhere front x behind c,
-    )
 
 -- ---- sums over lots
 
@@ -200,7 +188,7 @@ module _ {n : ℕ} {lots : List (Searched n)} {whole : Searched n} (parted : Lot
     added = record {
       some-lot = parted .some-lot;
       same-compete = same-compete;
-      adds-up = λ c. sym (any-order-score c (parted .gathered)) ∙ score-of-lots (λ (s : Searched n). records s) lots c;
+      adds-up = λ c. sym (score-reordered c (parted .gathered)) ∙ score-of-lots (λ (s : Searched n). records s) lots c;
       of-whole = reply-is-least (whole .finds) found;
       of-lots = λ s m. reply-is-least (s .finds) (numbers-equal (inl found) s m ∙ found);
     }

@@ -22,7 +22,7 @@ use Rattle.solver.specs.Best.{bestFor, foundBy}
 use Rattle.solver.specs.declared.Found.{Found}
 use Rattle.search.specs.Promise.{firstStrange, allowedTest, searchTests, foundOr, Finds}
 use Rattle.demands.specs.Lots.{Searched, Lent, LotsOf, LeastIn}
-use Rattle.demands.specs.Lots.InAnyOrder.{nothing, put}
+use Rattle.trees.specs.Lists.InAnyOrder.{nothing, put}
 use Rattle.demands.proofs.Lots.{of-both, equal-exactly-when-least-for-both}
 
 -- ---- what is handed over

@@ -39,16 +39,7 @@ module _ (n : ℕ) (genes : List ℕ) (count : ℕ) (species : List ℕ) where
       let s = none-later l in
       let g = no-fault-in-order n genes count (none-first h) (none-first c) (none-first l) (none-later s) in
       let t = valid-and-binary g (none-first s) in
-      record {
-        some-species = g .some-species;
-        few-species = g .few-species;
-        some-genes = g .some-genes;
-        few-genes = g .few-genes;
-        genes-fit = g .genes-fit;
-        species-valid = t .0;
-        species-binary = t .1;
-        genes-valid = g .genes-valid;
-      }
+      record { in-order = g; species-valid = t .0; species-binary = t .1 }
 
   scorable-no-fault : Scorable n genes count species → NoFault (ScoreFault n genes count species)
   scorable-no-fault h =
@@ -58,14 +49,7 @@ module _ (n : ℕ) (genes : List ℕ) (count : ℕ) (species : List ℕ) where
       (none-of-both (λ k p f. never f) (no-records-fault n genes count g))))
     where
       g : GenesInOrder n genes count
-      g = record {
-        some-species = h .some-species;
-        few-species = h .few-species;
-        some-genes = h .some-genes;
-        few-genes = h .few-genes;
-        genes-fit = h .genes-fit;
-        genes-valid = h .genes-valid;
-      }
+      g = h .in-order
 
       never : {k p : ℕ} → SpeciesRecordFault n species k p → ⊥
       never (not-valid-or-binary f) = f (h .species-valid, h .species-binary)

@@ -25,14 +25,16 @@ competitor-scorable :
     {n : ℕ} {genes : List ℕ} {count : ℕ} {allowed scores splits c : List ℕ}
     → Accepted n genes count allowed scores splits → Candidate n allowed c → Scorable n genes count c
 competitor-scorable {n} a k = record {
-  some-species = a .some-species;
-  few-species = a .few-species;
-  some-genes = a .some-genes;
-  few-genes = a .few-genes;
-  genes-fit = a .genes-fit;
+  in-order = record {
+    some-species = a .some-species;
+    few-species = a .few-species;
+    some-genes = a .some-genes;
+    few-genes = a .few-genes;
+    genes-fit = a .genes-fit;
+    genes-valid = λ g m. valid-decides g (whole-below-sixteen n (a .few-species)) .holds (a .genes-valid g m);
+  };
   species-valid = k .valid;
   species-binary = k .binary;
-  genes-valid = λ g m. valid-decides g (whole-below-sixteen n (a .few-species)) .holds (a .genes-valid g m);
 }
 
 -- ---- "For given gene trees and a given set of allowed clusters"

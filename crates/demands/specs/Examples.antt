@@ -57,7 +57,9 @@ holds (recorded line text numbers) = same (recordIn line text) numbers
 holds (counted line text a k) = eqb (kOf (listed (recordIn line text)) a) k
 holds (scored line gene species s) = eqb (score (recordIn line gene ∷ []) (recordIn line species)) s
 holds (searched line genes allowed number s text) =
-    eqb (foundIn line (map (recordIn line) genes) allowed .number) number && eqb (foundIn line (map (recordIn line) genes) allowed .score) s
+    eqb (foundIn line (map (recordIn line) genes) allowed .number) number && eqb (foundIn line (map (recordIn line) genes) allowed .place) 0
+    && eqb (foundIn line (map (recordIn line) genes) allowed .score) s
+    && same (foundIn line (map (recordIn line) genes) allowed .numbers) (recordIn line text)
     && same
     (textBy (foundIn line (map (recordIn line) genes) allowed .number) line (foundIn line (map (recordIn line) genes) allowed .numbers))
     text

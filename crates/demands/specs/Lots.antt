@@ -2,9 +2,9 @@
 use Prim.Native.Nat.{ℕ, _*_, _^_, _≤_}
 use mathlib.Core.Path.{_≡_}
 use mathlib.Core.Logic.{_⊎_}
-use mathlib.Core.List.{List, [], _∷_, _++_, map, List·Memᴰ}
+use mathlib.Core.List.{List, [], _∷_, map, List·Memᴰ}
 use lib.ListN.{length, take}
-use Rattle.trees.specs.Lists.{total}
+use Rattle.trees.specs.Lists.{total, InAnyOrder}
 use Rattle.trees.specs.Records.{recordsIn}
 use Rattle.splits.specs.BinaryTrees.{each}
 use Rattle.search.specs.Promise.{Finds}
@@ -33,11 +33,6 @@ pub record Lent {n : ℕ} (s : Searched n) : Type 0 where
   pub allowed-long : 2 ^ n ≤ length (s .allowed)
   pub scores-long : 2 ^ n ≤ length (s .scores)
   pub splits-long : 2 ^ n ≤ length (s .splits)
-
--- the second list has what the first has and nothing else, in any order
-pub data InAnyOrder {A : Type 0} : List A → List A → Type 0 where
-  nothing : InAnyOrder [] []
-  put : {x : A} {l : List A} (front behind : List A) → InAnyOrder l (front ++ behind) → InAnyOrder (x ∷ l) (front ++ (x ∷ behind))
 
 -- "Loci arrive in two lots and she searches each" (#102): searches over lots, two or any other number, and one over the whole; "for one roster": all for one n
 pub record LotsOf {n : ℕ} (lots : List (Searched n)) (whole : Searched n) : Type 0 where

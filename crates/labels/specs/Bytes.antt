@@ -16,7 +16,7 @@ isName b = isDigit b || (leb 65 b && leb b 90) || (leb 97 b && leb b 122)
 abbrev pub isBlank : ℕ → Bool
 isBlank b = eqb b 32 || eqb b 9 || eqb b 10 || eqb b 13
 
--- one more where the byte passes the test, and no more where it does not
+-- one more where a test is passed, and none where it is not
 abbrev pub oneMore : Bool → ℕ → ℕ
 oneMore true n = suc n
 oneMore false n = zero

@@ -28,7 +28,7 @@ use Rattle.nodes.specs.Meaning.Means.{stray, long-name, long-number, end
 use Rattle.nodes.proofs.Answers.{Reached, parsed-refused, andThen-refused, unexpected-refused, AtEnd, AtByte}
 use Rattle.nodes.proofs.Sound.{nextIs-cons, run-derives}
 use Rattle.nodes.proofs.Fronts.{Front, Then, BlanksAnd, front-byte, run-front}
-use Rattle.nodes.proofs.MeaningCounts.{evenly-digits, count-other}
+use Rattle.nodes.proofs.MeaningCounts.{evenly-digits, count-append, count-other}
 use Rattle.nodes.proofs.MeaningContexts.{stand-on, stand-begins, stand-as, begins-by, begins-less, closing-name, closing-numbers, blanks-name, blanks-number, colon-number, colons-number, second-number, point-number, Stand, NameIn, NumberIn, NumbersIn, ClosingIn}
 use Rattle.nodes.proofs.MeaningSteps.{zeroed, point-behind, thirteen-pointed, TooLong, limited-refused, numeral-refused, Step, step-then, step-skip, step-byte, step-colon, step-inner}
 
@@ -51,6 +51,9 @@ module _ {s₀ : List ℕ} {p₀ : ℕ} where
 
     pub stands-at : p ≡ p₀ + length u
     stands-at = omega (arith, st .place, all-length)
+
+    pub none-before : count 59 u ≡ 0
+    none-before = omega (arith, st .no-end, ap (count 59) (st .whole), count-append 59 u s)
 
     -- the byte b is next
     module _ (b : ℕ) (is : nextIs b s ≡ true) where
@@ -110,7 +113,12 @@ module _ {names : List (List ℕ)} {needed : ℕ} {s₀ : List ℕ} {p₀ : ℕ}
           record {
             byte = length u;
             place = at;
-            means = stray (record { inside = inside; begun = rw (front st) begun; not-allowed = forbidden refl (length u) at inside });
+            means = stray (record {
+              inside = inside;
+              begun = rw (front st) begun;
+              no-end = rw (front st) (none-before st);
+              not-allowed = forbidden refl (length u) at inside;
+            });
           })
 
   -- ---- numbers

@@ -93,10 +93,11 @@ opens u = count 40 u - count 41 u
 -- ---- what each number says of the text s and the byte d at fault
 
 -- "3 | byte not allowed here | that byte": what stands before it begins a text, and with it none does, whatever other numbers name is lifted:
--- "7, 8 and 9 are for bytes that could stand there but for the fault they name, otherwise it is 3"
+-- "7, 8 and 9 are for bytes that could stand there but for the fault they name, otherwise it is 3". No `;` stands before it: "bytes behind that are not looked at"
 pub record Stray (s : List ℕ) (d : ℕ) : Type 0 where
   pub inside : d < length s
   pub begun : BeginsText (take d s)
+  pub no-end : count 59 (take d s) ≡ 0
   pub not-allowed : CouldBegin (take (suc d) s) → ⊥
 
 -- "4 | sixteenth byte of a name": the name begins at c, and d is its sixteenth letter or digit

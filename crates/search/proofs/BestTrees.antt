@@ -126,43 +126,7 @@ module _ (w : ℕ → ℕ) (ok : ℕ → Bool) (a : ℕ) where
       go none e = refl
       go (some t) e = absurd (f t (best-on w ok a t e) (best-over t e))
 
--- ---- more allowed clusters, other weights
-
--- what is better or equal: a tree, with no greater score
-pub record Answered (w : ℕ → ℕ) (o : Option Binary) (m : ℕ) : Type 0 where
-  pub tree : Binary
-  pub found : o ≡ some tree
-  pub score : scoreOf w tree ≤ m
-
--- more allowed clusters: an answer stays, and its score does not rise
-pub more-allowed : (w : ℕ → ℕ) (ok may : ℕ → Bool) (a : ℕ) → ((x : ℕ) → 1 ≤ x → Within x a → ok x ≡ true → may x ≡ true) → (t : Binary)
-    → best w ok a ≡ some t → Answered w (best w may a) (scoreOf w t)
-more-allowed w ok may a h t e =
-    let v = best-on w ok a t e in
-    let o : Over may t = λ x m. let i = tree-inside v x m in h x (i .0) (i .1) (best-over w ok a t e x m) in
-    let r = best-there w may a t v o in
-    record { tree = r .0; found = r .1; score = best-least w may a (r .0) (r .1) t v o }
-
-total-mono : (w v : ℕ → ℕ) → ((x : ℕ) → w x ≤ v x) → (l : List ℕ) → total (map w l) ≤ total (map v l)
-unfolding total
-total-mono w v h [] = omega arith
-total-mono w v h (x ∷ l) = omega (arith, h x, total-mono w v h l)
-
-score-mono : (w v : ℕ → ℕ) → ((x : ℕ) → w x ≤ v x) → (t : Binary) → scoreOf w t ≤ scoreOf v t
-unfolding scoreOf
-score-mono w v h t = total-mono w v h (clustersIn t)
-
--- whether there is a tree does not depend on the weights
-pub weights-no-matter : (w v : ℕ → ℕ) (ok : ℕ → Bool) (a : ℕ) → best w ok a ≡ none → best v ok a ≡ none
-weights-no-matter w v ok a e = best-nowhere v ok a (λ u t h. best-missed w ok a e u t h)
-
--- greater weights: the least score does not fall
-pub more-weight : (w v : ℕ → ℕ) → ((x : ℕ) → w x ≤ v x) → (ok : ℕ → Bool) (a : ℕ) (t u : Binary)
-    → best w ok a ≡ some t → best v ok a ≡ some u → scoreOf w t ≤ scoreOf v u
-more-weight w v h ok a t u e q =
-    let l = best-least w ok a t e u (best-on v ok a u q) (best-over v ok a u q) in
-    let m = score-mono w v h u in
-    omega arith
+-- ---- other allowed sets
 
 -- only the clusters within a are asked for
 pub best-local : (w : ℕ → ℕ) (ok may : ℕ → Bool) (a : ℕ) → ((x : ℕ) → 1 ≤ x → Within x a → ok x ≡ may x) → best w ok a ≡ best w may a

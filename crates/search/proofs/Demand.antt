@@ -11,14 +11,14 @@ use lib.ListN.{replicate}
 use lib.Pow.{pow-mono}
 use Rattle.clusters.specs.Sets.{whole, size}
 use Rattle.clusters.proofs.Sets.{below-of-within}
-use Rattle.trees.specs.Lists.{Among, Sublist}
+use Rattle.trees.specs.Lists.{Among, Sublist, InAnyOrder}
 use Rattle.trees.specs.Lists.Sublist.{ends, kept, added}
 use Rattle.trees.specs.Records.{listed, recordOf, recordsIn}
 use Rattle.trees.proofs.Bounds.{whole-below-sixteen}
 use Rattle.trees.proofs.Recorded.{record-among, among-record}
 use Rattle.weights.specs.Count.{weight, score}
 use Rattle.roster.specs.Verdict.{verdict}
-use Rattle.weights.proofs.Sums.{score-append, Reordered, score-reordered}
+use Rattle.weights.proofs.Sums.{score-append, score-reordered}
 use Rattle.splits.specs.BinaryTrees.{Binary, clustersIn}
 use Rattle.splits.specs.WellFormed.{TreeOn}
 use Rattle.splits.specs.Order.{Earlier}
@@ -231,7 +231,7 @@ more-gene-trees m = no-score-falls (score-more m)
 -- and in any order, the old ones too
 pub more-gene-trees-in-any-order :
     {n : ℕ} {genes genes′ : List ℕ} {count count′ : ℕ} {allowed scores splits scores′ splits′ : List ℕ} {r q : Found} {s p s′ p′ : List ℕ} {all : List (List ℕ)}
-    → Sublist (recordsIn count genes) all → Reordered all (recordsIn count′ genes′)
+    → Sublist (recordsIn count genes) all → InAnyOrder all (recordsIn count′ genes′)
     → Finds n genes count allowed scores splits r s p → Finds n genes′ count′ allowed scores′ splits′ q s′ p′
     → Accepted n genes count allowed scores splits → Accepted n genes′ count′ allowed scores′ splits′
     → (r .number ≡ q .number) × (r .score ≤ q .score)

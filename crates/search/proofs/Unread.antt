@@ -1,15 +1,15 @@
--- What a search does not read: byte 0 of the allowed set, and the entries beyond the need.
+-- What the outcome of a search does not depend on: byte 0 of the allowed set, which is judged alone, and the entries beyond the need.
 use Prim.Native.Nat.{ℕ, zero, suc, _+_, _*_, _^_, _≤_, _<_}
 use mathlib.Core.Path.{_≡_, refl, sym, ap, ap₂, _∙_}
 use mathlib.Core.Logic.{_⊎_, _↔_}
 use mathlib.Core.Bool.{Bool, not}
-use mathlib.Core.List.{List, map}
+use mathlib.Core.List.{List, _++_, map}
 use native.Mathlib.Decide.{decLe}
 use native.Mathlib.Omega.{arith}
 use lib.Dec.{leb, ltb}
 use lib.ListN.{length, getD, take, drop}
 use lib.Seq.{getD-take, take-at, drop-at}
-use borrow.Author.Tests.{le-ltb, le-leb, lt-leb}
+use borrow.Author.Tests.{le-ltb, lt-ltb, le-leb, lt-leb}
 use Rattle.clusters.specs.Sets.{whole}
 use Rattle.clusters.proofs.Sets.{within-le, whole-below}
 use Rattle.trees.specs.Lists.{upTo}
@@ -17,7 +17,7 @@ use Rattle.trees.specs.Records.{recordsIn}
 use Rattle.trees.proofs.Lent.{records-needed, short-needed}
 use Rattle.trees.proofs.UpTo.{length-map-upTo}
 use Rattle.roster.specs.Roster.{least, firstOr}
-use Rattle.roster.specs.Verdict.{verdict, lengthTest}
+use Rattle.roster.specs.Verdict.{Test, verdict, lengthTest}
 use Rattle.weights.specs.Count.{weight}
 use Rattle.splits.specs.Least.{scoreEntry, splitEntry, best}
 use Rattle.tables.specs.Allowed.{allowedIn}
@@ -88,10 +88,10 @@ filled-same n (suc k) k′ entry entry′ lent after lent′ after′ e e′ z z
 
 -- ---- two calls that agree on what is read
 
--- they agree on n, count, the gene entries that are needed and what is allowed, and have tables long enough
+-- they agree on n, count, the gene entries that are needed, what is allowed, and whether each table is long enough
 module _ (n count : ℕ) (genes genes′ allowed allowed′ scores scores′ splits splits′ : List ℕ)
     (same-genes : take (32 * count) genes ≡ take (32 * count) genes′) (same-allowed : SameAllowed n allowed allowed′)
-    (long : 2 ^ n ≤ length scores) (long′ : 2 ^ n ≤ length scores′) (wide : 2 ^ n ≤ length splits) (wide′ : 2 ^ n ≤ length splits′) where
+    (scores-fit : (2 ^ n ≤ length scores) ↔ (2 ^ n ≤ length scores′)) (splits-fit : (2 ^ n ≤ length splits) ↔ (2 ^ n ≤ length splits′)) where
   same-records : recordsIn count genes ≡ recordsIn count genes′
   same-records = sym (records-needed count genes) ∙ ap (recordsIn count) same-genes ∙ records-needed count genes′
 
@@ -100,9 +100,15 @@ module _ (n count : ℕ) (genes genes′ allowed allowed′ scores scores′ spl
   needed-fit need l k e =
       ap (λ b. record { fault = b; number = 12; place = 0 }) (sym (short-needed need l) ∙ ap (λ m. ltb (length m) need) e ∙ short-needed need k)
 
-  both-fit : (need : ℕ) (l k : List ℕ) → need ≤ length l → need ≤ length k → lengthTest (length l) need ≡ lengthTest (length k) need
+  both-fit : (need : ℕ) (l k : List ℕ) → (need ≤ length l) ↔ (need ≤ length k) → lengthTest (length l) need ≡ lengthTest (length k) need
   unfolding lengthTest
-  both-fit need l k p q = rw (le-ltb (length l) need p, le-ltb (length k) need q)
+  both-fit need l k h = go (decLe need (length l)) (decLe need (length k))
+    where
+      go : Dec (need ≤ length l) → Dec (need ≤ length k)
+          → _≡_ {A = Test} (record { fault = ltb (length l) need; number = 12; place = 0 }) (record { fault = ltb (length k) need; number = 12; place = 0 })
+      go (yes p) d = rw (le-ltb (length l) need p, le-ltb (length k) need (h .0 p))
+      go (no p) (yes q) = absurd (p (h .1 q))
+      go (no p) (no q) = rw (lt-ltb (length l) need (omega arith), lt-ltb (length k) need (omega arith))
 
   same-strange : firstStrange n allowed ≡ firstStrange n allowed′
   unfolding firstStrange
@@ -117,9 +123,9 @@ module _ (n count : ℕ) (genes genes′ allowed allowed′ scores scores′ spl
   same-verdict =
       rw (
         needed-fit (32 * count) genes genes′ same-genes,
-        both-fit (2 ^ n) allowed allowed′ (same-allowed .long) (same-allowed .other-long),
-        both-fit (2 ^ n) scores scores′ long long′,
-        both-fit (2 ^ n) splits splits′ wide wide′,
+        both-fit (2 ^ n) allowed allowed′ (λ p. same-allowed .other-long, λ p. same-allowed .long),
+        both-fit (2 ^ n) scores scores′ scores-fit,
+        both-fit (2 ^ n) splits splits′ splits-fit,
         same-records,
         same-strange,
       )
@@ -148,3 +154,29 @@ module _ (n count : ℕ) (genes genes′ allowed allowed′ scores scores′ spl
           filled-same n _ _ _ _ splits p splits′ p′ (f .splitTable) (f′ .splitTable) z z′ (λ a l. ap splitEntry (same-best a l)),
         ),
   )
+
+-- two tables lent alike, filled or not alike
+filled-alike :
+    (n k k′ : ℕ) (entry entry′ : ℕ → ℕ) (lent after after′ : List ℕ) → after ≡ filledBy k n entry lent → after′ ≡ filledBy k′ n entry′ lent → k ≡ k′
+    → ((a : ℕ) → a < 2 ^ n → entry a ≡ entry′ a) → after ≡ after′
+filled-alike n zero zero entry entry′ lent after after′ e e′ z same =
+    e ∙ ap (λ l. l ++ drop (2 ^ n) lent) (same-entries entry entry′ (2 ^ n) same) ∙ sym e′
+filled-alike n zero (suc k′) entry entry′ lent after after′ e e′ z same = absurd (omega arith)
+filled-alike n (suc k) zero entry entry′ lent after after′ e e′ z same = absurd (omega arith)
+filled-alike n (suc k) (suc k′) entry entry′ lent after after′ e e′ z same = e ∙ sym e′
+
+-- two allowed sets of zeros and ones that agree on the clusters: the same call otherwise has the same outcome, whatever its tables
+pub only-clusters-matter :
+    (n : ℕ) (genes : List ℕ) (count : ℕ) (allowed other scores splits : List ℕ) → 2 ^ n ≤ length allowed → 2 ^ n ≤ length other
+    → ((a : ℕ) → a < 2 ^ n → getD allowed a 0 ≤ 1) → ((a : ℕ) → a < 2 ^ n → getD other a 0 ≤ 1)
+    → ((a : ℕ) → 1 ≤ a → a < 2 ^ n → getD allowed a 0 ≡ getD other a 0)
+    → {r q : Found} {s p s′ p′ : List ℕ} → Finds n genes count allowed scores splits r s p → Finds n genes count other scores splits q s′ p′
+    → (r ≡ q) × (s ≡ s′) × (p ≡ p′)
+only-clusters-matter n genes count allowed other scores splits long long′ bytes bytes′ agree {s = s} {p = p} {s′ = s′} {p′ = p′} f f′ =
+    let same = zeros-and-ones-same n allowed other long long′ bytes bytes′ agree in
+    let verdicts = ap (λ v. v .number) (same-verdict n count genes genes allowed other scores scores splits splits refl same (λ h. h, λ h. h) (λ h. h, λ h. h)) in
+    let bests = same-best n count genes genes allowed other scores scores splits splits refl same (λ h. h, λ h. h) (λ h. h, λ h. h) in (
+      same-outcome n count genes genes allowed other scores scores splits splits refl same (λ h. h, λ h. h) (λ h. h, λ h. h) f f′ .0,
+      filled-alike n _ _ _ _ scores s s′ (f .scoreTable) (f′ .scoreTable) verdicts (λ a l. ap (scoreEntry (weight (recordsIn count genes))) (bests a l)),
+      filled-alike n _ _ _ _ splits p p′ (f .splitTable) (f′ .splitTable) verdicts (λ a l. ap splitEntry (bests a l)),
+    )

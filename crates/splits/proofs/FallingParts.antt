@@ -19,9 +19,8 @@ use Rattle.trees.proofs.Order.{rising-same}
 use Rattle.splits.specs.BinaryTrees.{lows}
 use Rattle.splits.specs.WellFormed.{LowPart}
 use Rattle.splits.proofs.LowParts.{among-lows, lows-among, rising-lows, rising-keep, rising-cons}
-use Rattle.splits.specs.Work.{noSplit, leastSplit}
+use Rattle.splits.specs.Work.{noSplit, consider, leastSplit}
 use Rattle.splits.specs.declared.Split.{Split}
-use Rattle.splits.proofs.Recurrence.{consider}
 
 -- the low parts of a from m on
 unfoldable pub lowsFrom : ℕ → ℕ → List ℕ

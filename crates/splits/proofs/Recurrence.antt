@@ -18,7 +18,7 @@ use Rattle.splits.specs.BinaryTrees.{Binary, root, clustersIn, lows, for
 use Rattle.splits.specs.BinaryTrees.Binary.{tip, fork}
 use Rattle.splits.specs.WellFormed.{LowPart, TreeOn}
 use Rattle.splits.specs.Least.{those, scoreOf, treesOver, best, noTree, scoreEntry, splitEntry}
-use Rattle.splits.specs.Work.{Light, splitUnless, lesserSplit, betterSplit, noSplit, leastSplit}
+use Rattle.splits.specs.Work.{Light, splitUnless, lesserSplit, betterSplit, noSplit, consider, leastSplit}
 use Rattle.splits.specs.declared.Split.{Split}
 use Rattle.splits.proofs.LowParts.{among-lows, low-some, low-and-rest}
 use Rattle.splits.proofs.FirstLeast.{chosen, pick, pick-none, pick-first, pick-second, pickAll, pickAll-same, pickAll-none, pickAll-each, pickAll-map, pickAll-through, pickAll-from, gateBy, pickAll-those, first-least}
@@ -221,10 +221,6 @@ module _ (x y low : ℕ) (s : Split) where
   better-more p q h = rw (ne-eqb x noTree p, ne-eqb y noTree q, lt-leb (x + y) (s .score) h)
 
 -- ---- the choice of a split by the entries of the score table
-
--- the split at l, where it is better than the one so far
-abbrev pub consider : (ℕ → ℕ) → ℕ → ℕ → Split → Split
-consider e a l s = betterSplit (e l) (e (a - l)) l s
 
 consider-same : (e f : ℕ → ℕ) (a l : ℕ) (s t : Split) → e l ≡ f l → e (a - l) ≡ f (a - l) → s ≡ t → consider e a l s ≡ consider f a l t
 consider-same e f a l s t p q r = rw (p, q, r)

@@ -14,10 +14,10 @@ use Rattle.clusters.proofs.Sizes.{some-of-size, size-le}
 use Rattle.clusters.proofs.Parts.{part-and, part-falls}
 use Rattle.splits.specs.WellFormed.{LowPart}
 use Rattle.splits.specs.Least.{noTree}
-use Rattle.splits.specs.Work.{Scored, Small, betterSplit, noSplit, leastSplit, ScoresBelow, BestSplit}
+use Rattle.splits.specs.Work.{Scored, Small, betterSplit, noSplit, consider, leastSplit, ScoresBelow, BestSplit}
 use Rattle.splits.specs.declared.Split.{Split}
 use Rattle.splits.proofs.LowParts.{low-some}
-use Rattle.splits.proofs.Recurrence.{better-no-low, better-no-rest, better-less, better-more, consider, leastSplit-same, entry, best-none, entry-split, split-chosen}
+use Rattle.splits.proofs.Recurrence.{better-no-low, better-no-rest, better-less, better-more, leastSplit-same, entry, best-none, entry-split, split-chosen}
 use Rattle.splits.proofs.FallingParts.{leastSplitFrom, leastSplitFrom-all, leastSplitFrom-lowest, leastSplitFrom-step, part-is-low}
 
 -- an entry that is not the mark can be added to

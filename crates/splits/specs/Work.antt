@@ -46,9 +46,13 @@ betterSplit x y low s = splitUnless (eqb x noTree || eqb y noTree) s (lesserSpli
 abbrev pub noSplit : Split
 noSplit = record { score = noTree; low = 0 }
 
--- of the low parts of a for which both parts have scores, the one with the least sum, and of equals the smallest; e gives the entries of the score table
+-- the split at a low part of a, where it is better than the one so far; e gives the entries of the score table
+abbrev pub consider : (ℕ → ℕ) → ℕ → ℕ → Split → Split
+consider e a low s = betterSplit (e low) (e (a - low)) low s
+
+-- of the low parts of a for which both parts have scores, the one with the least sum, and of equals the smallest
 unfoldable pub leastSplit : (ℕ → ℕ) → ℕ → Split
-leastSplit e a = foldr (λ low s. betterSplit (e low) (e (a - low)) low s) noSplit (lows a)
+leastSplit e a = foldr (consider e a) noSplit (lows a)
 
 -- the score table below a holds the entries of the best trees for these weights and this allowed set
 abbrev pub ScoresBelow : (ℕ → ℕ) → (ℕ → Bool) → ℕ → List ℕ → Type 0

@@ -70,3 +70,8 @@ pub data Sublist {A : Type 0} : List A → List A → Type 0 where
   ends : Sublist [] []
   kept : {x : A} {l k : List A} → Sublist l k → Sublist (x ∷ l) (x ∷ k)
   added : {x : A} {l k : List A} → Sublist l k → Sublist l (x ∷ k)
+
+-- the second list has what the first has and nothing else, in any order
+pub data InAnyOrder {A : Type 0} : List A → List A → Type 0 where
+  nothing : InAnyOrder [] []
+  put : {x : A} {l : List A} (front behind : List A) → InAnyOrder l (front ++ behind) → InAnyOrder (x ∷ l) (front ++ (x ∷ behind))

@@ -9,7 +9,8 @@ use Rattle.clusters.specs.Sets.{whole, single}
 use Rattle.clusters.proofs.Members.{whole-has}
 use Rattle.clusters.proofs.Sizes.{size-whole}
 use Rattle.trees.specs.Records.{count, listed, SpeciesValid, AllValid}
-use Rattle.trees.specs.Lists.{total}
+use Rattle.trees.specs.Lists.{total, InAnyOrder}
+use Rattle.trees.specs.Lists.InAnyOrder.{nothing, put}
 use Rattle.trees.proofs.Bounds.{whole-below-sixteen}
 use Rattle.weights.specs.Count.{extra, weight, score}
 use Rattle.weights.proofs.Bounds.{extra-of-single, extra-of-whole, extra-lt-all}
@@ -64,44 +65,23 @@ score-append g h species =
 
 -- ---- the order of the gene trees
 
--- the same gene trees in another order
-pub data Reordered : List (List ℕ) → List (List ℕ) → Type 0 where
-  none : Reordered [] []
-  front : {g : List ℕ} {l k : List (List ℕ)} → Reordered l k → Reordered (g ∷ l) (g ∷ k)
-  swapped : {g h : List ℕ} {l : List (List ℕ)} → Reordered (g ∷ h ∷ l) (h ∷ g ∷ l)
-  further : {l k m : List (List ℕ)} → Reordered l k → Reordered k m → Reordered l m
+-- a gene tree in the middle counts as one at the front
+weight-anywhere : (g : List (List ℕ)) (x : List ℕ) (h : List (List ℕ)) (a : ℕ) → weight (g ++ (x ∷ h)) a ≡ extra x a + weight (g ++ h) a
+weight-anywhere g x h a = omega (arith, weight-append g (x ∷ h) a, weight-cons x h a, weight-append g h a)
 
--- the weight does not depend on it
-pub weight-reordered : {l k : List (List ℕ)} (a : ℕ) → Reordered l k → weight l a ≡ weight k a
-weight-reordered a none = refl
-weight-reordered a (front {g = g} {l = l} {k = k} r) = omega (arith, weight-cons g l a, weight-cons g k a, weight-reordered a r)
-weight-reordered a (swapped {g = g} {h = h} {l = l}) =
-    omega (arith, weight-cons g (h ∷ l) a, weight-cons h l a, weight-cons h (g ∷ l) a, weight-cons g l a)
-weight-reordered a (further r q) = weight-reordered a r ∙ weight-reordered a q
+-- the weight does not depend on the order
+pub weight-reordered : {l k : List (List ℕ)} (a : ℕ) → InAnyOrder l k → weight l a ≡ weight k a
+weight-reordered a nothing = refl
+weight-reordered a (put {x = x} {l = l} front behind o) = omega (arith, weight-cons x l a, weight-reordered a o, weight-anywhere front x behind a)
 
-weights-reordered : {l k : List (List ℕ)} (cs : List ℕ) → Reordered l k → weights l cs ≡ weights k cs
+weights-reordered : {l k : List (List ℕ)} (cs : List ℕ) → InAnyOrder l k → weights l cs ≡ weights k cs
 weights-reordered {l} {k} [] r = omega (arith, weights-none l, weights-none k)
 weights-reordered {l} {k} (a ∷ cs) r =
     omega (arith, weights-cons l a cs, weights-cons k a cs, weight-reordered a r, weights-reordered cs r)
 
 -- nor does the score
-pub score-reordered : {l k : List (List ℕ)} (species : List ℕ) → Reordered l k → score l species ≡ score k species
+pub score-reordered : {l k : List (List ℕ)} (species : List ℕ) → InAnyOrder l k → score l species ≡ score k species
 score-reordered {l} {k} species r = omega (arith, score-weights l species, score-weights k species, weights-reordered (listed species) r)
-
--- a gene tree in the middle counts as one at the front
-pub weight-anywhere : (g : List (List ℕ)) (x : List ℕ) (h : List (List ℕ)) (a : ℕ) → weight (g ++ (x ∷ h)) a ≡ weight (x ∷ (g ++ h)) a
-weight-anywhere g x h a =
-    omega (arith, weight-append g (x ∷ h) a, weight-cons x h a, weight-cons x (g ++ h) a, weight-append g h a)
-
-pub score-anywhere : (g : List (List ℕ)) (x : List ℕ) (h : List (List ℕ)) (species : List ℕ) → score (g ++ (x ∷ h)) species ≡ score (x ∷ (g ++ h)) species
-score-anywhere g x h species =
-    omega (
-      arith,
-      score-append g (x ∷ h) species,
-      score-append (x ∷ []) h species,
-      score-append (x ∷ []) (g ++ h) species,
-      score-append g h species,
-    )
 
 -- ---- what weighs nothing
 

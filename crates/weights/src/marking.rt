@@ -38,12 +38,12 @@ fn mark_trees(genes: &[u16], count: usize, out: &mut [u8])
     requires { ⌜ AllMarkable (length (now out)) (recordsIn count (now genes)) ⌝ }
     ensures { λ _. ⌜ now (out .exit) ≡ markedAll (recordsIn count (now (genes .entry))) (now (out .entry)) ⌝ }
 {
-    let mut i = 0;
-    while i < count {
-        let start = 32 * i;
+    let mut tree = 0;
+    while tree < count {
+        let start = 32 * tree;
         let end = start + 32;
         mark_tree(&genes[start..end], out);
-        i += 1;
+        tree += 1;
     }
 }
 

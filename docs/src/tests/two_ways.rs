@@ -83,6 +83,7 @@ fn damaged_text_gives_a_valid_record_or_a_place_within_it() {
 #[test]
 fn the_tree_found_has_the_score_found() {
     let mut s = Seeded::new(6);
+    let mut trees = 0;
     for _ in 0..2000 {
         let n = 1 + s.below(8);
         let count = 1 + s.below(5);
@@ -94,5 +95,7 @@ fn the_tree_found_has_the_score_found() {
         };
         assert!(valid(n, &tree) && binary(n, &tree));
         assert_eq!(score(n, &genes, count, &tree), Ok(found));
+        trees += 1;
     }
+    assert!(trees > 500, "only {trees} of 2,000 searches found a tree");
 }

@@ -8,17 +8,17 @@ use Rattle.weights.proofs.marking.mark_trees.Statement.{statement}
 use Rattle.weights.proofs.marking.mark_trees.Tie as tie
 
 abbrev Inv-loop : tie.InvT-loop
-Inv-loop genes count out₀ i₀ out i = AllMarkedTo genes count out₀ out i
+Inv-loop genes count out₀ tree₀ out tree = AllMarkedTo genes count out₀ out tree
 
 abbrev μ-loop : tie.MeasureT-loop
-μ-loop genes count out₀ i₀ out i = count - i
+μ-loop genes count out₀ tree₀ out tree = count - tree
 
 mark-tree-requires : tie.Need-mark-tree-requires Inv-loop μ-loop
 mark-tree-requires c κs =
     let start = c .before .before .before .before .before .before in
     let now = c .before .before .before .loop in
     rw (now .inv .same, part-record)
-    (start .pre .1 _ (record-among (now .i) (start .args .count) (start .args .genes .now) (search needs)))
+    (start .pre .1 _ (record-among (now .tree) (start .args .count) (start .args .genes .now) (search needs)))
 
 loop-again : tie.Need-loop-again Inv-loop μ-loop
 loop-again c =
