@@ -117,7 +117,7 @@ module _ {n : ℕ} {lots : List (Searched n)} {whole : Searched n} (parted : Lot
     some-species = a .some-species;
     few-species = a .few-species;
     some-genes = parted .non-empty s m;
-    few-genes = let few = parted .inside-the-limit in omega (arith, one-le-total (λ (s : Searched n). s .count) lots s m);
+    few-genes = let few = a .few-genes in omega (arith, whole-count, one-le-total (λ (s : Searched n). s .count) lots s m);
     genes-fit = parted .lots-lent s m .genes-long;
     allowed-fits = parted .lots-lent s m .allowed-long;
     scores-fit = parted .lots-lent s m .scores-long;

@@ -34,16 +34,16 @@ pub record Lent {n : ℕ} (s : Searched n) : Type 0 where
   pub scores-long : 2 ^ n ≤ length (s .scores)
   pub splits-long : 2 ^ n ≤ length (s .splits)
 
--- "Loci arrive in two lots and she searches each" (#102): searches over lots, two or any other number, and one over the whole; "for one roster": all for one n
+-- "Loci arrive in two lots and she searches each" (#102): searches over lots, two or any other number, and one over the whole; "for one roster" (#102): all for one n
 pub record LotsOf {n : ℕ} (lots : List (Searched n)) (whole : Searched n) : Type 0 where
   -- the whole has the gene records of all lots, in any order
   pub gathered : InAnyOrder (each (λ (s : Searched n). records s) lots) (records whole)
-  -- "and one allowed set": its 2^n bytes are equal
+  -- "and one allowed set" (#102): its 2^n bytes are equal
   pub one-allowed-set : (s : Searched n) → List·Memᴰ s lots → take (2 ^ n) (s .allowed) ≡ take (2 ^ n) (whole .allowed)
-  -- there is a lot, and "both lots non-empty"
+  -- there is a lot, and "both lots non-empty" (#102)
   pub some-lot : 1 ≤ length lots
   pub non-empty : (s : Searched n) → List·Memᴰ s lots → 1 ≤ s .count
-  -- "and together inside the limit"
+  -- "and together inside the limit" (#102)
   pub inside-the-limit : total (map (λ (s : Searched n). s .count) lots) ≤ 4096
   -- no call is lent too little
   pub whole-lent : Lent whole

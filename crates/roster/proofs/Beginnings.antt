@@ -7,22 +7,14 @@ use mathlib.Core.Bool.{Bool, true, false}
 use mathlib.Core.List.{List, [], _∷_, _++_, map, append-nil, map-append}
 use lib.ListN.{length, drop, length-map, length-take}
 use lib.Seq.{getD-take}
-use Rattle.trees.specs.Lists.{keep, keepIf, upTo}
+use Rattle.trees.specs.Lists.{keep, upTo}
+use Rattle.trees.proofs.Listing.{keep-append}
 use Rattle.labels.specs.Bytes.{isName, run}
 use Rattle.labels.specs.Labels.{word}
 use Rattle.labels.proofs.Runs.{run-byte}
 use Rattle.roster.specs.Roster.{begins, beginnings, nameAt, names}
 use Rattle.roster.proofs.Each.{Each, each-none, each-more, each-both, each-still}
 use Rattle.roster.proofs.Padding.{Fitting, Lettered, lettered-bare}
-
-keep-append : (test : ℕ → Bool) (k l : List ℕ) → keep test (k ++ l) ≡ keep test k ++ keep test l
-unfolding keep
-keep-append test [] l = refl
-keep-append test (x ∷ k) l = by (test x) (keep-append test k l)
-  where
-    by : (t : Bool) → keep test (k ++ l) ≡ keep test k ++ keep test l → keepIf t x (keep test (k ++ l)) ≡ keepIf t x (keep test k) ++ keep test l
-    by true e = rw e
-    by false e = e
 
 pub word-lettered : (s : List ℕ) → Lettered (word s)
 unfolding word

@@ -53,6 +53,16 @@ of-some test (y ∷ l) e = go (test y) refl e (λ k. of-some test l k)
 
 -- ---- lists that hold no number twice
 
+-- those of two lists that pass are those of the first and those of the second
+pub keep-append : (test : ℕ → Bool) (l k : List ℕ) → keep test (l ++ k) ≡ keep test l ++ keep test k
+unfolding keep
+keep-append test [] k = refl
+keep-append test (x ∷ l) k = go (test x) (keep-append test l k)
+  where
+    go : (b : Bool) → keep test (l ++ k) ≡ keep test l ++ keep test k → keepIf b x (keep test (l ++ k)) ≡ keepIf b x (keep test l) ++ keep test k
+    go true e = ap (λ (r : List ℕ). x ∷ r) e
+    go false e = e
+
 pub none-twice-append : (l k : List ℕ) → NoneTwice l → NoneTwice k → ((x : ℕ) → Among x l → Among x k → ⊥) → NoneTwice (l ++ k)
 unfolding NoneTwice
 none-twice-append [] k p q d = q

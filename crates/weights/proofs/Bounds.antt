@@ -1,7 +1,7 @@
 -- How large k is: at most the size of A and the number of species of the tree, and 1 for single species and the whole set.
 use Prim.Native.Nat.{ℕ, _-_, _^_, _≤_, _<_}
 use mathlib.Core.Path.{_≡_, refl, sym}
-use mathlib.Core.Logic.{_⊎_, inl, inr}
+use mathlib.Core.Logic.{inl, inr}
 use mathlib.Core.List.{List, [], _∷_, List·Memᴰ·head as here, List·Memᴰ·tail as there}
 use native.Mathlib.Omega.{arith}
 use lib.ListN.{length}
@@ -16,7 +16,7 @@ use Rattle.trees.proofs.Nodes.{AllNested}
 use Rattle.trees.proofs.Children.{together, has-together, AllApart, all-apart}
 use Rattle.trees.proofs.ValidTest.{tells-every, tells-within}
 use Rattle.weights.specs.Count.{maximalWithin, kDrawn, kOf, extra}
-use Rattle.weights.proofs.Tops.{Top, k-tops, among-tops, tops-once}
+use Rattle.weights.proofs.Tops.{Top, drawn-tops, among-tops, tops-once}
 use Rattle.weights.proofs.Joining.{k-held}
 use Rattle.weights.proofs.Compared.{k-never-more, k-some}
 
@@ -30,12 +30,12 @@ length-le-together (x ∷ l) p s =
     let k = length-le-together l (p .1) (λ y h. s y (there h)) in
     omega (arith, size-apart x (together l) (p .0), size-some (s x (here refl)))
 
--- k is at most the size of any set that holds all the maximal ones
-pub k-le-size : (cs : List ℕ) (a c : ℕ) → NoneTwice cs → ((x : ℕ) → Among x cs → 1 ≤ x) → AllNested cs → ((x : ℕ) → Top cs a x → Within x c) → kDrawn cs a ≤ size c
-k-le-size cs a c once some nested within-c =
+-- 01's count is at most the size of any set that holds all the maximal ones
+pub drawn-le-size : (cs : List ℕ) (a c : ℕ) → NoneTwice cs → ((x : ℕ) → Among x cs → 1 ≤ x) → AllNested cs → ((x : ℕ) → Top cs a x → Within x c) → kDrawn cs a ≤ size c
+drawn-le-size cs a c once some nested within-c =
     let l = length-le-together (maximalWithin cs a) (all-apart (maximalWithin cs a) (tops-once cs a once) apart-two) (λ x h. some x (among-tops cs a h .among)) in
     let w = size-within (together (maximalWithin cs a)) c (within-of-has (together (maximalWithin cs a)) c inside) in
-    omega (arith, k-tops cs a)
+    omega (arith, drawn-tops cs a)
   where
     apart-of : {x y : ℕ} → Top cs a x → Top cs a y → (x ≡ y → ⊥) → Nested x y → Apart x y
     apart-of t u d (inl p) = p
@@ -61,11 +61,11 @@ module _ {s : ℕ} {g : List ℕ} (v : ValidOn s g) where
 
   -- 01's count is at most the size of A
   pub drawn-le : (a : ℕ) → kDrawn (listed g) a ≤ size a
-  drawn-le a = k-le-size (listed g) a a once (λ x h. v .inside x h .0) (v .nested) (λ x t. t .inside)
+  drawn-le a = drawn-le-size (listed g) a a once (λ x h. v .inside x h .0) (v .nested) (λ x t. t .inside)
 
   -- and at most the number of species of the tree
   pub drawn-le-all : (a : ℕ) → kDrawn (listed g) a ≤ size s
-  drawn-le-all a = k-le-size (listed g) a s once (λ x h. v .inside x h .0) (v .nested) (λ x t. v .inside x (t .among) .1)
+  drawn-le-all a = drawn-le-size (listed g) a s once (λ x h. v .inside x h .0) (v .nested) (λ x t. v .inside x (t .among) .1)
 
   -- "one where A holds all its species" (#101)
   pub k-of-holder : (a : ℕ) → Within s a → kOf (listed g) a ≡ 1

@@ -8,8 +8,8 @@ use native.Mathlib.Omega.{arith}
 use Rattle.clusters.specs.Sets.{Has, within, single, union}
 use Rattle.clusters.proofs.Members.{has-union, has-single}
 use Rattle.clusters.proofs.Sets.{within-true, true-within, union-within, single-within}
-use Rattle.trees.specs.Records.{listed, recordOf, ValidOn, BinaryOn}
-use Rattle.trees.specs.Tree.{Tree, Forest, cluster, clusterOf, clusters, Binary, OneBinary}
+use Rattle.trees.specs.Records.{listed, ValidOn, BinaryOn}
+use Rattle.trees.specs.Tree.{Tree, Forest, cluster, clusterOf, Binary, OneBinary}
 use Rattle.trees.specs.Tree.Tree.{leaf, node}
 use Rattle.trees.specs.Tree.Forest.{last, more}
 use Rattle.trees.specs.Drawn.{drawn}
@@ -143,7 +143,7 @@ module _ {s : ℕ} {g : List ℕ} (v : ValidOn s g) (small : s < 2 ^ 16) (a : �
   drawn-lineages : kDrawn (listed g) a ≡ lineagesDrawn a (drawn (listed g) s)
   drawn-lineages = ap (λ (r : List ℕ). kDrawn (listed r) a) (sym (drawn-record v small)) ∙ drawn-of-record a (drawn-on v small)
 
-  -- "for others 101's is never more"
+  -- the count of #101 is never more than 01's
   pub k-never-more : kOf (listed g) a ≤ kDrawn (listed g) a
   k-never-more = rw (k-lineages, drawn-lineages) (lineages-le a (drawn (listed g) s))
 

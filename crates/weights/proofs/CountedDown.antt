@@ -3,10 +3,10 @@ use Prim.Native.Nat.{ℕ, _+_, _≤_}
 use mathlib.Core.Path.{_≡_, refl, sym, ap, ap₂, _∙_, subst}
 use mathlib.Core.Logic.{_⊎_, inl, inr}
 use mathlib.Core.Bool.{Bool, true, false, _||_}
-use mathlib.Core.List.{List, [], _∷_, _++_, List·Memᴰ·head as here, List·Memᴰ·not-nil, List·Memᴰ·append-cases, List·Memᴰ·eq-of-singleton, Memᴰ·append-left, Memᴰ·append-right}
+use mathlib.Core.List.{List, [], _∷_, _++_, List·Memᴰ·head as here, List·Memᴰ·append-cases, List·Memᴰ·eq-of-singleton, Memᴰ·append-left, Memᴰ·append-right}
 use native.Mathlib.Omega.{arith}
 use Rattle.clusters.specs.Sets.{Within, Apart, within, single, union}
-use Rattle.clusters.proofs.Sets.{single-some, within-true, within-false, true-within, within-trans, within-refl, within-antisym, within-apart, apart-within, apart-sym, within-union-left, within-union-right}
+use Rattle.clusters.proofs.Sets.{single-some, within-true, within-false, true-within, within-trans, within-refl, within-antisym, apart-sym, within-union-left, within-union-right}
 use Rattle.trees.specs.Lists.{Among, NoneTwice, sorted}
 use Rattle.trees.specs.Records.{listed, recordOf}
 use Rattle.trees.specs.Tree.{Tree, Forest, leaves, leavesOf, cluster, clusterOf, clusters, clustersOf, On}
@@ -35,25 +35,20 @@ forest-clusters f p = record { some = λ x m. clustersOf-inside f x m .0; nested
 
 -- ---- lists of clusters within two disjoint sets
 
--- what stands in k does not matter to the clusters of l, nor the other way round
-module _ (a c d : ℕ) (l k ds : List ℕ) (apart : Apart c d) (l-inside : Inside l c) (k-inside : Inside k d) (whole : Clusters ds)
-    (l-in : (x : ℕ) → Among x l → Among x ds) (k-in : (x : ℕ) → Among x k → Among x ds)
-    (in-either : (x y : ℕ) → Among x ds → Within x y → Among y l ⊎ Among y k → Among x l ⊎ Among x k) where
-  pub joining-left : Clusters l → joining ds a l ≡ joining l a l
-  joining-left h =
-      joining-local ds l a l whole h (λ p m. (l-in p m, m)) (λ p x m w i. left p x m w i (in-either x p i w (inl m))) (λ p x m w i. l-in x i)
-    where
-      left : (p x : ℕ) → Among p l → Within x p → Among x ds → Among x l ⊎ Among x k → Among x l
-      left p x m w i (inl h) = h
-      left p x m w i (inr h) = absurd (not-across d c p (apart-sym c d apart) (k-inside x h .0) (k-inside x h .1) (l-inside p m .1) w)
+-- what stands in k does not matter to the clusters of l
+joining-part :
+    (a c d : ℕ) (l k ds : List ℕ) → Apart c d → Inside l c → Inside k d → Clusters ds → ((x : ℕ) → Among x l → Among x ds)
+    → ((x y : ℕ) → Among x ds → Within x y → Among y l → Among x l ⊎ Among x k) → Clusters l → joining ds a l ≡ joining l a l
+joining-part a c d l k ds apart l-inside k-inside whole l-in in-either h =
+    joining-local ds l a l whole h (λ p m. (l-in p m, m)) (λ p x m w i. own p x m w (in-either x p i w m)) (λ p x m w i. l-in x i)
+  where
+    own : (p x : ℕ) → Among p l → Within x p → Among x l ⊎ Among x k → Among x l
+    own p x m w (inl h) = h
+    own p x m w (inr h) = absurd (not-across d c p (apart-sym c d apart) (k-inside x h .0) (k-inside x h .1) (l-inside p m .1) w)
 
-  pub joining-right : Clusters k → joining ds a k ≡ joining k a k
-  joining-right h =
-      joining-local ds k a k whole h (λ p m. (k-in p m, m)) (λ p x m w i. right p x m w i (in-either x p i w (inr m))) (λ p x m w i. k-in x i)
-    where
-      right : (p x : ℕ) → Among p k → Within x p → Among x ds → Among x l ⊎ Among x k → Among x k
-      right p x m w i (inl h) = absurd (not-across c d p apart (l-inside x h .0) (l-inside x h .1) (k-inside p m .1) w)
-      right p x m w i (inr h) = h
+turned : {A B : Type 0} → A ⊎ B → B ⊎ A
+turned (inl x) = inr x
+turned (inr x) = inl x
 
 -- ---- one cluster
 
@@ -242,10 +237,11 @@ module _ (a : ℕ) (t : Tree) (f : Forest) (p : NoneTwice (leaves t ++ leavesOf 
       ≡ oneIf (within (cluster t) a || someWithin a f) + (joining (clusters t) a (clusters t) + joining (clustersOf f) a (clustersOf f))
   joining-node whole off =
       let every = allOf t f in
-      let first = joining-left a (cluster t) (clusterOf f) (clusters t) (clustersOf f) every two-apart (clusters-inside t) (clustersOf-inside f) whole
-      (λ x m. first-among m) (λ x m. others-among m) below-only (tree-clusters t (none-twice-left (leaves t) (leavesOf f) p)) in
-      let others = joining-right a (cluster t) (clusterOf f) (clusters t) (clustersOf f) every two-apart (clusters-inside t) (clustersOf-inside f) whole
-      (λ x m. first-among m) (λ x m. others-among m) below-only (forest-clusters f (none-twice-right (leaves t) (leavesOf f) p)) in
+      let first = joining-part a (cluster t) (clusterOf f) (clusters t) (clustersOf f) every two-apart (clusters-inside t) (clustersOf-inside f) whole
+      (λ x m. first-among m) (λ x y m w h. below-only x y m w (inl h)) (tree-clusters t (none-twice-left (leaves t) (leavesOf f) p)) in
+      let others = joining-part a (clusterOf f) (cluster t) (clustersOf f) (clusters t) every (apart-sym (cluster t) (clusterOf f) two-apart) (clustersOf-inside f)
+      (clusters-inside t) whole (λ x m. others-among m) (λ x y m w h. turned (below-only x y m w (inr h)))
+      (forest-clusters f (none-twice-right (leaves t) (leavesOf f) p)) in
       omega (
         arith,
         joining-append every a (clusters t ++ clustersOf f) (topOf t f ∷ []),
@@ -260,17 +256,17 @@ module _ (a : ℕ) (t : Tree) (f : Forest) (p : NoneTwice (leaves t ++ leavesOf 
   joining-beside : Clusters (clusters t ++ clustersOf f)
       → joining (clusters t ++ clustersOf f) a (clusters t ++ clustersOf f) ≡ joining (clusters t) a (clusters t) + joining (clustersOf f) a (clustersOf f)
   joining-beside whole =
+      let both = clusters t ++ clustersOf f in
       omega (
         arith,
-        joining-append (clusters t ++ clustersOf f) a (clusters t) (clustersOf f),
-        joining-left a (cluster t) (clusterOf f) (clusters t) (clustersOf f) (clusters t ++ clustersOf f) two-apart (clusters-inside t) (clustersOf-inside f) whole
-            (λ x m. Memᴰ·append-left (clustersOf f) m) (λ x m. Memᴰ·append-right (clusters t) m) kept (tree-clusters t (none-twice-left (leaves t) (leavesOf f) p)),
-        joining-right a (cluster t) (clusterOf f) (clusters t) (clustersOf f) (clusters t ++ clustersOf f) two-apart (clusters-inside t) (clustersOf-inside f) whole
-            (λ x m. Memᴰ·append-left (clustersOf f) m) (λ x m. Memᴰ·append-right (clusters t) m) kept (forest-clusters f (none-twice-right (leaves t) (leavesOf f) p)),
+        joining-append both a (clusters t) (clustersOf f),
+        joining-part a (cluster t) (clusterOf f) (clusters t) (clustersOf f) both two-apart (clusters-inside t) (clustersOf-inside f) whole
+            (λ x m. Memᴰ·append-left (clustersOf f) m) (λ x y m w h. List·Memᴰ·append-cases (clusters t) m)
+            (tree-clusters t (none-twice-left (leaves t) (leavesOf f) p)),
+        joining-part a (clusterOf f) (cluster t) (clustersOf f) (clusters t) both (apart-sym (cluster t) (clusterOf f) two-apart) (clustersOf-inside f)
+            (clusters-inside t) whole (λ x m. Memᴰ·append-right (clusters t) m) (λ x y m w h. turned (List·Memᴰ·append-cases (clusters t) m))
+            (forest-clusters f (none-twice-right (leaves t) (leavesOf f) p)),
       )
-    where
-      kept : (x y : ℕ) → Among x (clusters t ++ clustersOf f) → Within x y → Among y (clusters t) ⊎ Among y (clustersOf f) → Among x (clusters t) ⊎ Among x (clustersOf f)
-      kept x y m w h = List·Memᴰ·append-cases (clusters t) m
 
 -- ---- down the tree
 

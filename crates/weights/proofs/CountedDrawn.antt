@@ -19,9 +19,9 @@ use Rattle.trees.proofs.Nodes.{Inside, children-apart, clusters-inside, cluster
 use Rattle.trees.proofs.Recorded.{listed-record}
 use Rattle.weights.specs.Count.{maximalWithin, kDrawn, oneOr}
 use Rattle.weights.specs.Lineages.{lineagesDrawn, lineagesDrawnOf}
-use Rattle.weights.proofs.Tops.{Top, k-tops, among-tops, tops-among, tops-once, k-none, k-counts, top-also, k-same}
+use Rattle.weights.proofs.Tops.{Top, drawn-tops, among-tops, tops-among, tops-once, drawn-none, drawn-counts, top-also, drawn-same}
 
--- ---- k of lists put together
+-- ---- 01's count of lists put together
 
 -- a set that has species lies within no set that is disjoint from one around it
 pub not-across : {x : ℕ} (c d y : ℕ) → Apart c d → 1 ≤ x → Within x c → Within y d → Within x y → ⊥
@@ -29,12 +29,12 @@ not-across {x} c d y p s w v i =
     let e = within-apart d (within-trans x y d i v) (apart-within x c d w p) in omega arith
 
 -- clusters within two disjoint sets are counted apart
-pub k-apart : (a c d : ℕ) (l k : List ℕ) → Apart c d → Inside l c → Inside k d → NoneTwice (l ++ k) → kDrawn (l ++ k) a ≡ kDrawn l a + kDrawn k a
-k-apart a c d l k p i j n =
-    k-counts (l ++ k) a (maximalWithin l a ++ maximalWithin k a) n once (λ x t. split x t (List·Memᴰ·append-cases l (t .among)))
+pub drawn-apart : (a c d : ℕ) (l k : List ℕ) → Apart c d → Inside l c → Inside k d → NoneTwice (l ++ k) → kDrawn (l ++ k) a ≡ kDrawn l a + kDrawn k a
+drawn-apart a c d l k p i j n =
+    drawn-counts (l ++ k) a (maximalWithin l a ++ maximalWithin k a) n once (λ x t. split x t (List·Memᴰ·append-cases l (t .among)))
     (λ x h. join x (List·Memᴰ·append-cases (maximalWithin l a) h))
     ∙ length-append (maximalWithin l a) (maximalWithin k a)
-    ∙ ap₂ _+_ (sym (k-tops l a)) (sym (k-tops k a))
+    ∙ ap₂ _+_ (sym (drawn-tops l a)) (sym (drawn-tops k a))
   where
     once : NoneTwice (maximalWithin l a ++ maximalWithin k a)
     once =
@@ -65,21 +65,21 @@ k-apart a c d l k p i j n =
         joined x (Memᴰ·append-right l (t .among)) (t .inside) (λ y m w v. right x y t w v (List·Memᴰ·append-cases l m))
 
 -- a cluster that does not lie within A is not counted
-pub k-outside : (a c : ℕ) (l : List ℕ) → (Within c a → ⊥) → NoneTwice (l ++ (c ∷ [])) → kDrawn (l ++ (c ∷ [])) a ≡ kDrawn l a
-k-outside a c l off n =
-    k-counts (l ++ (c ∷ [])) a (maximalWithin l a) n (tops-once l a (none-twice-left l (c ∷ []) n))
+pub drawn-outside : (a c : ℕ) (l : List ℕ) → (Within c a → ⊥) → NoneTwice (l ++ (c ∷ [])) → kDrawn (l ++ (c ∷ [])) a ≡ kDrawn l a
+drawn-outside a c l off n =
+    drawn-counts (l ++ (c ∷ [])) a (maximalWithin l a) n (tops-once l a (none-twice-left l (c ∷ []) n))
     (λ x t. tops-among l a (top-also (λ m. kept x (t .inside) (List·Memᴰ·append-cases l m)) (λ y m w. Memᴰ·append-left (c ∷ []) m) t))
     (λ x h. top-also (λ m. Memᴰ·append-left (c ∷ []) m) (λ y m w. kept y w (List·Memᴰ·append-cases l m)) (among-tops l a h))
-    ∙ sym (k-tops l a)
+    ∙ sym (drawn-tops l a)
   where
     kept : (x : ℕ) → Within x a → Among x l ⊎ Among x (c ∷ []) → Among x l
     kept x w (inl m) = m
     kept x w (inr m) = absurd (off (subst (λ (y : ℕ). Within y a) (List·Memᴰ·eq-of-singleton m) w))
 
 -- a cluster within A that holds all others is counted alone
-pub k-all : (a c : ℕ) (l : List ℕ) → Within c a → Inside l c → NoneTwice (l ++ (c ∷ [])) → kDrawn (l ++ (c ∷ [])) a ≡ 1
-k-all a c l w i n =
-    k-counts (l ++ (c ∷ [])) a (c ∷ []) n (none-twice-one c) (λ x t. only x t)
+pub drawn-all : (a c : ℕ) (l : List ℕ) → Within c a → Inside l c → NoneTwice (l ++ (c ∷ [])) → kDrawn (l ++ (c ∷ [])) a ≡ 1
+drawn-all a c l w i n =
+    drawn-counts (l ++ (c ∷ [])) a (c ∷ []) n (none-twice-one c) (λ x t. only x t)
     (λ x h. subst (λ (y : ℕ). Top (l ++ (c ∷ [])) a y) (sym (List·Memᴰ·eq-of-singleton h)) whole)
   where
     last-one : Among c (l ++ (c ∷ []))
@@ -98,49 +98,49 @@ k-all a c l w i n =
 -- ---- down the tree
 
 -- a last cluster that holds all before it: counted alone where it lies within A, else passed over
-k-top : (a c below : ℕ) (l : List ℕ) → Inside l c → NoneTwice (l ++ (c ∷ [])) → kDrawn l a ≡ below → kDrawn (l ++ (c ∷ [])) a ≡ oneOr (within c a) below
-k-top a c below l i n e = go (within c a) refl
+drawn-top : (a c below : ℕ) (l : List ℕ) → Inside l c → NoneTwice (l ++ (c ∷ [])) → kDrawn l a ≡ below → kDrawn (l ++ (c ∷ [])) a ≡ oneOr (within c a) below
+drawn-top a c below l i n e = go (within c a) refl
   where
     go : (b : Bool) → within c a ≡ b → kDrawn (l ++ (c ∷ [])) a ≡ oneOr b below
-    go true h = k-all a c l (within-true c a h) i n
-    go false h = k-outside a c l (within-false c a h) n ∙ e
+    go true h = drawn-all a c l (within-true c a h) i n
+    go false h = drawn-outside a c l (within-false c a h) n ∙ e
 
 -- the clusters of the first child and those of the others are counted apart
-k-children :
+drawn-children :
     (a : ℕ) (t : Tree) (f : Forest) → NoneTwice (leaves t ++ leavesOf f) → NoneTwice (clusters t ++ clustersOf f)
     → kDrawn (clusters t ++ clustersOf f) a ≡ kDrawn (clusters t) a + kDrawn (clustersOf f) a
-k-children a t f p n =
-    k-apart a (cluster t) (clusterOf f) (clusters t) (clustersOf f) (children-apart t f p) (clusters-inside t) (clustersOf-inside f) n
+drawn-children a t f p n =
+    drawn-apart a (cluster t) (clusterOf f) (clusters t) (clustersOf f) (children-apart t f p) (clusters-inside t) (clustersOf-inside f) n
 
 mutual
   unfolding leaves leavesOf cluster clusterOf clusters clustersOf lineagesDrawn lineagesDrawnOf
 
-  k-down : (a : ℕ) (t : Tree) → NoneTwice (leaves t) → kDrawn (clusters t) a ≡ lineagesDrawn a t
-  k-down a (leaf i b) p = k-top a (single i) 0 [] (λ x h. absurd (List·Memᴰ·not-nil h)) (none-twice-one (single i)) (k-none a)
-  k-down a (node t f b) p =
+  drawn-down : (a : ℕ) (t : Tree) → NoneTwice (leaves t) → kDrawn (clusters t) a ≡ lineagesDrawn a t
+  drawn-down a (leaf i b) p = drawn-top a (single i) 0 [] (λ x h. absurd (List·Memᴰ·not-nil h)) (none-twice-one (single i)) (drawn-none a)
+  drawn-down a (node t f b) p =
       let once = clusters-once (node t f b) p in
-      k-top a (union (cluster t) (clusterOf f)) (lineagesDrawn a t + lineagesDrawnOf a f) (clusters t ++ clustersOf f)
+      drawn-top a (union (cluster t) (clusterOf f)) (lineagesDrawn a t + lineagesDrawnOf a f) (clusters t ++ clustersOf f)
       (λ x h. clusters-inside (node t f b) x (Memᴰ·append-left (union (cluster t) (clusterOf f) ∷ []) h)) once
-      (k-children a t f p (none-twice-left (clusters t ++ clustersOf f) (union (cluster t) (clusterOf f) ∷ []) once)
-      ∙ ap₂ _+_ (k-down a t (none-twice-left (leaves t) (leavesOf f) p)) (k-downOf a f (none-twice-right (leaves t) (leavesOf f) p)))
+      (drawn-children a t f p (none-twice-left (clusters t ++ clustersOf f) (union (cluster t) (clusterOf f) ∷ []) once)
+      ∙ ap₂ _+_ (drawn-down a t (none-twice-left (leaves t) (leavesOf f) p)) (drawn-downOf a f (none-twice-right (leaves t) (leavesOf f) p)))
 
-  k-downOf : (a : ℕ) (f : Forest) → NoneTwice (leavesOf f) → kDrawn (clustersOf f) a ≡ lineagesDrawnOf a f
-  k-downOf a (last t) p = k-down a t p
-  k-downOf a (more t f) p =
-      k-children a t f p (clustersOf-once (more t f) p)
-      ∙ ap₂ _+_ (k-down a t (none-twice-left (leaves t) (leavesOf f) p)) (k-downOf a f (none-twice-right (leaves t) (leavesOf f) p))
+  drawn-downOf : (a : ℕ) (f : Forest) → NoneTwice (leavesOf f) → kDrawn (clustersOf f) a ≡ lineagesDrawnOf a f
+  drawn-downOf a (last t) p = drawn-down a t p
+  drawn-downOf a (more t f) p =
+      drawn-children a t f p (clustersOf-once (more t f) p)
+      ∙ ap₂ _+_ (drawn-down a t (none-twice-left (leaves t) (leavesOf f) p)) (drawn-downOf a f (none-twice-right (leaves t) (leavesOf f) p))
 
 -- ---- the theorem
 
--- k of a drawn tree's clusters is its number of lineages for A, whatever A is
+-- 01's count of a drawn tree's clusters is its number of lineages for A, whatever A is
 pub drawn-counted-down : {s : ℕ} {t : Tree} (a : ℕ) → On s t → kDrawn (clusters t) a ≡ lineagesDrawn a t
-drawn-counted-down {s} {t} a o = k-down a t (o .once)
+drawn-counted-down {s} {t} a o = drawn-down a t (o .once)
 
--- and so is k of the clusters that its record lists
+-- and so is that of the clusters that its record lists
 pub drawn-of-record : {s : ℕ} {t : Tree} (a : ℕ) → On s t → kDrawn (listed (recordOf (clusters t))) a ≡ lineagesDrawn a t
 drawn-of-record {s} {t} a o =
     let once = clusters-once t (o .once) in
     ap (λ (l : List ℕ). kDrawn l a) (listed-record (clusters t))
-    ∙ k-same (sorted (clusters t)) (clusters t) a (rising-none-twice (sorted (clusters t)) (rising-sorted (clusters t) once)) once
+    ∙ drawn-same (sorted (clusters t)) (clusters t) a (rising-none-twice (sorted (clusters t)) (rising-sorted (clusters t) once)) once
     (λ x h. among-sorted (clusters t) h) (λ x h. sorted-among (clusters t) h)
     ∙ drawn-counted-down a o

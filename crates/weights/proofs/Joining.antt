@@ -1,19 +1,19 @@
 -- The nodes that #101 counts: those that do not lie within A and have a child that does; and that their number does not depend on the order of a list.
 use Prim.Native.Nat.{ℕ, _+_, _≤_}
 use mathlib.Core.Path.{_≡_, refl, sym, ap, ap₂, _∙_}
-use mathlib.Core.Logic.{_⊎_, inl, inr}
+use mathlib.Core.Logic.{inl, inr}
 use mathlib.Core.Bool.{Bool, true, false}
 use mathlib.Core.List.{List, [], _∷_, _++_, List·Memᴰ·head as here, List·Memᴰ·tail as there}
 use native.Mathlib.Omega.{arith}
 use lib.ListN.{length, length-append}
-use Rattle.clusters.specs.Sets.{Within, Apart, within}
-use Rattle.clusters.proofs.Sets.{within-trans, within-antisym, within-apart, apart-within, apart-sym}
+use Rattle.clusters.specs.Sets.{Within, within}
+use Rattle.clusters.proofs.Sets.{within-trans, within-apart, apart-within}
 use Rattle.trees.specs.Lists.{Among, NoneTwice, keepIf, keep}
 use Rattle.trees.specs.Records.{Nested}
 use Rattle.trees.specs.Valid.{among, every}
 use Rattle.trees.specs.Drawn.{children}
 use Rattle.trees.proofs.Booleans.{never-both, unless}
-use Rattle.trees.proofs.Listing.{keep-among, among-keep, some-of, of-some, none-twice-keep}
+use Rattle.trees.proofs.Listing.{keep-append, keep-among, among-keep, some-of, of-some, none-twice-keep}
 use Rattle.trees.proofs.Nodes.{AllNested}
 use Rattle.trees.proofs.Children.{Child, among-children, children-among}
 use Rattle.trees.proofs.ValidTest.{Tells, tells-among, tells-every, tells-within}
@@ -111,15 +111,6 @@ pub joining-none : (cs : List ℕ) (a : ℕ) → joining cs a [] ≡ 0
 unfolding joining keep
 joining-none cs a = refl
 
-keep-append : (test : ℕ → Bool) (l k : List ℕ) → keep test (l ++ k) ≡ keep test l ++ keep test k
-unfolding keep
-keep-append test [] k = refl
-keep-append test (x ∷ l) k = go (test x) (keep-append test l k)
-  where
-    go : (b : Bool) → keep test (l ++ k) ≡ keep test l ++ keep test k → keepIf b x (keep test (l ++ k)) ≡ keepIf b x (keep test l) ++ keep test k
-    go true e = ap (λ (r : List ℕ). x ∷ r) e
-    go false e = e
-
 pub joining-append : (cs : List ℕ) (a : ℕ) (l k : List ℕ) → joining cs a (l ++ k) ≡ joining cs a l + joining cs a k
 unfolding joining
 joining-append cs a l k =
@@ -178,18 +169,13 @@ joining-reordered cs ds a p q f g =
 
 -- ---- k
 
-pub k-joining : (cs : List ℕ) (a : ℕ) → every (λ x. within x a) cs ≡ false → kOf cs a ≡ joining cs a cs
-unfolding kOf joining
-k-joining cs a e = rw e refl
-
-pub k-held : (cs : List ℕ) (a : ℕ) → every (λ x. within x a) cs ≡ true → kOf cs a ≡ 1
-unfolding kOf
-k-held cs a e = rw e refl
-
 -- k is one, or the number of nodes that are counted
 pub k-either : (cs : List ℕ) (a : ℕ) → kOf cs a ≡ oneOr (every (λ x. within x a) cs) (joining cs a cs)
 unfolding kOf joining
 k-either cs a = refl
+
+pub k-held : (cs : List ℕ) (a : ℕ) → every (λ x. within x a) cs ≡ true → kOf cs a ≡ 1
+k-held cs a e = k-either cs a ∙ ap (λ (b : Bool). oneOr b (joining cs a cs)) e
 
 -- the order of the clusters does not matter
 pub k-same :

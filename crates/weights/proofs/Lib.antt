@@ -10,3 +10,4 @@ pub mod Pass
 pub mod Checked
 pub mod RunningSums
 pub mod Shown
+pub mod Star

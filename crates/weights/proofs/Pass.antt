@@ -1,26 +1,25 @@
 -- The one pass over a gene tree's clusters, from the smallest up: what it has counted are the nodes passed that have a child within A.
-use Prim.Native.Nat.{ℕ, suc, _+_, _-_, _^_, _≤_, _<_}
+use Prim.Native.Nat.{ℕ, suc, _+_, _-_, _≤_, _<_}
 use mathlib.Core.Path.{_≡_, refl, sym, ap, ap₂, _∙_, subst}
-use mathlib.Core.Bool.{Bool, true, false, _&&_}
+use mathlib.Core.Bool.{Bool, true, false, _&&_, and-true, and-false, and-assoc}
 use mathlib.Core.Logic.{_⊎_, inl, inr}
-use mathlib.Core.List.{List, [], _∷_, _++_, List·Memᴰ·head as here, List·Memᴰ·tail as there, List·Memᴰ·not-nil, List·Memᴰ·cases-cons, List·Memᴰ·append-cases, List·Memᴰ·eq-of-singleton, Memᴰ·append-left, Memᴰ·append-right}
-use native.Mathlib.Numerals.{add-one, one-add}
+use mathlib.Core.List.{List, [], _∷_, _++_, List·Memᴰ·head as here, List·Memᴰ·not-nil, List·Memᴰ·cases-cons, List·Memᴰ·append-cases, List·Memᴰ·eq-of-singleton, Memᴰ·append-left, Memᴰ·append-right}
+use native.Mathlib.Numerals.{add-one}
 use native.Mathlib.Omega.{arith}
 use lib.ListN.{length, take, drop, getD, length-take, take-append-drop}
 use lib.Seq.{take-suc, drop-cons, getD-take, getD-drop, take-all}
 use lib.Bits.{bitAnd}
 use Rattle.clusters.specs.Sets.{Has, Within, within, single}
 use Rattle.clusters.proofs.Members.{single-has, some-has, has-some, has-and, and-has, has-of-apart, has-of-within}
-use Rattle.clusters.proofs.Sets.{within-le, within-trans, within-dec, single-within, within-single, has-minus, minus-has, true-within, within-true, within-false}
+use Rattle.clusters.proofs.Sets.{within-le, within-trans, within-dec, single-within, has-minus, minus-has, within-true, within-false}
 use Rattle.clusters.proofs.Parts.{part-and}
 use Rattle.trees.specs.Lists.{Among, Rising}
-use Rattle.trees.specs.Records.{count, listed, Nested, ValidOn}
+use Rattle.trees.specs.Records.{count, listed, Nested}
 use Rattle.trees.specs.Valid.{every}
 use Rattle.trees.specs.Drawn.{children}
 use Rattle.trees.proofs.Booleans.{unless}
 use Rattle.trees.proofs.Order.{rising-below}
 use Rattle.trees.proofs.Children.{Hierarchy, hierarchy-of-valid, Child, among-children, within-child}
-use Rattle.trees.proofs.ValidTest.{Tells}
 use Rattle.weights.specs.Count.{holdsMaximal, kOf, oneOr}
 use Rattle.weights.specs.Work.{Countable}
 use Rattle.weights.proofs.Joining.{Joins, Clusters, tells-joins, joining, joining-none, joining-append, joining-counted, joining-passed, passed-inside, k-either}
@@ -161,23 +160,11 @@ module _ {s a loose : ℕ} (x : ℕ) (done rest : List ℕ) (h : Hierarchy s (do
 
 -- ---- the pass over a record
 
-and-true : (b : Bool) → (b && true) ≡ b
-and-true true = refl
-and-true false = refl
-
-and-false : (b : Bool) → (b && false) ≡ false
-and-false true = refl
-and-false false = refl
-
 -- every cluster of a longer list lies within A
 every-more : (a x : ℕ) (l : List ℕ) → every (λ y. within y a) (l ++ (x ∷ [])) ≡ (every (λ y. within y a) l && within x a)
 unfolding every
 every-more a x [] = and-true (within x a)
 every-more a x (y ∷ l) = ap (λ (b : Bool). within y a && b) (every-more a x l) ∙ sym (and-assoc (within y a) (every (λ y. within y a) l) (within x a))
-  where
-    and-assoc : (a b c : Bool) → ((a && b) && c) ≡ (a && (b && c))
-    and-assoc true b c = refl
-    and-assoc false b c = refl
 
 -- the first i clusters of g are behind the pass
 pub record Passing (g : List ℕ) (a k loose : ℕ) (all : Bool) (i : ℕ) : Type 0 where

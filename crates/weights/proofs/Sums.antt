@@ -1,6 +1,6 @@
 -- Weights and scores as sums: over lists of gene trees put together, over their order, and how large they are.
 use Prim.Native.Nat.{ℕ, _+_, _*_, _≤_, _<_}
-use mathlib.Core.Path.{_≡_, refl, _∙_}
+use mathlib.Core.Path.{_≡_, refl}
 use mathlib.Core.List.{List, [], _∷_, _++_, map, List·Memᴰ, List·Memᴰ·head as here, List·Memᴰ·tail as there}
 use native.Mathlib.Nat.{mul-suc}
 use native.Mathlib.Omega.{arith}

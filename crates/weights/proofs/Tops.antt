@@ -35,13 +35,13 @@ pub record Top (cs : List ℕ) (a x : ℕ) : Type 0 where
 inner : List ℕ → ℕ → List ℕ
 inner cs a = keep (λ x. within x a) cs
 
-pub k-tops : (cs : List ℕ) (a : ℕ) → kDrawn cs a ≡ length (maximalWithin cs a)
+pub drawn-tops : (cs : List ℕ) (a : ℕ) → kDrawn cs a ≡ length (maximalWithin cs a)
 unfolding kDrawn
-k-tops cs a = refl
+drawn-tops cs a = refl
 
-pub k-none : (a : ℕ) → kDrawn [] a ≡ 0
+pub drawn-none : (a : ℕ) → kDrawn [] a ≡ 0
 unfolding kDrawn maximalWithin maximal keep some
-k-none a = refl
+drawn-none a = refl
 
 among-inner : {x : ℕ} (cs : List ℕ) (a : ℕ) → Among x (inner cs a) → Among x cs × Within x a
 unfolding inner
@@ -93,22 +93,22 @@ unfolding maximalWithin maximal inner
 tops-once cs a p =
     none-twice-keep (λ x. not (some (λ y. properly x y) (inner cs a))) (inner cs a) (none-twice-keep (λ x. within x a) cs p)
 
--- ---- k is the number of them
+-- ---- 01's count is the number of them
 
--- k is the length of any list that holds exactly the maximal clusters within A, each once
-pub k-counts :
+-- it is the length of any list that holds exactly the maximal clusters within A, each once
+pub drawn-counts :
     (cs : List ℕ) (a : ℕ) (l : List ℕ) → NoneTwice cs → NoneTwice l → ((x : ℕ) → Top cs a x → Among x l) → ((x : ℕ) → Among x l → Top cs a x)
     → kDrawn cs a ≡ length l
-k-counts cs a l p q f g =
-    k-tops cs a ∙ same-length (maximalWithin cs a) l (tops-once cs a p) q (λ x h. f x (among-tops cs a h)) (λ x h. tops-among cs a (g x h))
+drawn-counts cs a l p q f g =
+    drawn-tops cs a ∙ same-length (maximalWithin cs a) l (tops-once cs a p) q (λ x h. f x (among-tops cs a h)) (λ x h. tops-among cs a (g x h))
 
 -- what a list with the same clusters has maximal within A
 pub top-also : {a x : ℕ} {cs ds : List ℕ} → (Among x cs → Among x ds) → ((y : ℕ) → Among y ds → Within y a → Among y cs) → Top cs a x → Top ds a x
 top-also f g t = record { among = f (t .among); inside = t .inside; greatest = λ y m w v. t .greatest y (g y m w) w v }
 
 -- the order of the clusters does not matter
-pub k-same : (cs ds : List ℕ) (a : ℕ) → NoneTwice cs → NoneTwice ds → ((x : ℕ) → Among x cs → Among x ds) → ((x : ℕ) → Among x ds → Among x cs) → kDrawn cs a ≡ kDrawn ds a
-k-same cs ds a p q f g =
-    k-counts cs a (maximalWithin ds a) p (tops-once ds a q) (λ x t. tops-among ds a (top-also (f x) (λ y m w. g y m) t))
+pub drawn-same : (cs ds : List ℕ) (a : ℕ) → NoneTwice cs → NoneTwice ds → ((x : ℕ) → Among x cs → Among x ds) → ((x : ℕ) → Among x ds → Among x cs) → kDrawn cs a ≡ kDrawn ds a
+drawn-same cs ds a p q f g =
+    drawn-counts cs a (maximalWithin ds a) p (tops-once ds a q) (λ x t. tops-among ds a (top-also (f x) (λ y m w. g y m) t))
     (λ x h. top-also (g x) (λ y m w. f y m) (among-tops ds a h))
-    ∙ sym (k-tops ds a)
+    ∙ sym (drawn-tops ds a)

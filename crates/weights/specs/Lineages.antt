@@ -30,6 +30,7 @@ unfoldable mutual
       oneOr (within (cluster (node t f b)) a)
       (oneIf (within (cluster t) a || someWithin a f) + (noneOr (within (cluster t) a) (lineages a t) + othersOf a f))
 
+  -- what the children that do not lie within A count
   pub othersOf : ℕ → Forest → ℕ
   othersOf a (last t) = noneOr (within (cluster t) a) (lineages a t)
   othersOf a (more t f) = noneOr (within (cluster t) a) (lineages a t) + othersOf a f
@@ -41,6 +42,7 @@ unfoldable mutual
   lineagesDrawn a (leaf i b) = oneOr (within (cluster (leaf i b)) a) 0
   lineagesDrawn a (node t f b) = oneOr (within (cluster (node t f b)) a) (lineagesDrawn a t + lineagesDrawnOf a f)
 
+  -- what the children count together
   pub lineagesDrawnOf : ℕ → Forest → ℕ
   lineagesDrawnOf a (last t) = lineagesDrawn a t
   lineagesDrawnOf a (more t f) = lineagesDrawn a t + lineagesDrawnOf a f
