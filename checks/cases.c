@@ -210,6 +210,12 @@ static void show_record(const uint16_t *r) {
     for (size_t i = 0; i < upto; i++) printf(" %u", (unsigned)r[i]);
 }
 
+static void show_reading(st_Reading r) {
+    show(r.number, r.place, r.next);
+    show_record(r.numbers);
+    printf("\n");
+}
+
 /* ---- the calls */
 
 static void judge(void) {
@@ -218,12 +224,14 @@ static void judge(void) {
     printf("\n");
 }
 
-static void read_tree(void) {
+static void read_species(void) {
     Bytes roster = bytes(0), text = bytes(1);
-    st_Reading r = st_read(roster.at, roster.length, text.at, text.length, number(2));
-    show(r.number, r.place, r.next);
-    show_record(r.numbers);
-    printf("\n");
+    show_reading(st_read(roster.at, roster.length, text.at, text.length, number(2)));
+}
+
+static void read_gene(void) {
+    Bytes roster = bytes(0), text = bytes(1);
+    show_reading(st_read_gene(roster.at, roster.length, text.at, text.length, number(2)));
 }
 
 static void write_tree(void) {
@@ -279,7 +287,7 @@ static const struct {
     char letter;
     void (*run)(void);
 } calls[] = {
-    {'J', judge}, {'R', read_tree}, {'W', write_tree}, {'K', weigh}, {'S', score}, {'M', mark}, {'F', search}, {'P', run_program},
+    {'J', judge}, {'R', read_species}, {'G', read_gene}, {'W', write_tree}, {'K', weigh}, {'S', score}, {'M', mark}, {'F', search}, {'P', run_program},
 };
 
 static void run(void) {

@@ -20,7 +20,7 @@ int main(void) {
     uint16_t splits[8];
 
     for (size_t i = 0; i < 2; i++) {
-        st_Reading read = st_read((const uint8_t *)roster, roster_length, (const uint8_t *)texts[i], strlen(texts[i]), 0);
+        st_Reading read = st_read_gene((const uint8_t *)roster, roster_length, (const uint8_t *)texts[i], strlen(texts[i]), 0);
         if (read.number != 0) return refused(read.number, read.place);
         memcpy(genes + 32 * i, read.numbers, sizeof read.numbers);
     }

@@ -39,10 +39,13 @@ typedef struct {
 /* value: how many species the roster line has */
 st_Reply st_roster(const uint8_t *line, size_t line_length);
 
-/* the record of the tree that begins at start, and the offset just after its `;` */
+/* the record of the species tree that begins at start, which has to have every species, and the offset just after its `;` */
 st_Reading st_read(const uint8_t *line, size_t line_length, const uint8_t *text, size_t text_length, size_t start);
 
-/* value: the length of the text */
+/* the same for a gene tree, which may lack species */
+st_Reading st_read_gene(const uint8_t *line, size_t line_length, const uint8_t *text, size_t text_length, size_t start);
+
+/* value: the length of the text; tree is a species tree's record or a gene tree's */
 st_Reply st_write(const uint8_t *line, size_t line_length, st_Record tree, uint8_t *out, size_t out_length);
 
 /* value: the weight of the cluster */

@@ -1,4 +1,5 @@
 //! The case file: one call a line, and the answer that is printed for it. README.md beside this file says how a line is written.
+use crate::reader::Kind;
 use crate::trees::Record;
 use crate::{lineages, reader, report, roster, search, writer, Refusal};
 use std::fmt::Write;
@@ -108,9 +109,10 @@ pub fn answer(case: &[u8]) -> Vec<u8> {
     let mut line = String::new();
     match case[0] {
         b'J' => reply(&mut line, &roster::names(&bytes(field[0])).map(|names| names.len())),
-        b'R' => {
+        b'R' | b'G' => {
+            let kind = if case[0] == b'R' { Kind::Species } else { Kind::Gene };
             let start = number(field[2]);
-            match reader::read(&bytes(field[0]), &bytes(field[1]), start) {
+            match reader::read(kind, &bytes(field[0]), &bytes(field[1]), start) {
                 Ok((record, next)) => {
                     write!(line, "0 0 {next}").unwrap();
                     listed(&mut line, &record);

@@ -1,5 +1,5 @@
 //! Extra lineages: the weight of a cluster, the score of a species tree, the clusters that gene trees show.
-use crate::trees::{binary, clusters, valid, Record};
+use crate::trees::{binary, clusters, valid, valid_gene, Record};
 use crate::{Refusal, GENES, SPECIES};
 
 /// The clusters that are maximal among those that pass the test.
@@ -38,8 +38,22 @@ pub fn k_by_pass(gene: &Record, a: u16) -> usize {
     }
 }
 
+/// The extra lineages of a in a gene tree (02, #104): none where no cluster of it lies within a, else k less one.
+pub fn extra(gene: &Record, a: u16) -> usize {
+    if clusters(gene).iter().any(|&x| x & a == x) {
+        k(gene, a) - 1
+    } else {
+        0
+    }
+}
+
+/// The same by the pass, which counts no node where a has no species of the gene tree.
+pub fn extra_by_pass(gene: &Record, a: u16) -> usize {
+    k_by_pass(gene, a).saturating_sub(1)
+}
+
 pub fn weight_of(genes: &[Record], a: u16) -> usize {
-    genes.iter().map(|gene| k(gene, a) - 1).sum()
+    genes.iter().map(|gene| extra(gene, a)).sum()
 }
 
 /// 1 and 11, then 12 for the gene records and for each slice with its need, which is known only behind 1.
@@ -56,10 +70,10 @@ pub fn shape(n: usize, genes: &[u16], count: usize, lent: &[usize]) -> Result<()
     Ok(())
 }
 
-/// The gene records, or 15 at the first that is not valid.
+/// The gene records, or 15 at the first that is not a valid one.
 pub fn records(n: usize, genes: &[u16], count: usize) -> Result<Vec<Record>, Refusal> {
     let all: Vec<Record> = (0..count).map(|i| genes[32 * i..32 * i + 32].try_into().unwrap()).collect();
-    match all.iter().position(|r| !valid(n, r)) {
+    match all.iter().position(|r| !valid_gene(n, r)) {
         Some(index) => Err((15, index)),
         None => Ok(all),
     }

@@ -1,7 +1,14 @@
 //! Tree text read from the left, to a record or the first fault met.
 use crate::roster::{is_name, names};
-use crate::trees::{record, Record};
+use crate::trees::{record, whole, Record};
 use crate::{Refusal, NAME, NUMBER, OPEN, TEXT};
+
+/// What a text is read as (02, #104): a species tree has every species, a gene tree may lack some.
+#[derive(Clone, Copy, PartialEq, Eq, Debug)]
+pub enum Kind {
+    Species,
+    Gene,
+}
 
 struct Reader<'a> {
     text: &'a [u8],
@@ -159,7 +166,7 @@ impl Reader<'_> {
 }
 
 /// The record of the tree that begins at `start`, and the offset behind its `;`.
-pub fn read(line: &[u8], text: &[u8], start: usize) -> Result<(Record, usize), Refusal> {
+pub fn read(kind: Kind, line: &[u8], text: &[u8], start: usize) -> Result<(Record, usize), Refusal> {
     let names = names(line)?;
     if text.len() > TEXT {
         return Err((2, TEXT));
@@ -172,7 +179,7 @@ pub fn read(line: &[u8], text: &[u8], start: usize) -> Result<(Record, usize), R
     if reader.next()? != b';' {
         return Err((3, reader.at));
     }
-    if cluster as u32 != (1u32 << names.len()) - 1 {
+    if kind == Kind::Species && cluster != whole(names.len()) {
         return Err((9, reader.at));
     }
     Ok((record(&reader.clusters), reader.at + 1))

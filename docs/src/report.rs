@@ -1,5 +1,5 @@
 //! The program: input bytes to output bytes.
-use crate::reader::read;
+use crate::reader::{read, Kind};
 use crate::roster::names;
 use crate::search::search;
 use crate::writer::text;
@@ -41,7 +41,7 @@ fn solve(input: &[u8]) -> Result<Vec<u8>, Refusal> {
         if count == 512 {
             return Err((17, at));
         }
-        let (record, next) = read(line, input, at)?;
+        let (record, next) = read(Kind::Gene, line, input, at)?;
         genes.extend_from_slice(&record);
         count += 1;
         at = next;

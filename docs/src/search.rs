@@ -1,5 +1,5 @@
 //! The least species tree: brute force over all binary trees up to six species, and a plain dynamic program.
-use crate::lineages::{k_by_pass, records, shape, weight_of};
+use crate::lineages::{extra_by_pass, records, shape, weight_of};
 use crate::trees::{record, Record};
 use crate::Refusal;
 
@@ -103,7 +103,7 @@ pub fn weights(n: usize, genes: &[Record]) -> Vec<u32> {
         *w = if n <= 6 {
             weight_of(genes, a as u16) as u32
         } else {
-            genes.iter().map(|gene| k_by_pass(gene, a as u16) as u32 - 1).sum()
+            genes.iter().map(|gene| extra_by_pass(gene, a as u16) as u32).sum()
         };
     }
     all

@@ -132,10 +132,15 @@ impl Seeded {
         self.behind(text);
     }
 
-    /// The record of a tree, and a text that draws it.
+    /// The record of a tree on all species, and a text that draws it.
     pub fn drawn(&mut self, names: &[Vec<u8>]) -> (Record, Vec<u8>) {
+        self.drawn_on((0..names.len()).collect(), names)
+    }
+
+    /// The same on some of the species.
+    pub fn drawn_on(&mut self, species: Vec<usize>, names: &[Vec<u8>]) -> (Record, Vec<u8>) {
         let binary = self.one_in(2);
-        let tree = self.tree((0..names.len()).collect(), binary);
+        let tree = self.tree(species, binary);
         let mut text = Vec::new();
         self.draw(names, &tree, &mut text);
         self.blanks(&mut text);
@@ -167,8 +172,24 @@ impl Seeded {
         text
     }
 
+    /// Some of n species, at least one.
+    pub fn kept(&mut self, n: usize) -> Vec<usize> {
+        let lost = 2 + self.below(4);
+        let kept: Vec<usize> = (0..n).filter(|_| !self.one_in(lost)).collect();
+        if kept.is_empty() {
+            return vec![self.below(n)];
+        }
+        kept
+    }
+
     pub fn gene(&mut self, n: usize, binary: bool) -> Record {
         self.tree((0..n).collect(), binary).record()
+    }
+
+    /// The record of a gene tree on some of n species.
+    pub fn gene_on_kept(&mut self, n: usize, binary: bool) -> Record {
+        let kept = self.kept(n);
+        self.tree(kept, binary).record()
     }
 
     pub fn spoiled(&mut self, mut r: Record) -> Record {

@@ -16,20 +16,43 @@ pub fn clusters(r: &Record) -> &[u16] {
     &r[1..=r[0] as usize]
 }
 
-/// 01's sentence on a valid record, clause by clause.
-pub fn valid(n: usize, r: &Record) -> bool {
+/// The whole set of n species.
+pub fn whole(n: usize) -> u16 {
+    ((1u32 << n) - 1) as u16
+}
+
+/// The largest cluster: the set of the tree's species. 0 where the count is 0 or no count of clusters.
+pub fn largest(r: &Record) -> u16 {
+    let m = r[0] as usize;
+    if m > 31 {
+        return 0;
+    }
+    r[1..=m].iter().copied().max().unwrap_or(0)
+}
+
+/// 01's sentence on a valid record, clause by clause, for the species of a set.
+fn valid_on(species: u16, r: &Record) -> bool {
     let m = r[0] as usize;
     if m > 31 {
         return false;
     }
-    let whole = (1u32 << n) - 1;
     let list = &r[1..=m];
     list.windows(2).all(|w| w[0] < w[1])
         && r[m + 1..].iter().all(|&x| x == 0)
-        && (0..n).all(|i| list.contains(&(1 << i)))
-        && list.contains(&(whole as u16))
-        && list.iter().all(|&a| a >= 1 && a as u32 <= whole)
+        && (0..16).filter(|i| species >> i & 1 == 1).all(|i| list.contains(&(1 << i)))
+        && list.contains(&species)
+        && list.iter().all(|&a| a >= 1 && a & species == a)
         && list.iter().all(|&a| list.iter().all(|&b| a & b == 0 || a & b == a || a & b == b))
+}
+
+/// A species record has every species.
+pub fn valid(n: usize, r: &Record) -> bool {
+    valid_on(whole(n), r)
+}
+
+/// A gene record may lack species (02, #104): it is a valid record on its largest cluster, which lies in 1 to 2^n - 1.
+pub fn valid_gene(n: usize, r: &Record) -> bool {
+    (1..=whole(n)).contains(&largest(r)) && valid_on(largest(r), r)
 }
 
 pub fn binary(n: usize, r: &Record) -> bool {

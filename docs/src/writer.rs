@@ -1,6 +1,6 @@
 //! A record written in the one form.
 use crate::roster::names;
-use crate::trees::{clusters, valid, Record};
+use crate::trees::{clusters, largest, valid_gene, Record};
 use crate::Refusal;
 
 /// The children of a cluster: the largest listed ones within it, by lowest species.
@@ -23,10 +23,10 @@ fn node(names: &[Vec<u8>], list: &[u16], a: u16, text: &mut Vec<u8>) {
     text.push(b')');
 }
 
-/// The text of a record on a good roster.
+/// The text of a valid gene record on a good roster: that of the tree on its largest cluster. Species records are such records too.
 pub fn text(names: &[Vec<u8>], r: &Record) -> Vec<u8> {
     let mut written = Vec::new();
-    node(names, clusters(r), ((1u32 << names.len()) - 1) as u16, &mut written);
+    node(names, clusters(r), largest(r), &mut written);
     written.push(b';');
     written
 }
@@ -34,7 +34,7 @@ pub fn text(names: &[Vec<u8>], r: &Record) -> Vec<u8> {
 /// Writes the text into `out`, and answers its length.
 pub fn write(line: &[u8], r: &Record, out: &mut [u8]) -> Result<usize, Refusal> {
     let names = names(line)?;
-    if !valid(names.len(), r) {
+    if !valid_gene(names.len(), r) {
         return Err((15, 0));
     }
     let written = text(&names, r);

@@ -4,10 +4,10 @@ ghost use mathlib.Core.Path.{_≡_};
 ghost use lib.ListN.{length};
 
 // The whole case file.
-pub fn cases() -> [u8; 1048576]
-    ensures { λ r. ⌜ 1048576 ≡ length r ⌝ }
+pub fn cases() -> [u8; 2097152]
+    ensures { λ r. ⌜ 2097152 ≡ length r ⌝ }
 {
-    [0u8; 1048576]
+    [0u8; 2097152]
 }
 
 // A byte for each cluster and more; the longest roster line, tree text or input has 65,537 bytes.

@@ -1,4 +1,4 @@
--- The rows of 01's table that are marked P, under one claim.
+-- The rows of 01's table that are marked P, and rows of #104, under one claim.
 use Prim.Native.Nat.{ℕ}
 use mathlib.Core.Path.{_≡_, refl}
 use mathlib.Core.Bool.{true}
@@ -30,7 +30,7 @@ use Rattle.trees.specs.Tree.{cluster, clusters}
 use Rattle.trees.specs.Valid.{every as every-trees, among, rising, singlesFrom}
 use Rattle.texts.specs.Writing.{treeText, written, nodeText}
 
--- 01's rows marked P, in its order
+-- 01's rows marked P, in its order, and behind them rows of #104
 pub examples : List Row
 examples =
     -- the rosters, and the texts of the trees
@@ -56,6 +56,9 @@ examples =
     let star : List ℕ = 40 ∷ 97 ∷ 44 ∷ 98 ∷ 44 ∷ 99 ∷ 44 ∷ 100 ∷ 41 ∷ 59 ∷ [] in
     -- `((a,b),c,d);`
     let ab-star : List ℕ = 40 ∷ 40 ∷ 97 ∷ 44 ∷ 98 ∷ 41 ∷ 44 ∷ 99 ∷ 44 ∷ 100 ∷ 41 ∷ 59 ∷ [] in
+    -- `(a,b);` and `(b,d);`
+    let ab : List ℕ = 40 ∷ 97 ∷ 44 ∷ 98 ∷ 41 ∷ 59 ∷ [] in
+    let bd : List ℕ = 40 ∷ 98 ∷ 44 ∷ 100 ∷ 41 ∷ 59 ∷ [] in
     -- `((a,b),c);` | record 5, 1, 2, 3, 4, 7, and 26 zeros
     recorded abc ab-c (5 ∷ 1 ∷ 2 ∷ 3 ∷ 4 ∷ 7 ∷ replicate 26 0)
     -- that tree, cluster 5 | k = 2
@@ -80,6 +83,14 @@ examples =
     ∷ searched abcd (ac-bd ∷ []) (only (3 ∷ 12 ∷ [])) 0 2 ab-cd
     -- roster `a`, `a;`, all | 0, `a;`
     ∷ searched (97 ∷ []) ((97 ∷ 59 ∷ []) ∷ []) every 0 0 (97 ∷ 59 ∷ [])
+    -- `((a,c),b);` on roster `a b c d`, scored on `(((a,b),c),d);` | 1 (#104)
+    ∷ scored abcd ac-b ab-c-d 1
+    -- that tree, cluster 8, of which it has no species | k = 0 (#104)
+    ∷ counted abcd ac-b 8 0
+    -- `((a,c),b);` `(b,d);` on roster `a b c d`, all | 0, `((a,c),(b,d));` (#104)
+    ∷ searched abcd (ac-b ∷ bd ∷ []) every 0 0 ac-bd
+    -- `(a,b);` on roster `a b c d`, its own clusters as they stand | 14 (#104)
+    ∷ searched abcd (ab ∷ []) own 14 0 []
     ∷ []
 
 -- every one of them holds, by the definitions that the promises cite

@@ -9,10 +9,9 @@ use lib.ListN.{length, drop, length-append, length-drop, drop-of-length-le}
 use lib.Seq.{drop-drop}
 use lib.Dec.{leb}
 use borrow.Author.Tests.{leb-true, leb-false, le-leb, lt-leb}
-use Rattle.clusters.specs.Sets.{whole}
 use Rattle.labels.specs.Bytes.{isBlank, run}
 use Rattle.labels.proofs.Runs.{run-within}
-use Rattle.trees.specs.Tree.{Tree, On, clusters}
+use Rattle.trees.specs.Tree.{Tree, clusters}
 use Rattle.trees.specs.Records.{recordOf}
 use Rattle.roster.specs.Roster.{names}
 use Rattle.tokens.specs.Answers.{Answer}
@@ -24,13 +23,14 @@ use Rattle.nodes.specs.Grammar.Node.{a-leaf, an-inner, a-single}
 use Rattle.nodes.specs.Grammar.Text.{text}
 use Rattle.reader.specs.Promise.{readingOf, answerTo}
 use Rattle.reader.specs.Accepted.{Draws, JustBehind}
+use Rattle.reader.specs.declared.Kind.the-variants.{Gene}
 use Rattle.reader.proofs.Accepts.{accepted-derives, derives-accepted}
 use Rattle.nodes.proofs.Exact.{blanks-skip, skip-to, name-no-blank, run-first}
 use Rattle.nodes.proofs.MeaningContexts.{blanks-on}
 use Rattle.nodes.proofs.Sound.{skip-blanks}
 use Rattle.gather.specs.GeneTrees.{genesMost, gatherOn, gatherAt, gatherMore, gatherTo, gather}
 use Rattle.gather.specs.GeneTrees.Gathered.{gathered, stopped}
-use Rattle.demands.specs.GeneTrees.{RecordsOf}
+use Rattle.demands.specs.GeneTrees.{OnSome, RecordsOf}
 use Rattle.demands.specs.Input.{TreesFrom}
 use Rattle.demands.specs.Input.TreesFrom.{only-blanks, a-tree}
 use Rattle.demands.proofs.TextFaults.{fault-of-refusal, fault-numbers}
@@ -51,13 +51,14 @@ module _ (line txt : List ℕ) (at : ℕ) where
   blanks-from = rw (← drop-drop (blanks (drop at txt)) at txt) (skip-blanks (drop at txt))
 
   -- a tree drawn behind blanks is drawn with them
-  pub draws-behind-blanks : {t : Tree} {rest : List ℕ} → Draws line txt begun t rest → Draws line txt at t rest
+  pub draws-behind-blanks : {t : Tree} {rest : List ℕ} → Draws Gene line txt begun t rest → Draws Gene line txt at t rest
   draws-behind-blanks d = record {
     good = d .good;
     short = d .short;
     inside = let h = d .inside in omega arith;
     derives = text-behind-blanks blanks-from (d .derives);
-    on = d .on;
+    once = d .once;
+    species = d .species;
   }
 
   pub behind-blanks : {rest : List ℕ} {q : ℕ} → JustBehind txt begun rest q → JustBehind txt at rest q
@@ -95,10 +96,10 @@ module _ (line txt : List ℕ) (genes : List (List ℕ)) where
       }
 
   one-more :
-      (at : ℕ) (before : List (List ℕ)) (t : Tree) (rest : List ℕ) (q : ℕ) → answerTo line txt (begun line txt at) ≡ parsed t rest q
+      (at : ℕ) (before : List (List ℕ)) (t : Tree) (rest : List ℕ) (q : ℕ) → answerTo Gene line txt (begun line txt at) ≡ parsed t rest q
       → Gathers line txt q (before ++ (recordOf (clusters t) ∷ [])) genes → Gathers line txt at before genes
   one-more at before t rest q e g =
-      let a = accepted-derives line txt (begun line txt at) e in
+      let a = accepted-derives Gene line txt (begun line txt at) e in
       record {
         trees = t ∷ g .trees;
         stand = a-tree (draws-behind-blanks line txt at (a .draws)) (behind-blanks line txt at (a .place)) (g .stand);
@@ -123,13 +124,13 @@ module _ (line txt : List ℕ) (genes : List (List ℕ)) where
           → Gathers line txt q (before ++ (r ∷ [])) genes
 
       read :
-          (a : Answer Tree) → answerTo line txt (begun line txt at) ≡ a → length before < genesMost
+          (a : Answer Tree) → answerTo Gene line txt (begun line txt at) ≡ a → length before < genesMost
           → gatherOn (readingOf (begun line txt at) a .number) (readingOf (begun line txt at) a)
           (λ numbers next. gatherTo k line txt (before ++ (numbers ∷ [])) next)
           ≡ gathered genes
           → Later → Gathers line txt at before genes
       read (parsed t rest q) a l e later = one-more at before t rest q a (later (recordOf (clusters t)) q l e)
-      read (refused zero p) a l e later = absurd (omega (arith, fault-numbers (fault-of-refusal line txt (begun line txt at) 0 p a)))
+      read (refused zero p) a l e later = absurd (omega (arith, fault-numbers (fault-of-refusal Gene line txt (begun line txt at) 0 p a)))
       read (refused (suc m) p) a l e later = absurd (stopped-gathered e)
 
       room :
@@ -137,7 +138,7 @@ module _ (line txt : List ℕ) (genes : List (List ℕ)) where
           → gatherAt b line txt (begun line txt at) (λ numbers next. gatherTo k line txt (before ++ (numbers ∷ [])) next) ≡ gathered genes
           → Later → Gathers line txt at before genes
       room true is e later = absurd (stopped-gathered e)
-      room false is e later = read (answerTo line txt (begun line txt at)) refl (leb-false genesMost (length before) is) e later
+      room false is e later = read (answerTo Gene line txt (begun line txt at)) refl (leb-false genesMost (length before) is) e later
 
       ends :
           (b : Bool) → leb (length txt) (begun line txt at) ≡ b
@@ -148,12 +149,15 @@ module _ (line txt : List ℕ) (genes : List (List ℕ)) where
 
 -- ---- all of them
 
-pub each-on : {line txt : List ℕ} {at : ℕ} {trees : List Tree} → TreesFrom line txt at trees → (t : Tree) → List·Memᴰ t trees → On (whole (length (names line))) t
+pub each-on : {line txt : List ℕ} {at : ℕ} {trees : List Tree} → TreesFrom line txt at trees → (t : Tree) → List·Memᴰ t trees → OnSome (length (names line)) t
 each-on (only-blanks b) t m = absurd (List·Memᴰ·not-nil m)
 each-on {line} (a-tree {t = u} {trees = trees} d j later) t m = go (List·Memᴰ·cases-cons m) (each-on later t)
   where
-    go : (t ≡ u) ⊎ List·Memᴰ t trees → (List·Memᴰ t trees → On (whole (length (names line))) t) → On (whole (length (names line))) t
-    go (inl e) h = rw e (d .on)
+    drawn-here : OnSome (length (names line)) u
+    drawn-here = record { once = d .once; some-species = d .species .0; of-roster = d .species .1 }
+
+    go : (t ≡ u) ⊎ List·Memᴰ t trees → (List·Memᴰ t trees → OnSome (length (names line)) t) → OnSome (length (names line)) t
+    go (inl e) h = subst (OnSome (length (names line))) (sym e) drawn-here
     go (inr k) h = h k
 
 -- the trees that were gathered from a text
@@ -190,23 +194,24 @@ module _ (line txt : List ℕ) (at : ℕ) where
   begun-within h = omega (arith, run-within isBlank (drop at txt), length-drop at txt)
 
   -- a tree drawn with blanks before it is drawn behind them
-  draws-from-begun : {t : Tree} {rest : List ℕ} → Draws line txt at t rest → Draws line txt (begun line txt at) t rest
+  draws-from-begun : {t : Tree} {rest : List ℕ} → Draws Gene line txt at t rest → Draws Gene line txt (begun line txt at) t rest
   unfolding blanks skip
   draws-from-begun d = record {
     good = d .good;
     short = d .short;
     inside = begun-within (d .inside);
     derives = rw (← drop-drop (blanks (drop at txt)) at txt) (text-without-blanks (d .derives));
-    on = d .on;
+    once = d .once;
+    species = d .species;
   }
 
   -- so it is read there
   pub reads-from-begun :
-      {t : Tree} {rest : List ℕ} {next : ℕ} → Draws line txt at t rest → JustBehind txt at rest next
-      → (begun line txt at < length txt) × (answerTo line txt (begun line txt at) ≡ parsed t rest next)
+      {t : Tree} {rest : List ℕ} {next : ℕ} → Draws Gene line txt at t rest → JustBehind txt at rest next
+      → (begun line txt at < length txt) × (answerTo Gene line txt (begun line txt at) ≡ parsed t rest next)
   reads-from-begun {t} {rest} {next} d j =
-      let e = derives-accepted line txt (begun line txt at) (draws-from-begun d) in
-      let p = accepted-derives line txt (begun line txt at) e .place in
+      let e = derives-accepted Gene line txt (begun line txt at) (draws-from-begun d) in
+      let p = accepted-derives Gene line txt (begun line txt at) e .place in
       let l : length rest ≡ length txt - next = ap length (j .left) ∙ length-drop next txt in
       let q : length txt - length rest ≡ next = let w = j .within in omega arith in
       (let a = p .after in let w = p .within in omega arith, e ∙ ap (λ (q : ℕ). parsed t rest q) q)

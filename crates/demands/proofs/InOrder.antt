@@ -7,8 +7,7 @@ use native.Mathlib.Omega.{arith}
 use lib.ListN.{length, drop}
 use borrow.Author.Tests.{ltb-false, le-ltb}
 use Rattle.trees.specs.Records.{AllValid, recordsIn}
-use Rattle.trees.proofs.Bounds.{whole-below-sixteen}
-use Rattle.trees.proofs.ValidTest.{valid-decides}
+use Rattle.trees.proofs.GeneRecords.{gene-decides}
 use Rattle.roster.specs.Roster.{names}
 use Rattle.roster.specs.Verdict.{Verdict, verdict, replyOf}
 use Rattle.roster.specs.declared.Reply.{Reply}
@@ -54,7 +53,7 @@ unfolding recordsTest
 all-valid n genes few = (
   λ h. none-bad n genes few (ltb-false (firstBad n genes) (length genes) (none-passed (records-met n few genes) h)),
   λ h. passed-none (records-met n few genes) (le-ltb (firstBad n genes) (length genes)
-      (let e = all-first-bad n genes (λ g m. valid-decides g (whole-below-sixteen n few) .told (h g m)) in omega arith)),
+      (let e = all-first-bad n genes (λ g m. gene-decides g few .told (h g m)) in omega arith)),
 )
 
 -- ---- what the calls on gene records ask for

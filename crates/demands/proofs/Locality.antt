@@ -9,7 +9,6 @@ use borrow.Author.Tests.{le-leb}
 use lib.ListN.{length, take, drop, take-append-drop, length-append, length-take, length-drop}
 use lib.Seq.{drop-drop, length-take-le}
 use lib.Dec.{leb}
-use Rattle.clusters.specs.Sets.{whole}
 use Rattle.trees.specs.Tree.{Tree}
 use Rattle.roster.specs.Roster.{names, faulty}
 use Rattle.roster.specs.Judged.{speciesMost}
@@ -21,8 +20,9 @@ use Rattle.nodes.specs.Meaning.{reach}
 use Rattle.nodes.proofs.Fronts.{text-elsewhere}
 use Rattle.nodes.proofs.Locality.{locality}
 use Rattle.nodes.proofs.Refusals.{refusal-inside, refusal-numbers}
-use Rattle.reader.specs.Promise.{textMost, readingOf, fromStart, inLimit, onRoster, answerTo, Reads}
+use Rattle.reader.specs.Promise.{textMost, needed, readingOf, fromStart, inLimit, onRoster, answerTo, Reads}
 use Rattle.reader.specs.Accepted.{Draws}
+use Rattle.reader.specs.declared.Kind.{Kind}
 use Rattle.reader.specs.declared.Reading.{Reading}
 use Rattle.reader.proofs.Accepts.{accepted-derives, derives-accepted}
 use Rattle.demands.specs.Deciding.{SameBytes, Agree}
@@ -33,37 +33,37 @@ use Rattle.demands.proofs.TextFaults.{fault-of-refusal}
 -- a refusal met while reading (3 to 9) is decided by the bytes from start up to and with its place (for 5 and 6, up to the byte that ends the run):
 -- a text of at most 65,536 bytes that agrees there is refused alike
 pub answer-is-local :
-    (line text text′ : List ℕ) (start d number : ℕ)
-    → answerTo line text start ≡ refused number (start + d) → 3 ≤ number → number ≤ 9 → length text′ ≤ textMost → start ≤ length text′
+    (kind : Kind) (line text text′ : List ℕ) (start d number : ℕ)
+    → answerTo kind line text start ≡ refused number (start + d) → 3 ≤ number → number ≤ 9 → length text′ ≤ textMost → start ≤ length text′
     → take (reach number (drop start text) d) (drop start text′) ≡ take (reach number (drop start text) d) (drop start text)
-    → answerTo line text′ start ≡ refused number (start + d)
+    → answerTo kind line text′ start ≡ refused number (start + d)
 unfolding answerTo
-answer-is-local line text text′ start d number h low high short inside agree = judged (faulty speciesMost line) h
+answer-is-local kind line text text′ start d number h low high short inside agree = judged (faulty speciesMost line) h
   where
     started :
-        (b : Bool) → fromStart b (names line) text start ≡ refused number (start + d)
-        → readTree (names line) (whole (length (names line))) (drop start text′) start ≡ refused number (start + d)
-    started true e = locality (names line) (whole (length (names line))) (drop start text) (drop start text′) start d number e low high agree
+        (b : Bool) → fromStart kind b (names line) text start ≡ refused number (start + d)
+        → readTree (names line) (needed kind (length (names line))) (drop start text′) start ≡ refused number (start + d)
+    started true e = locality (names line) (needed kind (length (names line))) (drop start text) (drop start text′) start d number e low high agree
     started false e = absurd (let z : number ≡ 10 = cc in omega arith)
 
     limited :
-        (b : Bool) → inLimit b (names line) text start ≡ refused number (start + d)
-        → readTree (names line) (whole (length (names line))) (drop start text′) start ≡ refused number (start + d)
+        (b : Bool) → inLimit kind b (names line) text start ≡ refused number (start + d)
+        → readTree (names line) (needed kind (length (names line))) (drop start text′) start ≡ refused number (start + d)
     limited true e = started (leb start (length text)) e
     limited false e = absurd (let z : number ≡ 2 = cc in omega arith)
 
-    judged : (b : Bool) → onRoster b line text start ≡ refused number (start + d) → onRoster b line text′ start ≡ refused number (start + d)
+    judged : (b : Bool) → onRoster kind b line text start ≡ refused number (start + d) → onRoster kind b line text′ start ≡ refused number (start + d)
     judged true e = absurd (let z : number ≡ 1 = cc in omega arith)
     judged false e =
         rw (le-leb (length text′) textMost short, le-leb start (length text′) inside) (limited (leb (length text) textMost) e)
 
 -- a tree is decided by the bytes from start up to the offset just after its `;`
 pub tree-is-local :
-    (line text text′ : List ℕ) (start : ℕ) {t : Tree} {rest : List ℕ} {next : ℕ}
-    → answerTo line text start ≡ parsed t rest next → length text′ ≤ textMost → SameBytes text text′ start (next - start)
-    → (rest′ : List ℕ) × (answerTo line text′ start ≡ parsed t rest′ next)
-tree-is-local line text text′ start {t} {rest} {next} h short agree =
-    let a = accepted-derives line text start h in
+    (kind : Kind) (line text text′ : List ℕ) (start : ℕ) {t : Tree} {rest : List ℕ} {next : ℕ}
+    → answerTo kind line text start ≡ parsed t rest next → length text′ ≤ textMost → SameBytes text text′ start (next - start)
+    → (rest′ : List ℕ) × (answerTo kind line text′ start ≡ parsed t rest′ next)
+tree-is-local kind line text text′ start {t} {rest} {next} h short agree =
+    let a = accepted-derives kind line text start h in
     let n = next - start in
     let s = drop start text in
     let s′ = drop start text′ in
@@ -77,17 +77,18 @@ tree-is-local line text text′ start {t} {rest} {next} h short agree =
     let inside : start ≤ length text′ = omega (arith, length-drop start text′, all, a .place .after) in
     let Drawn : List ℕ → List ℕ → Type 0 = λ l left. Text (strict (names line)) openMost l t left in
     let derives : Drawn (take n s ++ rest) rest = subst (λ (l : List ℕ). Drawn l rest) split (a .draws .derives) in
-    let drawn : Draws line text′ start t rest′ =
+    let drawn : Draws kind line text′ start t rest′ =
     record {
       good = a .draws .good;
       short = short;
       inside = inside;
       derives = subst (λ (l : List ℕ). Drawn l rest′) (sym split′) (text-elsewhere (strict (names line)) (take n s) rest rest′ derives);
-      on = a .draws .on;
+      once = a .draws .once;
+      species = a .draws .species;
     }
     in
     let place : length text′ - length rest′ ≡ next = omega (arith, length-drop start text′, all, a .place .after, inside) in
-    (rest′, derives-accepted line text′ start drawn ∙ ap (λ (q : ℕ). parsed t rest′ q) place)
+    (rest′, derives-accepted kind line text′ start drawn ∙ ap (λ (q : ℕ). parsed t rest′ q) place)
 
 -- a text that agrees on bytes up to one at fault is not empty
 reaches-into : (number : ℕ) (s s′ : List ℕ) (d : ℕ) → d < length s → take (reach number s d) s′ ≡ take (reach number s d) s → 0 < length s′
@@ -97,22 +98,22 @@ reaches-into number s s′ d inside same =
 
 -- ---- the call
 
-module _ (line text text′ : List ℕ) (start : ℕ) (short : length text ≤ textMost) (short′ : length text′ ≤ textMost) where
+module _ (kind : Kind) (line text text′ : List ℕ) (start : ℕ) (short : length text ≤ textMost) (short′ : length text′ ≤ textMost) where
   -- an answer that the bytes decide is given again: the same tree with the same offset, or the same refusal
   abbrev Again : Answer Tree → Type 0
-  Again a = readingOf start a ≡ readingOf start (answerTo line text′ start)
+  Again a = readingOf start a ≡ readingOf start (answerTo kind line text′ start)
 
   ends-again : faulty speciesMost line ≡ false → drop start text′ ≡ drop start text → length text′ ≡ length text
-      → answerTo line text start ≡ answerTo line text′ start
+      → answerTo kind line text start ≡ answerTo kind line text′ start
   unfolding answerTo
   ends-again good same-end same-length =
       rw (good, same-length, le-leb (length text) textMost short, same-length) (started (leb start (length text)))
     where
-      started : (b : Bool) → fromStart b (names line) text start ≡ fromStart b (names line) text′ start
+      started : (b : Bool) → fromStart kind b (names line) text start ≡ fromStart kind b (names line) text′ start
       started true = rw same-end refl
       started false = rw same-length refl
 
-  fault-again : {number place : ℕ} → answerTo line text start ≡ refused number place → TextFault line text start number place
+  fault-again : {number place : ℕ} → answerTo kind line text start ≡ refused number place → TextFault kind line text start number place
       → Agree text text′ start (readingOf start (refused number place)) → Again (refused number place)
   unfolding answerTo
   fault-again h (roster-faulty f) agree = rw f refl
@@ -128,30 +129,30 @@ module _ (line text text′ : List ℕ) (start : ℕ) (short : length text ≤ t
           let same : SameBytes text text′ start (reach number (drop start text) (r .byte)) = rw byte at (agree .fault low high) in
           let at : _≡_ {A = Answer Tree} (refused number place) (refused number (start + r .byte)) = rw (r .place) in
           let goes-on = reaches-into number (drop start text) (drop start text′) (r .byte) (refusal-inside (r .means) high) same in
-          let again = answer-is-local line text text′ start (r .byte) number (h ∙ at) low high short′ (omega (arith, length-drop start text′)) same in
+          let again = answer-is-local kind line text text′ start (r .byte) number (h ∙ at) low high short′ (omega (arith, length-drop start text′)) same in
           ap (readingOf start) (at ∙ sym again)
       go (no over) =
           let ten : number ≡ 10 = omega (arith, refusal-numbers (r .means) .1) in
           ap (readingOf start) (sym h ∙ ends-again good (agree .end ten .0) (agree .end ten .1))
 
-  answer-again : (a : Answer Tree) → answerTo line text start ≡ a → Agree text text′ start (readingOf start a) → Again a
+  answer-again : (a : Answer Tree) → answerTo kind line text start ≡ a → Agree text text′ start (readingOf start a) → Again a
   answer-again (parsed t rest next) h agree =
-      let again = tree-is-local line text text′ start h short′ (agree .tree refl) in
+      let again = tree-is-local kind line text text′ start h short′ (agree .tree refl) in
       sym (ap (readingOf start) (again .1))
-  answer-again (refused number place) h agree = fault-again h (fault-of-refusal line text start number place h) agree
+  answer-again (refused number place) h agree = fault-again h (fault-of-refusal kind line text start number place h) agree
 
 -- bytes that do not decide are not looked at: texts of at most 65,536 bytes that agree from start on the bytes that decide a reading are read alike
 pub reading-is-local :
-    (line text text′ : List ℕ) (start : ℕ) (r r′ : Reading) → length text ≤ textMost → length text′ ≤ textMost
-    → Reads line text start r → Reads line text′ start r′ → Agree text text′ start r → r ≡ r′
+    (kind : Kind) (line text text′ : List ℕ) (start : ℕ) (r r′ : Reading) → length text ≤ textMost → length text′ ≤ textMost
+    → Reads kind line text start r → Reads kind line text′ start r′ → Agree text text′ start r → r ≡ r′
 unfolding Reads
-reading-is-local line text text′ start r r′ short short′ p q agree =
-    p ∙ (answer-again line text text′ start short short′ (answerTo line text start) refl (subst (Agree text text′ start) p agree) ∙ sym q)
+reading-is-local kind line text text′ start r r′ short short′ p q agree =
+    p ∙ (answer-again kind line text text′ start short short′ (answerTo kind line text start) refl (subst (Agree text text′ start) p agree) ∙ sym q)
 
 -- "The reader .. returns the record and the offset just after `;`; bytes behind that are not looked at"
 pub bytes-behind-not-looked-at :
-    (line text text′ : List ℕ) (start : ℕ) (r r′ : Reading) → length text ≤ textMost → length text′ ≤ textMost
-    → Reads line text start r → Reads line text′ start r′ → r .number ≡ 0 → SameBytes text text′ start (r .next - start) → r ≡ r′
-bytes-behind-not-looked-at line text text′ start r r′ short short′ p q done same =
-    reading-is-local line text text′ start r r′ short short′ p q
+    (kind : Kind) (line text text′ : List ℕ) (start : ℕ) (r r′ : Reading) → length text ≤ textMost → length text′ ≤ textMost
+    → Reads kind line text start r → Reads kind line text′ start r′ → r .number ≡ 0 → SameBytes text text′ start (r .next - start) → r ≡ r′
+bytes-behind-not-looked-at kind line text text′ start r r′ short short′ p q done same =
+    reading-is-local kind line text text′ start r r′ short short′ p q
     (record { tree = λ e. same; fault = λ low high. absurd (omega arith); end = λ ten. absurd (omega arith) })

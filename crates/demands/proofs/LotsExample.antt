@@ -10,7 +10,7 @@ use Rattle.clusters.specs.Sets.{whole, single, union, has, within, apart, size,
 use Rattle.trees.specs.Drawn.{properly, maximal, placed, byLowest, children}
 use Rattle.trees.specs.Lists.{keep, some, insert, sorted, pieces, total, upTo}
 use Rattle.trees.specs.Records.{recordOf, recordsIn}
-use Rattle.trees.specs.Valid.{every, among, rising, singlesFrom, nested, valid, binary}
+use Rattle.trees.specs.Valid.{every, among, rising, singlesFrom, nested, valid, validGene, binary}
 use Rattle.roster.specs.Roster.{least}
 use Rattle.roster.specs.Verdict.{verdict, lengthTest}
 use Rattle.weights.specs.Count.{kOf, extra, weight, score}
@@ -24,26 +24,7 @@ use Rattle.search.specs.Promise.{firstStrange, allowedTest, searchTests, foundO
 use Rattle.demands.specs.Lots.{Searched, Lent, LotsOf, LeastIn}
 use Rattle.trees.specs.Lists.InAnyOrder.{nothing, put}
 use Rattle.demands.proofs.Lots.{of-both, equal-exactly-when-least-for-both}
-
--- ---- what is handed over
-
--- the records of `((a,b),c);` and `((a,c),b);`
-pub ab-c : List ℕ
-ab-c = recordOf (1 ∷ 2 ∷ 3 ∷ 4 ∷ 7 ∷ [])
-
-pub ac-b : List ℕ
-ac-b = recordOf (1 ∷ 2 ∷ 4 ∷ 5 ∷ 7 ∷ [])
-
--- all clusters of three species allowed; none allowed but those that always are
-pub every-cluster : List ℕ
-every-cluster = replicate 8 1
-
-pub no-cluster : List ℕ
-no-cluster = replicate 8 0
-
--- a lent table
-pub lent : List ℕ
-lent = replicate 8 9
+use Rattle.demands.proofs.SmallInputs.{ab-c, ac-b, every-cluster, no-cluster, only-bc, lent}
 
 -- ---- what is replied
 
@@ -60,7 +41,7 @@ tree s numbers = record { number = 0; place = 0; score = s; numbers = numbers }
 abbrev no-tree : Found
 no-tree = record { number = 14; place = 0; score = 0; numbers = replicate 32 0 }
 
--- by computing: each tree alone, the first twice, both, and both without allowed clusters
+-- by computing: each tree alone, the first twice, both; both without allowed clusters, and with b and c together alone
 replies :
     (replyTo ab-c 1 every-cluster ≡ tree 0 ab-c) × (replyTo ac-b 1 every-cluster ≡ tree 0 ac-b)
     × (replyTo (ab-c ++ ab-c) 2 every-cluster ≡ tree 0 ab-c)
@@ -68,11 +49,14 @@ replies :
     × (replyTo ab-c 1 no-cluster ≡ no-tree)
     × (replyTo ac-b 1 no-cluster ≡ no-tree)
     × (replyTo (ac-b ++ ab-c) 2 no-cluster ≡ no-tree)
-unfolding ab-c ac-b every-cluster no-cluster lent replyTo ones onesIn trailingZeros whole single union has within apart size lowest keep some insert sorted
-    recordOf properly maximal placed byLowest children every among rising singlesFrom nested valid binary verdict lengthTest kOf extra total weight score
+    × (replyTo ab-c 1 only-bc ≡ tree 1 (recordOf (1 ∷ 2 ∷ 4 ∷ 6 ∷ 7 ∷ [])))
+    × (replyTo ac-b 1 only-bc ≡ tree 1 (recordOf (1 ∷ 2 ∷ 4 ∷ 6 ∷ 7 ∷ [])))
+    × (replyTo (ac-b ++ ab-c) 2 only-bc ≡ tree 2 (recordOf (1 ∷ 2 ∷ 4 ∷ 6 ∷ 7 ∷ [])))
+unfolding ab-c ac-b every-cluster no-cluster only-bc lent replyTo ones onesIn trailingZeros whole single union has within apart size lowest keep some insert sorted
+    recordOf properly maximal placed byLowest children every among rising singlesFrom nested valid validGene binary verdict lengthTest kOf extra total weight score
     pieces speciesTest countTest firstBad recordsTest upTo least clustersIn isLow lows each forks treesTo treesOn those all scoreOf treesOver leastTrees
     best allowedIn firstStrange allowedTest searchTests bestFor
-replies = (refl, refl, refl, refl, refl, refl, refl)
+replies = (refl, refl, refl, refl, refl, refl, refl, refl, refl, refl)
 
 -- ---- three searches
 
@@ -131,9 +115,9 @@ parted g h allowed first second both e k b = record {
   lots-lent = of-both (call first) (call second) (λ (s : Searched 3). Lent s) (lent-enough first e b) (lent-enough second k b);
 }
 
-sizes : (length ab-c ≡ 32) × (length ac-b ≡ 32) × (length every-cluster ≡ 8)
-unfolding ab-c ac-b every-cluster recordOf sorted insert
-sizes = (refl, refl, refl)
+sizes : (length ab-c ≡ 32) × (length ac-b ≡ 32) × (length every-cluster ≡ 8) × (length only-bc ≡ 8)
+unfolding ab-c ac-b every-cluster only-bc recordOf sorted insert
+sizes = (refl, refl, refl, refl)
 
 -- ---- the examples
 
@@ -148,6 +132,19 @@ lots-that-agree first second both =
     let two = scored second (replies .0) in
     let all = scored both (replies .2) in
     let lots = parted ab-c ab-c every-cluster first second both (sizes .0) (sizes .0) (sizes .2) in
+    (one .1, two .1, all .1, equal-exactly-when-least-for-both (call first) (call second) lots (all .0) .0 (omega arith))
+
+-- `((a,b),c);` in one lot and `((a,c),b);` in the other, with b and c together allowed alone: the least scores are 1 and 1, the whole's is 2, their sum
+pub lots-that-add-up :
+    {r q w : Found} {s p s′ p′ s″ p″ : List ℕ} (first : Finds 3 ab-c 1 only-bc lent lent r s p)
+    (second : Finds 3 ac-b 1 only-bc lent lent q s′ p′) (both : Finds 3 (ac-b ++ ab-c) 2 only-bc lent lent w s″ p″)
+    → (r .score ≡ 1) × (q .score ≡ 1) × (w .score ≡ 2) × ((c : List ℕ) × LeastIn (call first) c × LeastIn (call second) c)
+unfolding call
+lots-that-add-up first second both =
+    let one = scored first (replies .7) in
+    let two = scored second (replies .8) in
+    let all = scored both (replies .9) in
+    let lots = parted ab-c ac-b only-bc first second both (sizes .0) (sizes .1) (sizes .3) in
     (one .1, two .1, all .1, equal-exactly-when-least-for-both (call first) (call second) lots (all .0) .0 (omega arith))
 
 -- `((a,b),c);` in one lot and `((a,c),b);` in the other: the least scores are 0 and 0, the whole's is 1, and no tree is least for both

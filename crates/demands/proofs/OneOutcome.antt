@@ -6,6 +6,7 @@ use Rattle.roster.specs.Judged.{Judged}
 use Rattle.roster.specs.declared.Reply.{Reply}
 use Rattle.roster.proofs.Judging.{judged-once}
 use Rattle.reader.specs.Promise.{Reads}
+use Rattle.reader.specs.declared.Kind.{Kind}
 use Rattle.reader.specs.declared.Reading.{Reading}
 use Rattle.writer.specs.Promise.{Writes}
 use Rattle.writer.proofs.Outcomes.{writes-once}
@@ -20,10 +21,10 @@ use Rattle.report.specs.Promise.{Reports}
 pub judge-once : (line : List ℕ) (r r′ : Reply) → Judged line r → Judged line r′ → r ≡ r′
 judge-once = judged-once
 
--- for a text read from an offset on
-pub read-once : (line text : List ℕ) (start : ℕ) (r r′ : Reading) → Reads line text start r → Reads line text start r′ → r ≡ r′
+-- for a text read from an offset on, as either kind
+pub read-once : (kind : Kind) (line text : List ℕ) (start : ℕ) (r r′ : Reading) → Reads kind line text start r → Reads kind line text start r′ → r ≡ r′
 unfolding Reads
-read-once line text start r r′ p q = p ∙ sym q
+read-once kind line text start r r′ p q = p ∙ sym q
 
 -- for a record written: the reply and the lent bytes
 pub write-once :

@@ -4,7 +4,7 @@ use mathlib.Core.Path.{_≡_, refl, sym, ap, ap₂, _∙_, subst₂}
 use mathlib.Core.Logic.{_⊎_, inl, inr, _↔_}
 use mathlib.Core.Bool.{Bool, true, false, true≢false}
 use mathlib.Core.Option.{Option, some, none}
-use mathlib.Core.List.{List, [], _∷_, _++_, map}
+use mathlib.Core.List.{List, [], _∷_, _++_, map, append-assoc}
 use native.Mathlib.Omega.{arith}
 use lib.ListN.{length, getD, take, drop, length-drop, length-take}
 use lib.Dec.{leb}
@@ -19,6 +19,7 @@ use Rattle.nodes.specs.Grammar.{Blanks}
 use Rattle.splits.specs.BinaryTrees.{Binary}
 use Rattle.solver.specs.Best.{bestFor, foundBy}
 use Rattle.reader.specs.Promise.{textMost}
+use Rattle.reader.specs.declared.Kind.the-variants.{Gene}
 use Rattle.writer.specs.Promise.{rosterTest}
 use Rattle.gather.specs.GeneTrees.{Gathered, gather}
 use Rattle.gather.specs.GeneTrees.Gathered.{gathered, stopped}
@@ -27,6 +28,7 @@ use Rattle.printing.specs.Words.{refusedText, atText, newline, decimal}
 use Rattle.printing.specs.Texts.{refusalText}
 use Rattle.printing.specs.declared.Report.{Report}
 use Rattle.report.proofs.Bytewise.{line-within}
+use Rattle.report.proofs.Outcomes.{program-never-nine}
 use Rattle.report.specs.Input.{lineLength, firstLine, behindLine, endsInFeed, modePlace, treesPlace, allWord, genesWord}
 use Rattle.report.specs.Promise.{output, Reports}
 use Rattle.report.specs.Program.{onMode, onFeeds, onSpecies, onRoster, onText, program}
@@ -53,7 +55,7 @@ use Rattle.demands.proofs.Gathering.{stopped-gathered, gathered-from, g
 use Rattle.demands.proofs.TreesFaults.{stopped-fault, fault-stops, trees-fault-means}
 use Rattle.demands.proofs.TwoLines.{feed-splits}
 use Rattle.demands.proofs.LineFeeds.{feed-found, second-feed-found}
-use Rattle.demands.proofs.RefusalLines.{one-refusal}
+use Rattle.demands.proofs.RefusalLines.{same-number, one-refusal}
 use Rattle.demands.proofs.Solved.{refused-solved}
 use Rattle.demands.proofs.Signed.{report-is-the-output}
 use Rattle.demands.proofs.Taken.{solved-exactly, none-exactly}
@@ -278,7 +280,7 @@ module _ (input : List ℕ) where
   trees-within : {k p : ℕ} → length input ≤ textMost → faulty speciesMost line ≡ false → TreesFault line text (treesPlace input) k p → (k ≤ 17) × (p ≤ 200000)
   trees-within {k} {p} short good f = (number (trees-fault-means f), place (fault-stops line text f))
     where
-      number : (k ≡ 17) ⊎ ((b : ℕ) × (q : ℕ) × TextFault line text b k q × (p ≡ treesPlace input + q)) → k ≤ 17
+      number : (k ≡ 17) ⊎ ((b : ℕ) × (q : ℕ) × TextFault Gene line text b k q × (p ≡ treesPlace input + q)) → k ≤ 17
       number (inl e) = omega arith
       number (inr h) = omega (arith, fault-numbers (h .2) .1)
 
@@ -334,6 +336,30 @@ module _ (input : List ℕ) where
       let e = report-is-the-output input reply r in
       let h = printed-refusal-exactly number place few near in
       (λ t. h .0 (sym e ∙ t), λ f. e ∙ h .1 f)
+
+  -- ---- 9
+
+  -- "9 is shown never to occur for gene trees" (#104): no fault of the program's input has that number
+  pub no-fault-is-nine : {place : ℕ} → ProgramFault input 9 place → ⊥
+  no-fault-is-nine {place} f = program-never-nine input (refused-exactly 9 place .1 f) refl
+
+  -- and no output begins with `refused 9 at`, whatever stands behind it
+  pub never-prints-nine : (rest : List ℕ) → output input ≡ refusedText ++ decimal 9 ++ atText ++ rest → ⊥
+  unfolding output
+  never-prints-nine rest t = go (program input) refl t
+    where
+      grouped : (a b c d : List ℕ) → a ++ b ++ c ++ d ≡ a ++ (b ++ (c ++ d))
+      grouped a b c d = simp append-assoc
+
+      go : (o : Outcome) → program input ≡ o → printed (names line) o ≡ refusedText ++ decimal 9 ++ atText ++ rest → ⊥
+      go (refused k p) e t =
+          let s = small (refused-exactly k p .0 e) in
+          program-never-nine input e (same-number k p 9 (omega arith) (omega arith) (t ∙ grouped refusedText (decimal 9) atText rest) .0)
+      go (solved n m s r) e t = omega (arith, ap (λ (l : List ℕ). getD l 0 0) t)
+
+  -- the same of any report that meets the promise
+  pub report-never-nine : (reply : Report) → Reports input reply → (rest : List ℕ) → take (reply .len) (reply .text) ≡ refusedText ++ decimal 9 ++ atText ++ rest → ⊥
+  report-never-nine reply r rest t = never-prints-nine rest (sym (report-is-the-output input reply r) ∙ t)
 
   -- "both fixed in advance": one number and place at the most
   pub one-program-fault : {k p k′ p′ : ℕ} → ProgramFault input k p → ProgramFault input k′ p′ → (k ≡ k′) × (p ≡ p′)

@@ -35,14 +35,20 @@ from-left k p = grouped refusedText (decimal k) atText (decimal p) newline
     grouped : (a b c d e : List ℕ) → a ++ b ++ c ++ d ++ e ≡ a ++ (b ++ (c ++ (d ++ e)))
     grouped a b c d e = simp append-assoc
 
--- of numbers with at most twenty digits, one number and one place is said
+-- of numbers with at most twenty digits, one number is said, and what stands behind it is one thing
+pub same-number :
+    (k p number : ℕ) {rest : List ℕ} → k < 10 ^ 20 → number < 10 ^ 20 → refusalText k p ≡ refusedText ++ (decimal number ++ (atText ++ rest))
+    → (k ≡ number) × (decimal p ++ newline ≡ rest)
+same-number k p number {rest} a c e =
+    let whole = sym (from-left k p) ∙ e in
+    let front = same-front 32 (decimal k) (decimal number) (no-digit 32 k (omega arith)) (no-digit 32 number (omega arith)) (ap (drop 8) whole) in
+    (sym (decimal-value k a) ∙ ap valueOf (front .0) ∙ decimal-value number c, ap (drop 3) (front .1))
+
+-- and one place
 pub one-refusal :
     (k p number place : ℕ) → k < 10 ^ 20 → p < 10 ^ 20 → number < 10 ^ 20 → place < 10 ^ 20 → refusalText k p ≡ refusalText number place
     → (k ≡ number) × (p ≡ place)
 one-refusal k p number place a b c d e =
-    let whole = sym (from-left k p) ∙ e ∙ from-left number place in
-    let front = same-front 32 (decimal k) (decimal number) (no-digit 32 k (omega arith)) (no-digit 32 number (omega arith)) (ap (drop 8) whole) in
-    let behind = same-front 10 (decimal p) (decimal place) (no-digit 10 p (omega arith)) (no-digit 10 place (omega arith)) (ap (drop 3) (front .1)) in (
-      sym (decimal-value k a) ∙ ap valueOf (front .0) ∙ decimal-value number c,
-      sym (decimal-value p b) ∙ ap valueOf (behind .0) ∙ decimal-value place d,
-    )
+    let front = same-number k p number a c (e ∙ from-left number place) in
+    let behind = same-front 10 (decimal p) (decimal place) (no-digit 10 p (omega arith)) (no-digit 10 place (omega arith)) (front .1) in
+    (front .0, sym (decimal-value p b) ∙ ap valueOf (behind .0) ∙ decimal-value place d)

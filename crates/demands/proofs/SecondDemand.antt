@@ -1,38 +1,44 @@
 -- The second demand: tree text and its clusters, both ways, and the score as the sum that the paper has.
-use Prim.Native.Nat.{ℕ, _-_, _≤_}
+use Prim.Native.Nat.{ℕ, _+_, _-_, _≤_}
 use mathlib.Core.Path.{_≡_, refl, sym, ap, _∙_, subst}
-use mathlib.Core.Logic.{_↔_}
+use mathlib.Core.Logic.{_⊎_, inl, inr, _↔_}
 use mathlib.Core.Bool.{false}
-use mathlib.Core.List.{List, map}
+use mathlib.Core.List.{List, [], _∷_, _++_, map, append-assoc}
+use native.Mathlib.Decide.{ℕ-discrete}
 use native.Mathlib.Omega.{arith}
-use lib.ListN.{length, take}
-use Rattle.clusters.specs.Sets.{whole, within}
+use lib.ListN.{length, getD, take, drop, length-append}
+use lib.Seq.{getD-append-seam}
+use Rattle.clusters.specs.Sets.{Within, whole, within}
 use Rattle.trees.specs.Lists.{Among, keep, some, total}
-use Rattle.trees.specs.Tree.{Tree, On, clusters}
-use Rattle.trees.specs.Drawn.{maximal, children}
+use Rattle.trees.specs.Tree.{Tree, clusters}
+use Rattle.trees.specs.Drawn.{maximal, children, drawn}
 use Rattle.trees.specs.Valid.{every, among}
-use Rattle.trees.specs.Records.{listed, recordOf, ValidOn, GeneValid, BinaryOn, recordsIn}
-use Rattle.trees.proofs.Bounds.{whole-below-sixteen}
+use Rattle.trees.specs.Records.{listed, recordOf, largest, GeneValid, BinaryOn, recordsIn}
 use Rattle.trees.proofs.Nodes.{clusters-once}
-use Rattle.trees.proofs.Recorded.{among-record, record-among, record-same, valid-of-drawn}
-use Rattle.trees.proofs.ValidTest.{valid-decides}
+use Rattle.trees.proofs.Recorded.{among-record, record-among, record-same}
+use Rattle.trees.proofs.GeneRecords.{gene-small, gene-decides}
 use Rattle.roster.specs.Roster.{names, faulty}
 use Rattle.roster.specs.Judged.{speciesMost}
 use Rattle.roster.specs.declared.Reply.{Reply}
 use Rattle.tokens.specs.Answers.{Answer}
 use Rattle.tokens.specs.Answers.Answer.{parsed, refused}
 use Rattle.reader.specs.Promise.{readingOf, answerTo, Reads}
+use Rattle.reader.specs.declared.Kind.{Kind}
+use Rattle.reader.specs.declared.Kind.the-variants.{Species, Gene}
 use Rattle.reader.specs.declared.Reading.{Reading}
-use Rattle.reader.specs.Accepted.{Draws}
+use Rattle.reader.specs.Accepted.{MayHave, Draws}
 use Rattle.reader.proofs.Accepts.{accepted-derives, derives-accepted, draws-one}
+use Rattle.reader.proofs.Replies.{draws-gene, reads-zero}
+use Rattle.texts.specs.Writing.{nodeText, treeText, written}
 use Rattle.writer.specs.Promise.{Writes}
 use Rattle.writer.proofs.RosterNames.{good-names}
 use Rattle.texts.proofs.Lengths.{text-most}
-use Rattle.writer.proofs.Outcomes.{writes-once, writes-done}
-use Rattle.writer.proofs.RoundTrip.{write-read, reads-zero}
+use Rattle.writer.proofs.Outcomes.{writes-once, writes-done, writes-zero}
+use Rattle.writer.proofs.RoundTrip.{write-read, write-read-gene, write-read-lacking}
 use Rattle.weights.specs.Count.{kDrawn, kOf, oneOr, extra, weight, score}
 use Rattle.weights.specs.Lineages.{lineages}
 use Rattle.weights.proofs.Compared.{k-never-more, k-binary}
+use Rattle.weights.proofs.Lost.{none-within-adds-nothing as lost-adds-nothing, some-within-adds-k-less-one}
 use Rattle.lineages.specs.Promise.{Weighs, Scores}
 use Rattle.demands.specs.ReadAs.{SameClusters, ReadAs}
 use Rattle.demands.specs.Scorable.{Scorable}
@@ -49,105 +55,147 @@ record-clusters : (t : Tree) → SameClusters (listed (recordOf (clusters t))) (
 record-clusters t x = (λ m. among-record (clusters t) m, λ m. record-among (clusters t) m)
 
 -- "read to the set of clusters it draws": what was read is what the grammar draws
-pub read-to-its-clusters : (line text : List ℕ) (start : ℕ) (r : Reading) → Reads line text start r → r .number ≡ 0 → ReadAs line text start r
+pub read-to-its-clusters :
+    (kind : Kind) (line text : List ℕ) (start : ℕ) (r : Reading) → Reads kind line text start r → r .number ≡ 0 → ReadAs kind line text start r
 unfolding Reads
-read-to-its-clusters line text start r p z = go (answerTo line text start) refl
+read-to-its-clusters kind line text start r p z = go (answerTo kind line text start) refl
   where
-    go : (a : Answer Tree) → answerTo line text start ≡ a → ReadAs line text start r
+    go : (a : Answer Tree) → answerTo kind line text start ≡ a → ReadAs kind line text start r
     go (parsed t rest q) e =
-        let a = accepted-derives line text start e in
+        let a = accepted-derives kind line text start e in
         rw (p, e) (record { tree = t; rest = rest; draws = a .draws; behind = a .place; drawn = record-clusters t })
     go (refused k q) e =
         let i = ap (λ (r : Reading). r .number) (p ∙ ap (readingOf start) e) in
-        absurd (omega (arith, fault-numbers (fault-of-refusal line text start k q e)))
+        absurd (omega (arith, fault-numbers (fault-of-refusal kind line text start k q e)))
 
 -- "Newick text is read": what the grammar draws, inside the limits, is not refused
 pub drawn-is-read :
-    (line text : List ℕ) (start : ℕ) (t : Tree) (rest : List ℕ) (r : Reading) → Draws line text start t rest → Reads line text start r
-    → (r .number ≡ 0) × SameClusters (listed (r .numbers)) (clusters t)
+    (kind : Kind) (line text : List ℕ) (start : ℕ) (t : Tree) (rest : List ℕ) (r : Reading)
+    → Draws kind line text start t rest → Reads kind line text start r → (r .number ≡ 0) × SameClusters (listed (r .numbers)) (clusters t)
 unfolding Reads
-drawn-is-read line text start t rest r d p = rw (p, derives-accepted line text start d) (refl, record-clusters t)
+drawn-is-read kind line text start t rest r d p = rw (p, derives-accepted kind line text start d) (refl, record-clusters t)
 
--- a text draws one tree at most, so "the set of clusters it draws" is one set
+-- a text draws one tree at most, whatever the kind, so "the set of clusters it draws" is one set
 pub draws-one-set :
-    (line text : List ℕ) (start : ℕ) (t t′ : Tree) (rest rest′ : List ℕ) → Draws line text start t rest → Draws line text start t′ rest′
-    → SameClusters (clusters t) (clusters t′)
-draws-one-set line text start t t′ rest rest′ d d′ x = let e = draws-one line text start d d′ .value in (
+    (kind kind′ : Kind) (line text : List ℕ) (start : ℕ) (t t′ : Tree) (rest rest′ : List ℕ)
+    → Draws kind line text start t rest → Draws kind′ line text start t′ rest′ → SameClusters (clusters t) (clusters t′)
+draws-one-set kind kind′ line text start t t′ rest rest′ d d′ x = let e = draws-one kind kind′ line text start d d′ .value in (
   λ m. subst (λ (u : Tree). Among x (clusters u)) e m,
   λ m. subst (λ (u : Tree). Among x (clusters u)) (sym e) m,
 )
 
 -- ---- "and written back in one form; reading that form gives the same clusters"
 
--- "written back", "never passes 286 bytes": a valid record is written wherever 286 bytes are lent
+-- "written back", "never passes 286 bytes": a valid record, with every species or not (#104), is written wherever 286 bytes are lent
 pub valid-is-written :
-    (line tree out : List ℕ) (r : Reply) (after : List ℕ) → faulty speciesMost line ≡ false → ValidOn (whole (length (names line))) tree → 286 ≤ length out
+    (line tree out : List ℕ) (r : Reply) (after : List ℕ) → faulty speciesMost line ≡ false → GeneValid (length (names line)) tree → 286 ≤ length out
     → Writes line tree out r after → r .number ≡ 0
 valid-is-written line tree out r after good v room w =
     let g = good-names line good in
-    let small = whole-below-sixteen (length (names line)) (g .few) in
     let l = text-most (names line) (g .few) v (g .short) in
-    let d = writes-done line tree out good (valid-decides tree small .told v) (omega arith) refl refl in
+    let d = writes-done line tree out good (gene-decides tree (g .few) .told v) (omega arith) refl refl in
     ap (λ (r : Reply). r .number) (writes-once w d .0)
 
 -- and so is every text that was read
 pub read-is-written :
-    (line text : List ℕ) (start : ℕ) (q : Reading) (out : List ℕ) (r : Reply) (after : List ℕ) → Reads line text start q → q .number ≡ 0 → 286 ≤ length out
-    → Writes line (q .numbers) out r after → r .number ≡ 0
-read-is-written line text start q out r after p z room w =
-    let v = reads-zero line text start p z in valid-is-written line (q .numbers) out r after (v .good) (v .valid) room w
+    (kind : Kind) (line text : List ℕ) (start : ℕ) (q : Reading) (out : List ℕ) (r : Reply) (after : List ℕ)
+    → Reads kind line text start q → q .number ≡ 0 → 286 ≤ length out → Writes line (q .numbers) out r after → r .number ≡ 0
+read-is-written kind line text start q out r after p z room w =
+    let v = reads-zero kind line text start p z in valid-is-written line (q .numbers) out r after (v .good) (v .gene) room w
 
--- "reading that form gives the same clusters": what was written reads back to the record, to the end of the text
-pub written-reads-back :
-    (line tree out : List ℕ) (r : Reply) (after : List ℕ) (q : Reading) → Writes line tree out r after → r .number ≡ 0 → Reads line (take (r .value) after) 0 q
-    → (q .number ≡ 0) × (q .next ≡ r .value) × (q .numbers ≡ tree)
-written-reads-back line tree out r after q w z p = rw (write-read w z p) (refl, refl, refl)
+-- a text that was written has a last byte, its `;`
+written-ends : (ns : List (List ℕ)) (r rest : List ℕ) → (1 ≤ length (written ns r)) × (getD (written ns r ++ rest) (length (written ns r) - 1) 0 ≡ 59)
+unfolding written treeText
+written-ends ns r rest =
+    let front = nodeText ns (drawn (listed r) (largest r)) in
+    let long = length-append front (59 ∷ []) in
+    let at : length (front ++ 59 ∷ []) - 1 ≡ length front = omega arith in (
+      omega arith,
+      ap (λ (i : ℕ). getD (front ++ 59 ∷ [] ++ rest) i 0) at ∙ ap (λ (l : List ℕ). getD l (length front) 0) (append-assoc front (59 ∷ []) rest)
+          ∙ getD-append-seam front 59 rest 0,
+    )
 
--- "reading that form gives the same clusters": a text that was read, written and read again
+module _ (line tree out : List ℕ) (r : Reply) (after : List ℕ) (q : Reading) (w : Writes line tree out r after) (z : r .number ≡ 0) where
+  -- "reading that form gives the same clusters": what was written reads back to the record, to the end of the text, as either kind that has its species
+  pub written-reads-back :
+      (kind : Kind) → MayHave kind (length (names line)) (largest tree) → Reads kind line (take (r .value) after) 0 q
+      → (q .number ≡ 0) × (q .next ≡ r .value) × (q .numbers ≡ tree)
+  written-reads-back kind species p = rw (write-read kind w z species p) (refl, refl, refl)
+
+  -- as a gene tree: always (#104)
+  pub written-reads-back-as-gene-tree : Reads Gene line (take (r .value) after) 0 q → (q .number ≡ 0) × (q .next ≡ r .value) × (q .numbers ≡ tree)
+  written-reads-back-as-gene-tree p = rw (write-read-gene w z p) (refl, refl, refl)
+
+  -- as species text: where every species is there, and else "9 | `;` with a species missing | the `;`", the text's last byte (#104)
+  pub written-reads-back-as-species-text :
+      Reads Species line (take (r .value) after) 0 q
+      → ((largest tree ≡ whole (length (names line))) × (q .number ≡ 0) × (q .next ≡ r .value) × (q .numbers ≡ tree))
+      ⊎ ((largest tree ≡ whole (length (names line)) → ⊥) × (q .number ≡ 9) × (q .place + 1 ≡ r .value) × (getD after (q .place) 0 ≡ 59))
+  written-reads-back-as-species-text p = go (ℕ-discrete (largest tree) (whole (length (names line))))
+    where
+      go : Dec (largest tree ≡ whole (length (names line)))
+          → ((largest tree ≡ whole (length (names line))) × (q .number ≡ 0) × (q .next ≡ r .value) × (q .numbers ≡ tree))
+          ⊎ ((largest tree ≡ whole (length (names line)) → ⊥) × (q .number ≡ 9) × (q .place + 1 ≡ r .value) × (getD after (q .place) 0 ≡ 59))
+      go (yes e) = let b = written-reads-back Species e p in inl (e, b .0, b .1, b .2)
+      go (no lacks) =
+          let b = write-read-lacking w z lacks p in
+          let o = writes-zero w z in
+          let text = written (names line) tree in
+          let ends = written-ends (names line) tree (drop (length text) out) in
+          let place : q .place ≡ length text - 1 = ap (λ (q : Reading). q .place) b ∙ ap (λ (k : ℕ). k - 1) (o .value) in
+          inr (
+            lacks,
+            ap (λ (q : Reading). q .number) b,
+            omega (arith, place, o .value, ends .0),
+            ap (λ (l : List ℕ). getD l (q .place) 0) (o .bytes) ∙ ap (λ (i : ℕ). getD (text ++ drop (length text) out) i 0) place ∙ ends .1,
+          )
+
+-- "reading that form gives the same clusters": a text that was read, written and read again as the same kind
 pub read-written-read :
-    (line text : List ℕ) (start : ℕ) (q : Reading) (out : List ℕ) (r : Reply) (after : List ℕ) (q′ : Reading)
-    → Reads line text start q → q .number ≡ 0 → Writes line (q .numbers) out r after → r .number ≡ 0 → Reads line (take (r .value) after) 0 q′
+    (kind : Kind) (line text : List ℕ) (start : ℕ) (q : Reading) (out : List ℕ) (r : Reply) (after : List ℕ) (q′ : Reading)
+    → Reads kind line text start q → q .number ≡ 0 → Writes line (q .numbers) out r after → r .number ≡ 0 → Reads kind line (take (r .value) after) 0 q′
     → (q′ .number ≡ 0) × SameClusters (listed (q′ .numbers)) (listed (q .numbers))
-read-written-read line text start q out r after q′ p z w y p′ =
-    let b = written-reads-back line (q .numbers) out r after q′ w y p′ in
+read-written-read kind line text start q out r after q′ p z w y p′ =
+    let b = written-reads-back line (q .numbers) out r after q′ w y kind (reads-zero kind line text start p z .species) p′ in
     (b .0, λ x. rw (b .2) (λ m. m, λ m. m))
 
 -- the clusters that were read say which record it is
 same-record :
-    (line : List ℕ) (t t′ : Tree) → faulty speciesMost line ≡ false → On (whole (length (names line))) t → On (whole (length (names line))) t′
-    → SameClusters (clusters t) (clusters t′) → recordOf (clusters t) ≡ recordOf (clusters t′)
-same-record line t t′ good o o′ same =
-    let small = whole-below-sixteen (length (names line)) (good-names line good .few) in
-    record-same (clusters t) (recordOf (clusters t′)) (valid-of-drawn o′ small .form) (clusters-once t (o .once))
+    (kind kind′ : Kind) (line text text′ : List ℕ) (start start′ : ℕ) (t t′ : Tree) (rest rest′ : List ℕ)
+    → Draws kind line text start t rest → Draws kind′ line text′ start′ t′ rest′ → SameClusters (clusters t) (clusters t′)
+    → recordOf (clusters t) ≡ recordOf (clusters t′)
+same-record kind kind′ line text text′ start start′ t t′ rest rest′ d d′ same =
+    record-same (clusters t) (recordOf (clusters t′)) (draws-gene d′ .0 .valid .form) (clusters-once t (d .once))
     (λ x m. record-among (clusters t′) (same x .0 m)) (λ x m. same x .1 (among-record (clusters t′) m))
 
--- "written back in one form": two texts that draw the same clusters are written alike, byte for byte, into the same lent bytes
+-- "written back in one form": two texts of either kind that draw the same clusters are written alike, byte for byte, into the same lent bytes
 pub one-form :
-    (line text text′ : List ℕ) (start start′ : ℕ) (t t′ : Tree) (rest rest′ : List ℕ) (q q′ : Reading) (out : List ℕ) (r r′ : Reply) (after after′ : List ℕ)
-    → Draws line text start t rest → Draws line text′ start′ t′ rest′ → SameClusters (clusters t) (clusters t′)
-    → Reads line text start q → Reads line text′ start′ q′ → Writes line (q .numbers) out r after → Writes line (q′ .numbers) out r′ after′
+    (kind kind′ : Kind) (line text text′ : List ℕ) (start start′ : ℕ) (t t′ : Tree) (rest rest′ : List ℕ) (q q′ : Reading) (out : List ℕ)
+    (r r′ : Reply) (after after′ : List ℕ)
+    → Draws kind line text start t rest → Draws kind′ line text′ start′ t′ rest′ → SameClusters (clusters t) (clusters t′)
+    → Reads kind line text start q → Reads kind′ line text′ start′ q′ → Writes line (q .numbers) out r after → Writes line (q′ .numbers) out r′ after′
     → (r ≡ r′) × (after ≡ after′)
 unfolding Reads
-one-form line text text′ start start′ t t′ rest rest′ q q′ out r r′ after after′ d d′ same p p′ w w′ =
-    let a : q .numbers ≡ recordOf (clusters t) = rw (p, derives-accepted line text start d) refl in
-    let a′ : q′ .numbers ≡ recordOf (clusters t′) = rw (p′, derives-accepted line text′ start′ d′) refl in
-    let e : q .numbers ≡ q′ .numbers = a ∙ same-record line t t′ (d .good) (d .on) (d′ .on) same ∙ sym a′ in
+one-form kind kind′ line text text′ start start′ t t′ rest rest′ q q′ out r r′ after after′ d d′ same p p′ w w′ =
+    let a : q .numbers ≡ recordOf (clusters t) = rw (p, derives-accepted kind line text start d) refl in
+    let a′ : q′ .numbers ≡ recordOf (clusters t′) = rw (p′, derives-accepted kind′ line text′ start′ d′) refl in
+    let e : q .numbers ≡ q′ .numbers = a ∙ same-record kind kind′ line text text′ start start′ t t′ rest rest′ d d′ same ∙ sym a′ in
     writes-once w (subst (λ (tree : List ℕ). Writes line tree out r′ after′) (sym e) w′)
 
 -- ---- "The score of a species tree equals the sum, over its clusters and all gene trees, of the number of maximal gene clusters within that cluster, less one"
 
 -- "the number of maximal gene clusters within that cluster": k is their number where the gene tree is binary ("Binary counts stay", #101)
 pub maximal-within :
-    (n : ℕ) (g : List ℕ) (a : ℕ) → n ≤ 16 → GeneValid n g → BinaryOn (whole n) g
+    (n : ℕ) (g : List ℕ) (a : ℕ) → n ≤ 16 → GeneValid n g → BinaryOn (largest g) g
     → kOf (listed g) a ≡ length (maximal (keep (λ (x : ℕ). within x a) (listed g)))
 unfolding kDrawn
-maximal-within n g a few v two = k-binary v (whole-below-sixteen n few) a two
+maximal-within n g a few v two = k-binary (v .valid) (gene-small few v) a two
 
 -- in any gene tree it is never more
 pub never-more-than-maximal :
     (n : ℕ) (g : List ℕ) (a : ℕ) → n ≤ 16 → GeneValid n g → kOf (listed g) a ≤ length (maximal (keep (λ (x : ℕ). within x a) (listed g)))
 unfolding kDrawn
-never-more-than-maximal n g a few v = k-never-more v (whole-below-sixteen n few) a
+never-more-than-maximal n g a few v = k-never-more (v .valid) (gene-small few v) a
 
 -- "count the gene tree's nodes with at least one child whose cluster is maximal within A, or one where A holds all its species" (#101)
 pub nodes-with-a-maximal-child :
@@ -157,6 +205,18 @@ pub nodes-with-a-maximal-child :
     (length (keep (λ (p : ℕ). some (λ (x : ℕ). among x (maximal (keep (λ (y : ℕ). within y a) (listed g)))) (children (listed g) p)) (listed g)))
 unfolding kOf
 nodes-with-a-maximal-child g a = refl
+
+-- "A gene tree with no cluster within A adds nothing to A's weight" (#104): there k - 1 is 0
+pub none-within-adds-nothing :
+    (n : ℕ) (g : List ℕ) (a : ℕ) → n ≤ 16 → GeneValid n g → ((x : ℕ) → Among x (listed g) → Within x a → ⊥) → kOf (listed g) a - 1 ≡ 0
+unfolding extra
+none-within-adds-nothing n g a few v none = lost-adds-nothing few v a none
+
+-- "Otherwise #101's count less one" (#104): there k is 1 or more, and nothing is cut off at 0
+pub some-within-counts :
+    (n : ℕ) (g : List ℕ) (a x : ℕ) → n ≤ 16 → GeneValid n g → Among x (listed g) → Within x a → kOf (listed g) a ≡ (kOf (listed g) a - 1) + 1
+unfolding extra
+some-within-counts n g a x few v m w = some-within-adds-k-less-one few v a x m w
 
 -- the scoring call gives the sum, over the species tree's clusters A and the gene records g, of k - 1
 pub score-is-the-sum :

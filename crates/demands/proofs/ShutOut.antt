@@ -15,7 +15,7 @@ use Rattle.trees.specs.Drawn.{properly, maximal, placed, byLowest, children, dr
 use Rattle.trees.specs.Lists.{keep, some, insert, sorted, pieces, total, upTo}
 use Rattle.trees.specs.Records.{recordOf}
 use Rattle.trees.specs.Tree.{cluster, clusters}
-use Rattle.trees.specs.Valid.{every, among, rising, singlesFrom, nested, valid, binary}
+use Rattle.trees.specs.Valid.{every, among, rising, singlesFrom, nested, valid, validGene, binary}
 use Rattle.roster.specs.Roster.{same, position, begins, beginnings, nameAt, names, strayAt, longAt, manyAt, againAt, openAt, faultAt, least, firstFault, faulty}
 use Rattle.roster.specs.Judged.{Judged}
 use Rattle.roster.specs.Verdict.{verdict, lengthTest}
@@ -23,6 +23,8 @@ use Rattle.roster.specs.declared.Reply.{Reply}
 use Rattle.tokens.specs.Tokens.{nextIs, nextName, blanks, skip, number, numberBehind, numbers, name, innerName}
 use Rattle.reader.specs.Promise.{answerTo, Reads}
 use Rattle.nodes.specs.Reading.{leafAt, closing, readTreeTo, readTree, readNode}
+use Rattle.reader.specs.declared.Kind.{Kind}
+use Rattle.reader.specs.declared.Kind.the-variants.{Species, Gene}
 use Rattle.reader.specs.declared.Reading.{Reading}
 use Rattle.texts.specs.Writing.{treeText, written, nodeText}
 use Rattle.writer.specs.Promise.{rosterTest, recordTest, writeTests, Writes}
@@ -44,6 +46,7 @@ use Rattle.report.specs.Program.{program}
 use Rattle.outcomes.specs.Outcome.{searched}
 use Rattle.report.specs.Promise.{output, Reports}
 use Rattle.demands.specs.Handed.{Slice, Bytes, AnyRecord, ToRead, ToWrite, GeneTrees, ToWeigh, ToScore, ToMark, ToSearch}
+use Rattle.demands.proofs.SmallInputs.{ab-c, ac-b, every-cluster, lent}
 
 -- ---- what is computed: small inputs and their replies
 
@@ -61,86 +64,83 @@ a-record = recordOf (1 ∷ [])
 room : List ℕ
 room = 9 ∷ 9 ∷ []
 
--- the records of `((a,b),c);` and `((a,c),b);`
-ab-c : List ℕ
-ab-c = recordOf (1 ∷ 2 ∷ 3 ∷ 4 ∷ 7 ∷ [])
-
-ac-b : List ℕ
-ac-b = recordOf (1 ∷ 2 ∷ 4 ∷ 5 ∷ 7 ∷ [])
-
--- all clusters of three species allowed, and a lent table for them
-every-cluster : List ℕ
-every-cluster = replicate 8 1
-
-lent : List ℕ
-lent = replicate 8 9
-
 judge-a : (r : Reply) → Judged a-line r → r ≡ record { number = 0; place = 0; value = 1 }
 unfolding a-line Judged run word upTo same position begins beginnings nameAt names strayAt longAt manyAt againAt openAt faultAt least firstFault faulty keep
 judge-a r p = p
 
-read-a : (r : Reading) → Reads a-line a-text 0 r → r ≡ record { number = 0; place = 0; next = 2; numbers = a-record }
+read-a : (kind : Kind) (r : Reading) → Reads kind a-line a-text 0 r → r ≡ record { number = 0; place = 0; next = 2; numbers = a-record }
 unfolding a-line a-text a-record Reads ones onesIn trailingZeros whole single union has within apart size lowest answerTo leafAt closing readTreeTo
     readTree readNode nextIs nextName blanks skip number numberBehind numbers name innerName run word padded upTo same position begins beginnings
     nameAt names strayAt longAt manyAt againAt openAt faultAt least firstFault faulty keep some insert sorted recordOf cluster clusters
-read-a r p = p
+read-a Species r p = p
+read-a Gene r p = p
+
+-- roster `a b`, of which `a;` has one species: a gene tree, but no species tree
+ab-line : List ℕ
+ab-line = 97 ∷ 32 ∷ 98 ∷ []
+
+read-a-of-two : (r : Reading) → Reads Species ab-line a-text 0 r → Reads Gene ab-line a-text 0 r → ⊥
+unfolding ab-line a-text Reads ones onesIn trailingZeros whole single union has within apart size lowest answerTo leafAt closing readTreeTo
+    readTree readNode nextIs nextName blanks skip number numberBehind numbers name innerName run word padded upTo same position begins beginnings
+    nameAt names strayAt longAt manyAt againAt openAt faultAt least firstFault faulty keep some insert sorted recordOf cluster clusters
+read-a-of-two r p q = omega (arith, ap (λ (r : Reading). r .number) (sym p ∙ q))
 
 write-a : (r : Reply) (after : List ℕ) → Writes a-line a-record room r after → (r ≡ record { number = 0; place = 0; value = 2 }) × (after ≡ a-text)
 unfolding a-line a-text a-record room ones onesIn trailingZeros whole single union has within apart size lowest run word upTo same position begins
     beginnings nameAt names strayAt longAt manyAt againAt openAt faultAt least firstFault faulty keep some insert sorted recordOf cluster every among
-    rising singlesFrom nested valid properly maximal placed byLowest children drawnTo drawn treeText written nodeText verdict lengthTest rosterTest
+    rising singlesFrom nested valid validGene properly maximal placed byLowest children drawnTo drawn treeText written nodeText verdict lengthTest rosterTest
     recordTest writeTests
 write-a r after w = (w .answer, w .bytes)
 
 -- cluster 3, `a` with `b`, weighs nothing in two trees that have it, and 1 where the second does not
 weigh-alike : (r : Reply) → Weighs 3 (ab-c ++ ab-c) 2 3 r → r ≡ record { number = 0; place = 0; value = 0 }
 unfolding ab-c Weighs weightTests clusterTest ones onesIn trailingZeros whole single union has within apart size lowest keep some insert sorted
-    recordOf properly maximal every among rising singlesFrom nested valid binary verdict lengthTest kOf placed byLowest children extra total weight score pieces speciesTest
+    recordOf properly maximal every among rising singlesFrom nested valid validGene binary verdict lengthTest kOf placed byLowest children extra total weight score pieces speciesTest
     countTest firstBad recordsTest
 weigh-alike r p = p
 
 weigh-unlike : (r : Reply) → Weighs 3 (ab-c ++ ac-b) 2 3 r → r ≡ record { number = 0; place = 0; value = 1 }
 unfolding ab-c ac-b Weighs weightTests clusterTest ones onesIn trailingZeros whole single union has within apart size lowest keep some insert sorted
-    recordOf properly maximal every among rising singlesFrom nested valid binary verdict lengthTest kOf placed byLowest children extra total weight score pieces speciesTest
+    recordOf properly maximal every among rising singlesFrom nested valid validGene binary verdict lengthTest kOf placed byLowest children extra total weight score pieces speciesTest
     countTest firstBad recordsTest
 weigh-unlike r p = p
 
 -- and so for the score of `((a,b),c);`
 score-alike : (r : Reply) → Scores 3 (ab-c ++ ab-c) 2 ab-c r → r ≡ record { number = 0; place = 0; value = 0 }
 unfolding ab-c Scores scoreTests speciesRecordTest ones onesIn trailingZeros whole single union has within apart size lowest keep some insert sorted
-    recordOf properly maximal every among rising singlesFrom nested valid binary verdict lengthTest kOf placed byLowest children extra total weight score pieces speciesTest
+    recordOf properly maximal every among rising singlesFrom nested valid validGene binary verdict lengthTest kOf placed byLowest children extra total weight score pieces speciesTest
     countTest firstBad recordsTest
 score-alike r p = p
 
 score-unlike : (r : Reply) → Scores 3 (ab-c ++ ac-b) 2 ab-c r → r ≡ record { number = 0; place = 0; value = 1 }
 unfolding ab-c ac-b Scores scoreTests speciesRecordTest ones onesIn trailingZeros whole single union has within apart size lowest keep some insert
-    sorted recordOf properly maximal every among rising singlesFrom nested valid binary verdict lengthTest kOf placed byLowest children extra total weight score pieces
+    sorted recordOf properly maximal every among rising singlesFrom nested valid validGene binary verdict lengthTest kOf placed byLowest children extra total weight score pieces
     speciesTest countTest firstBad recordsTest
 score-unlike r p = p
 
 mark-one : (r : Reply) (after : List ℕ) → Marks 1 a-record 1 room r after → (r ≡ record { number = 0; place = 0; value = 0 }) × (after ≡ 0 ∷ 1 ∷ [])
 unfolding a-record room markTests shown marks upTo ones onesIn trailingZeros whole single union has within apart size lowest keep some insert sorted
-    recordOf properly maximal every among rising singlesFrom nested valid binary verdict lengthTest kOf placed byLowest children extra total weight score pieces speciesTest
+    recordOf properly maximal every among rising singlesFrom nested valid validGene binary verdict lengthTest kOf placed byLowest children extra total weight score pieces speciesTest
     countTest firstBad recordsTest
 mark-one r after p = (p .reply, p .bytes)
 
 find-ab-c : (r : Found) (s p : List ℕ) → Finds 3 ab-c 1 every-cluster lent lent r s p → r ≡ record { number = 0; place = 0; score = 0; numbers = ab-c }
 unfolding ab-c every-cluster lent ones onesIn trailingZeros whole single union has within apart size lowest keep some insert sorted recordOf properly
-    maximal every among rising singlesFrom nested valid binary verdict lengthTest kOf placed byLowest children extra total weight score pieces speciesTest countTest firstBad
+    maximal every among rising singlesFrom nested valid validGene binary verdict lengthTest kOf placed byLowest children extra total weight score pieces speciesTest countTest firstBad
     recordsTest shown marks upTo least clustersIn isLow lows each forks treesTo treesOn those all scoreOf treesOver leastTrees best allowedIn
     firstStrange allowedTest searchTests bestFor
 find-ab-c r s p f = f .reply
 
 find-ac-b : (r : Found) (s p : List ℕ) → Finds 3 ac-b 1 every-cluster lent lent r s p → r ≡ record { number = 0; place = 0; score = 0; numbers = ac-b }
 unfolding ac-b every-cluster lent ones onesIn trailingZeros whole single union has within apart size lowest keep some insert sorted recordOf properly
-    maximal every among rising singlesFrom nested valid binary verdict lengthTest kOf placed byLowest children extra total weight score pieces speciesTest countTest firstBad
+    maximal every among rising singlesFrom nested valid validGene binary verdict lengthTest kOf placed byLowest children extra total weight score pieces speciesTest countTest firstBad
     recordsTest shown marks upTo least clustersIn isLow lows each forks treesTo treesOn those all scoreOf treesOver leastTrees best allowedIn
     firstStrange allowedTest searchTests bestFor
 find-ac-b r s p f = f .reply
 
 find-both : (r : Found) (s p : List ℕ) → Finds 3 (ab-c ++ ac-b) 2 every-cluster lent lent r s p → r ≡ record { number = 0; place = 0; score = 1; numbers = ab-c }
 unfolding ab-c ac-b every-cluster lent ones onesIn trailingZeros whole single union has within apart size lowest keep some insert sorted recordOf
-    properly maximal every among rising singlesFrom nested valid binary verdict lengthTest kOf placed byLowest children extra total weight score pieces speciesTest countTest
+    properly maximal every among rising singlesFrom nested valid validGene binary verdict lengthTest kOf placed byLowest children extra total weight score pieces speciesTest countTest
     firstBad recordsTest shown marks upTo least clustersIn isLow lows each forks treesTo treesOn those all scoreOf treesOver leastTrees best allowedIn
     firstStrange allowedTest searchTests bestFor
 find-both r s p f = f .reply
@@ -149,7 +149,7 @@ find-tables :
     (r : Found) (s p : List ℕ) → Finds 3 ab-c 1 every-cluster lent lent r s p
     → (s ≡ noTree ∷ 0 ∷ 0 ∷ 0 ∷ 0 ∷ 1 ∷ 1 ∷ 0 ∷ []) × (p ≡ 0 ∷ 0 ∷ 0 ∷ 1 ∷ 0 ∷ 1 ∷ 2 ∷ 3 ∷ [])
 unfolding ab-c every-cluster lent ones onesIn trailingZeros whole single union has within apart size lowest keep some insert sorted recordOf properly
-    maximal every among rising singlesFrom nested valid binary verdict lengthTest kOf placed byLowest children extra total weight score pieces speciesTest countTest firstBad
+    maximal every among rising singlesFrom nested valid validGene binary verdict lengthTest kOf placed byLowest children extra total weight score pieces speciesTest countTest firstBad
     recordsTest shown marks upTo least clustersIn isLow lows each forks treesTo treesOn those all scoreOf treesOver leastTrees best allowedIn
     firstStrange allowedTest searchTests bestFor
 find-tables r s p f = (f .scoreTable, f .splitTable)
@@ -161,7 +161,7 @@ a-input = 97 ∷ 10 ∷ 97 ∷ 108 ∷ 108 ∷ 10 ∷ 97 ∷ 59 ∷ 10 ∷ []
 a-output : output a-input ≡ taxaText ++ 49 ∷ genesText ++ 49 ∷ 10 ∷ scoreText ++ 48 ∷ 10 ∷ 97 ∷ 59 ∷ 10 ∷ []
 unfolding a-input lineLength firstLine behindLine endsInFeed modePlace treesPlace gatherTo gather searched program digitsTo decimal output ones onesIn
     trailingZeros whole single union has within apart size lowest keep some insert sorted recordOf properly maximal every among rising singlesFrom
-    nested valid binary verdict lengthTest kOf extra total weight score pieces speciesTest countTest firstBad recordsTest shown marks upTo least
+    nested valid validGene binary verdict lengthTest kOf extra total weight score pieces speciesTest countTest firstBad recordsTest shown marks upTo least
     clustersIn isLow lows each forks treesTo treesOn those all scoreOf treesOver leastTrees best allowedIn bestFor answerTo leafAt closing readTreeTo
     readTree readNode nextIs nextName blanks skip number numberBehind numbers name innerName run word padded same position begins beginnings nameAt
     names strayAt longAt manyAt againAt openAt faultAt firstFault faulty cluster clusters placed byLowest children drawnTo drawn treeText written
@@ -195,6 +195,10 @@ a-record-handed = record { numbers = slice-told (2 ^ 16) a-record refl (omega ar
 ab-c-handed : AnyRecord ab-c
 unfolding ab-c recordOf sorted insert every
 ab-c-handed = record { numbers = slice-told (2 ^ 16) ab-c refl (omega arith); thirty-two = refl }
+
+to-read-a-of-two : ToRead ab-line a-text 0
+unfolding ab-line every
+to-read-a-of-two = record { line-bytes = slice-told (2 ^ 8) ab-line refl (omega arith); text-bytes = a-text-handed; start-size = omega arith }
 
 to-read-a : ToRead a-line a-text 0
 to-read-a = record { line-bytes = a-line-handed; text-bytes = a-text-handed; start-size = omega arith }
@@ -265,10 +269,11 @@ module _ (f : List ℕ → Reply) (meets : (line : List ℕ) → Bytes line → 
 
 -- ---- reading
 
-module _ (f : List ℕ → List ℕ → ℕ → Reading)
-    (meets : (line text : List ℕ) (start : ℕ) → ToRead line text start → Reads line text start (f line text start)) where
+-- either kind
+module _ (kind : Kind) (f : List ℕ → List ℕ → ℕ → Reading)
+    (meets : (line text : List ℕ) (start : ℕ) → ToRead line text start → Reads kind line text start (f line text start)) where
   read-of-a : f a-line a-text 0 ≡ record { number = 0; place = 0; next = 2; numbers = a-record }
-  read-of-a = read-a (f a-line a-text 0) (meets a-line a-text 0 to-read-a)
+  read-of-a = read-a kind (f a-line a-text 0) (meets a-line a-text 0 to-read-a)
 
   -- "one that turns everything away (demand 2 for reading ..)"
   pub read-does-not-refuse-all : ((line text : List ℕ) (start : ℕ) → ToRead line text start → f line text start .number ≡ 0 → ⊥) → ⊥
@@ -277,6 +282,14 @@ module _ (f : List ℕ → List ℕ → ℕ → Reading)
   -- "one that does nothing": it reads no byte
   pub read-does-something : ((line text : List ℕ) (start : ℕ) → ToRead line text start → f line text start .next ≡ start) → ⊥
   read-does-something stays = omega (arith, ap (λ (r : Reading). r .next) read-of-a, stays a-line a-text 0 to-read-a)
+
+-- "so the reading call is told the kind" (#104): without it, no function meets both promises
+pub reading-is-told-the-kind :
+    (f : List ℕ → List ℕ → ℕ → Reading)
+    → ((line text : List ℕ) (start : ℕ) → ToRead line text start → Reads Species line text start (f line text start))
+    → ((line text : List ℕ) (start : ℕ) → ToRead line text start → Reads Gene line text start (f line text start)) → ⊥
+reading-is-told-the-kind f species gene =
+    read-a-of-two (f ab-line a-text 0) (species ab-line a-text 0 to-read-a-of-two) (gene ab-line a-text 0 to-read-a-of-two)
 
 -- ---- writing
 

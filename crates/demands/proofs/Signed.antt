@@ -8,8 +8,16 @@ use native.Mathlib.Omega.{arith}
 use lib.ListN.{length, getD, take, drop, length-map}
 use Rattle.clusters.proofs.Sets.{below-of-within}
 use Rattle.trees.specs.Tree.{Tree, clusters}
-use Rattle.trees.specs.Records.{recordOf}
-use Rattle.roster.specs.Roster.{names}
+use Rattle.trees.specs.Records.{recordOf, largest, SpeciesValid, GeneValid}
+use Rattle.trees.proofs.GeneRecords.{gene-of-species, largest-of-valid}
+use Rattle.roster.specs.Roster.{names, faulty}
+use Rattle.roster.specs.Judged.{speciesMost}
+use Rattle.roster.proofs.Names.{names-count}
+use Rattle.reader.specs.Promise.{Reads}
+use Rattle.reader.specs.Accepted.{MayHave}
+use Rattle.reader.specs.declared.Kind.{Kind}
+use Rattle.reader.specs.declared.Kind.the-variants.{Species, Gene}
+use Rattle.reader.specs.declared.Reading.{Reading}
 use Rattle.texts.specs.Writing.{written}
 use Rattle.writer.proofs.RoundTrip.{reads-back}
 use Rattle.weights.specs.Count.{weight}
@@ -57,6 +65,21 @@ module _ {n : ℕ} {genes : List (List ℕ)} {trees : List Tree} (all : Bool) (r
 mode-word : (all : Bool) → (modeWord all ≡ allWord) ⊎ (modeWord all ≡ genesWord)
 mode-word true = inl refl
 mode-word false = inr refl
+
+-- ---- the tree's text
+
+-- the text of a species record is read back as species text, and as a gene tree too
+species-reads-back :
+    (line : List ℕ) {r : List ℕ} → faulty speciesMost line ≡ false → SpeciesValid (length (names line)) r → (kind : Kind) {q : Reading}
+    → Reads kind line (written (names line) r) 0 q → q ≡ record { number = 0; place = 0; next = length (written (names line) r); numbers = r }
+species-reads-back line {r} good v kind h = reads-back line good gene kind (species kind) h
+  where
+    gene : GeneValid (length (names line)) r
+    gene = gene-of-species (names-count speciesMost line good .0) v
+
+    species : (kind : Kind) → MayHave kind (length (names line)) (largest r)
+    species Species = largest-of-valid v
+    species Gene = (gene .some-species, gene .of-roster)
 
 -- ---- the three lines
 
@@ -120,7 +143,7 @@ signed input n m s r e = let v = program-reached input a-tree e in go v (searche
           eligible = competitor-eligible (v .all) (g .records) (recordOf (clustersIn (b .tree))) (a .competes);
           counted = sym (score-drawn (g .records) (recordOf (clustersIn (b .tree)))) ∙ a .counted;
           least = λ c h. subst (λ (x : ℕ). scoreOf (weight (v .genes)) (b .tree) ≤ x) (score-drawn (g .records) c) (a .least c (eligible-competes (v .all) (g .records) c h));
-          reads-back = λ q. reads-back (firstLine input) (v .good) (a .competes .valid);
+          reads-back = λ kind q. species-reads-back (firstLine input) (v .good) (a .competes .valid) kind;
           lines = three-lines input (speciesIn input) (length (v .genes)) (scoreOf (weight (v .genes)) (b .tree)) (recordOf (clustersIn (b .tree))) told;
         })
 

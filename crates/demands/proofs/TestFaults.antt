@@ -9,11 +9,12 @@ use lib.ListN.{length, getD}
 use lib.Dec.{leb, ltb}
 use borrow.Author.Tests.{leb-true, leb-false, le-leb, lt-leb, ltb-true, ltb-false, lt-ltb, le-ltb, not-true, not-false}
 use Rattle.clusters.specs.Sets.{whole}
-use Rattle.trees.specs.Records.{ValidOn, SpeciesValid, GeneValid, BinaryOn}
-use Rattle.trees.specs.Valid.{valid, binary}
+use Rattle.trees.specs.Records.{SpeciesValid, GeneValid, BinaryOn}
+use Rattle.trees.specs.Valid.{valid, validGene, binary}
 use Rattle.trees.proofs.Booleans.{unless, never-both}
 use Rattle.trees.proofs.Bounds.{whole-below-sixteen}
 use Rattle.trees.proofs.ValidTest.{Tells, denied, valid-decides, binary-decides}
+use Rattle.trees.proofs.GeneRecords.{gene-decides}
 use Rattle.roster.specs.Roster.{names, faulty, firstFault, faultAt, least}
 use Rattle.roster.specs.Judged.{speciesMost}
 use Rattle.roster.specs.Verdict.{lengthTest}
@@ -132,19 +133,19 @@ unfolding recordTest
 record-met line tree few =
     record {
       numbered = λ z. omega arith;
-      found = λ e. not-valid (denied is-valid (not-true (valid (whole (length (names line))) tree) e));
+      found = λ e. not-valid (denied is-valid (not-true (validGene (length (names line)) tree) e));
       only = only;
     }
   where
-    is-valid : Tells (valid (whole (length (names line))) tree) (ValidOn (whole (length (names line))) tree)
-    is-valid = valid-decides tree (whole-below-sixteen (length (names line)) few)
+    is-valid : Tells (validGene (length (names line)) tree) (GeneValid (length (names line)) tree)
+    is-valid = gene-decides tree few
 
-    only : {k p : ℕ} → RecordFault line tree k p → (not (valid (whole (length (names line))) tree) ≡ true) × (k ≡ 15) × (p ≡ 0)
-    only (not-valid f) = (ap not (unless (valid (whole (length (names line))) tree) (λ v. f (is-valid .holds v))), refl, refl)
+    only : {k p : ℕ} → RecordFault line tree k p → (not (validGene (length (names line)) tree) ≡ true) × (k ≡ 15) × (p ≡ 0)
+    only (not-valid f) = (ap not (unless (validGene (length (names line)) tree) (λ v. f (is-valid .holds v))), refl, refl)
 
 module _ (n : ℕ) (few : n ≤ 16) where
-  is-valid : (g : List ℕ) → Tells (valid (whole n) g) (GeneValid n g)
-  is-valid g = valid-decides g (whole-below-sixteen n few)
+  is-valid : (g : List ℕ) → Tells (validGene n g) (GeneValid n g)
+  is-valid g = gene-decides g few
 
   -- what the index says: that record is not valid, and those before it are
   first-bad-means :
@@ -152,9 +153,9 @@ module _ (n : ℕ) (few : n ≤ 16) where
       → (GeneValid n (getD genes (firstBad n genes) []) → ⊥) × ((j : ℕ) → j < firstBad n genes → GeneValid n (getD genes j []))
   unfolding firstBad
   first-bad-means [] h = absurd (omega arith)
-  first-bad-means (g ∷ l) h = go (valid (whole n) g) refl h (first-bad-means l)
+  first-bad-means (g ∷ l) h = go (validGene n g) refl h (first-bad-means l)
     where
-      go : (b : Bool) → valid (whole n) g ≡ b → oneMore b (firstBad n l) < suc (length l)
+      go : (b : Bool) → validGene n g ≡ b → oneMore b (firstBad n l) < suc (length l)
           → (firstBad n l < length l → (GeneValid n (getD l (firstBad n l) []) → ⊥) × ((j : ℕ) → j < firstBad n l → GeneValid n (getD l j [])))
           → (GeneValid n (getD (g ∷ l) (oneMore b (firstBad n l)) []) → ⊥) × ((j : ℕ) → j < oneMore b (firstBad n l) → GeneValid n (getD (g ∷ l) j []))
       go true e h later = let k = later (omega arith) in (k .0, earlier (k .1))
@@ -170,7 +171,7 @@ module _ (n : ℕ) (few : n ≤ 16) where
       → firstBad n genes ≡ i
   unfolding firstBad
   first-bad-is [] i h bad good = absurd (omega arith)
-  first-bad-is (g ∷ l) zero h bad good = rw (unless (valid (whole n) g) (λ v. bad (is-valid g .holds v))) refl
+  first-bad-is (g ∷ l) zero h bad good = rw (unless (validGene n g) (λ v. bad (is-valid g .holds v))) refl
   first-bad-is (g ∷ l) (suc i) h bad good =
       rw (is-valid g .told (good 0 (omega arith))) (ap suc (first-bad-is l i (omega arith) bad (λ j m. good (suc j) (omega arith))))
 

@@ -7,8 +7,7 @@ use mathlib.Core.List.{List}
 use Rattle.clusters.specs.Sets.{whole}
 use Rattle.trees.specs.Lists.{Among, Sublist}
 use Rattle.trees.specs.Records.{listed, SpeciesValid, BinaryOn, recordsIn}
-use Rattle.trees.proofs.Bounds.{whole-below-sixteen}
-use Rattle.trees.proofs.ValidTest.{valid-decides}
+use Rattle.trees.proofs.GeneRecords.{gene-decides}
 use Rattle.roster.specs.declared.Reply.{Reply}
 use Rattle.weights.specs.Count.{score}
 use Rattle.lineages.specs.Promise.{Scores}
@@ -31,7 +30,7 @@ competitor-scorable {n} a k = record {
     some-genes = a .some-genes;
     few-genes = a .few-genes;
     genes-fit = a .genes-fit;
-    genes-valid = λ g m. valid-decides g (whole-below-sixteen n (a .few-species)) .holds (a .genes-valid g m);
+    genes-valid = λ g m. gene-decides g (a .few-species) .holds (a .genes-valid g m);
   };
   species-valid = k .valid;
   species-binary = k .binary;

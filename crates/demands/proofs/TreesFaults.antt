@@ -18,6 +18,7 @@ use Rattle.tokens.specs.Answers.Answer.{parsed, refused}
 use Rattle.tokens.specs.Tokens.{blanks, skip}
 use Rattle.nodes.proofs.Exact.{blanks-skip}
 use Rattle.reader.specs.Promise.{readingOf, answerTo, Reads}
+use Rattle.reader.specs.declared.Kind.the-variants.{Gene}
 use Rattle.reader.specs.declared.Reading.{Reading}
 use Rattle.reader.proofs.Accepts.{accepted-derives}
 use Rattle.gather.specs.GeneTrees.{Gathered, genesMost, gatherOn, gatherAt, gatherMore, gatherTo, gather}
@@ -58,19 +59,19 @@ module _ (line txt : List ℕ) where
           → gatherTo k line txt (before ++ (r ∷ [])) q ≡ stopped number place → TreesFault line txt shift number (shift + place)
 
       read :
-          (a : Answer Tree) → answerTo line txt (begun line txt at) ≡ a → begun line txt at < length txt → length before < genesMost
+          (a : Answer Tree) → answerTo Gene line txt (begun line txt at) ≡ a → begun line txt at < length txt → length before < genesMost
           → gatherOn (readingOf (begun line txt at) a .number) (readingOf (begun line txt at) a)
           (λ numbers next. gatherTo k line txt (before ++ (numbers ∷ [])) next)
           ≡ stopped number place
           → Later → TreesFault line txt shift number (shift + place)
       read (parsed t rest q) a inside l e later =
-          let d = accepted-derives line txt (begun line txt at) a in
+          let d = accepted-derives Gene line txt (begun line txt at) a in
           let longer : suc (length before) ≡ length (before ++ (recordOf (clusters t) ∷ [])) = omega (arith, length-more before (recordOf (clusters t))) in
           later (recordOf (clusters t)) q l
           (subst (λ (m : ℕ). TreesTo line txt m q) longer
           (one-more trees (draws-behind-blanks line txt at (d .draws)) (behind-blanks line txt at (d .place))))
           e
-      read (refused zero p) a inside l e later = absurd (omega (arith, fault-numbers (fault-of-refusal line txt (begun line txt at) 0 p a)))
+      read (refused zero p) a inside l e later = absurd (omega (arith, fault-numbers (fault-of-refusal Gene line txt (begun line txt at) 0 p a)))
       read (refused (suc m) p) a inside l e later =
           let k : suc m ≡ number = cc in
           let q : p ≡ place = cc in
@@ -86,7 +87,7 @@ module _ (line txt : List ℕ) where
           let q : begun line txt at ≡ place = cc in
           let full : length before ≡ genesMost = let h = leb-true genesMost (length before) is in omega arith in
           rw (← k, ← q) (tree-513 (more-behind (subst (λ (m : ℕ). TreesTo line txt m at) full trees) inside))
-      room false is inside e later = read (answerTo line txt (begun line txt at)) refl inside (leb-false genesMost (length before) is) e later
+      room false is inside e later = read (answerTo Gene line txt (begun line txt at)) refl inside (leb-false genesMost (length before) is) e later
 
       ends :
           (b : Bool) → leb (length txt) (begun line txt at) ≡ b
@@ -106,7 +107,7 @@ module _ (line txt : List ℕ) where
   -- a tree that is read is one more turn
   step :
       (k : ℕ) (genes : List (List ℕ)) (at : ℕ) {t : Tree} {rest : List ℕ} {next : ℕ}
-      → begun line txt at < length txt → length genes < genesMost → answerTo line txt (begun line txt at) ≡ parsed t rest next
+      → begun line txt at < length txt → length genes < genesMost → answerTo Gene line txt (begun line txt at) ≡ parsed t rest next
       → gatherTo (suc k) line txt genes at ≡ gatherTo k line txt (genes ++ (recordOf (clusters t) ∷ [])) next
   unfolding gatherTo
   step k genes at inside few e = rw (lt-leb (length txt) (begun line txt at) inside, lt-leb genesMost (length genes) few, e) refl
@@ -190,14 +191,14 @@ module _ (line txt : List ℕ) where
 -- a 513th tree, or a text from b on that has the fault of the number, at the place in the input
 pub trees-fault-means :
     {line txt : List ℕ} {shift number place : ℕ} → TreesFault line txt shift number place
-    → (number ≡ 17) ⊎ ((b : ℕ) × (q : ℕ) × TextFault line txt b number q × (place ≡ shift + q))
-trees-fault-means {line} {txt} (refused-tree {b = b} r h few reads f) = inr (b, r .place, read-refused line txt b r reads f .0, refl)
+    → (number ≡ 17) ⊎ ((b : ℕ) × (q : ℕ) × TextFault Gene line txt b number q × (place ≡ shift + q))
+trees-fault-means {line} {txt} (refused-tree {b = b} r h few reads f) = inr (b, r .place, read-refused Gene line txt b r reads f .0, refl)
 trees-fault-means (tree-513 h) = inl refl
 
 -- "14" is not said of a tree's text
 pub stopped-early : (line txt : List ℕ) {number place : ℕ} → gather line txt ≡ stopped number place → number ≡ 14 → ⊥
 stopped-early line txt {number} {place} e f = go (trees-fault-means (stopped-fault line txt 0 e))
   where
-    go : (number ≡ 17) ⊎ ((b : ℕ) × (q : ℕ) × TextFault line txt b number q × (0 + place ≡ 0 + q)) → ⊥
+    go : (number ≡ 17) ⊎ ((b : ℕ) × (q : ℕ) × TextFault Gene line txt b number q × (0 + place ≡ 0 + q)) → ⊥
     go (inl k) = omega arith
     go (inr h) = omega (arith, fault-numbers (h .2))

@@ -6,7 +6,7 @@ use mathlib.Core.Bool.{true, false}
 use mathlib.Core.List.{List, []}
 use lib.ListN.{length, getD}
 use Rattle.clusters.specs.Sets.{whole}
-use Rattle.trees.specs.Records.{ValidOn, SpeciesValid, GeneValid, BinaryOn, recordsIn}
+use Rattle.trees.specs.Records.{SpeciesValid, GeneValid, BinaryOn, recordsIn}
 use Rattle.roster.specs.Roster.{names, faultAt}
 use Rattle.roster.specs.Judged.{speciesMost}
 use Rattle.texts.specs.Writing.{written}
@@ -48,9 +48,9 @@ pub data RecordsFault (n : ℕ) (genes : List (List ℕ)) : ℕ → ℕ → Type
       {i : ℕ} → i < length genes → (GeneValid n (getD genes i []) → ⊥) → ((j : ℕ) → j < i → GeneValid n (getD genes j []))
       → RecordsFault n genes 15 i
 
--- the same for the writer, which has one record: its index is 0
+-- the same for the writer, which has one record: its index is 0. "the writer takes both" kinds (#104)
 pub data RecordFault (line tree : List ℕ) : ℕ → ℕ → Type 0 where
-  not-valid : (ValidOn (whole (length (names line))) tree → ⊥) → RecordFault line tree 15 0
+  not-valid : (GeneValid (length (names line)) tree → ⊥) → RecordFault line tree 15 0
 
 -- "13 | number is no cluster .. | that number": "A cluster is a number from 1 to 2^n - 1"
 pub data ClusterFault (n a : ℕ) : ℕ → ℕ → Type 0 where

@@ -10,6 +10,8 @@ use Rattle.trees.specs.Valid.{among}
 use Rattle.roster.specs.Roster.{names, same}
 use Rattle.trees.specs.Lists.{upTo}
 use Rattle.reader.specs.Promise.{answerTo, readingOf}
+use Rattle.reader.specs.declared.Kind.{Kind}
+use Rattle.reader.specs.declared.Kind.the-variants.{Species, Gene}
 use Rattle.texts.specs.Writing.{written}
 use Rattle.weights.specs.Count.{kOf, score}
 use Rattle.lineages.specs.Promise.{marks}
@@ -30,9 +32,9 @@ pub data Row : Type 0 where
   scored : List ℕ → List ℕ → List ℕ → ℕ → Row
   searched : List ℕ → List (List ℕ) → Allowed → ℕ → ℕ → List ℕ → Row
 
--- the record that a text reads to
-unfoldable pub recordIn : List ℕ → List ℕ → List ℕ
-recordIn line text = readingOf 0 (answerTo line text 0) .numbers
+-- the record that a text of the kind reads to
+unfoldable pub recordIn : Kind → List ℕ → List ℕ → List ℕ
+recordIn kind line text = readingOf 0 (answerTo kind line text 0) .numbers
 
 -- the allowed set as bytes
 abbrev pub bytesOf : Allowed → ℕ → List (List ℕ) → List ℕ
@@ -53,15 +55,15 @@ foundIn line genes allowed =
 -- the row says what the definitions give
 unfoldable pub holds : Row → Bool
 unfolding recordIn foundIn
-holds (recorded line text numbers) = same (recordIn line text) numbers
-holds (counted line text a k) = eqb (kOf (listed (recordIn line text)) a) k
-holds (scored line gene species s) = eqb (score (recordIn line gene ∷ []) (recordIn line species)) s
+holds (recorded line text numbers) = same (recordIn Species line text) numbers
+holds (counted line text a k) = eqb (kOf (listed (recordIn Gene line text)) a) k
+holds (scored line gene species s) = eqb (score (recordIn Gene line gene ∷ []) (recordIn Species line species)) s
 holds (searched line genes allowed number s text) =
-    eqb (foundIn line (map (recordIn line) genes) allowed .number) number && eqb (foundIn line (map (recordIn line) genes) allowed .place) 0
-    && eqb (foundIn line (map (recordIn line) genes) allowed .score) s
-    && same (foundIn line (map (recordIn line) genes) allowed .numbers) (recordIn line text)
+    eqb (foundIn line (map (recordIn Gene line) genes) allowed .number) number && eqb (foundIn line (map (recordIn Gene line) genes) allowed .place) 0
+    && eqb (foundIn line (map (recordIn Gene line) genes) allowed .score) s
+    && same (foundIn line (map (recordIn Gene line) genes) allowed .numbers) (recordIn Species line text)
     && same
-    (textBy (foundIn line (map (recordIn line) genes) allowed .number) line (foundIn line (map (recordIn line) genes) allowed .numbers))
+    (textBy (foundIn line (map (recordIn Gene line) genes) allowed .number) line (foundIn line (map (recordIn Gene line) genes) allowed .numbers))
     text
 
 -- every row of a table holds

@@ -4,8 +4,7 @@ use mathlib.Core.Path.{_≡_}
 use mathlib.Core.Bool.{false}
 use mathlib.Core.List.{List}
 use lib.ListN.{length}
-use Rattle.clusters.specs.Sets.{whole}
-use Rattle.trees.specs.Records.{ValidOn, AllValid, recordsIn}
+use Rattle.trees.specs.Records.{GeneValid, AllValid, recordsIn}
 use Rattle.roster.specs.Roster.{names, faulty}
 use Rattle.roster.specs.Judged.{speciesMost}
 use Rattle.texts.specs.Writing.{written}
@@ -30,8 +29,8 @@ pub record Markable (n : ℕ) (genes : List ℕ) (count : ℕ) (out : List ℕ) 
   pub in-order : GenesInOrder n genes count
   pub out-fits : 2 ^ n ≤ length out
 
--- what the writer accepts: a good roster, a valid record, and as many bytes as its text has
+-- what the writer accepts: a good roster, a valid record of a gene tree, with every species or not (#104), and as many bytes as its text has
 pub record Writable (line tree out : List ℕ) : Type 0 where
   pub roster-good : faulty speciesMost line ≡ false
-  pub tree-valid : ValidOn (whole (length (names line))) tree
+  pub tree-valid : GeneValid (length (names line)) tree
   pub out-fits : length (written (names line) tree) ≤ length out

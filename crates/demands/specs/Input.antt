@@ -12,17 +12,18 @@ use Rattle.roster.specs.Roster.{names, faulty}
 use Rattle.roster.specs.Judged.{speciesMost}
 use Rattle.nodes.specs.Grammar.{Blanks}
 use Rattle.reader.specs.Promise.{textMost}
+use Rattle.reader.specs.declared.Kind.the-variants.{Gene}
 use Rattle.reader.specs.Accepted.{Draws, JustBehind}
 use Rattle.gather.specs.GeneTrees.{genesMost}
 use Rattle.report.specs.Input.{allWord, genesWord}
 use Rattle.outcomes.specs.Outcome.{programMost}
 
--- "then trees until only blanks remain": each is drawn from the offset just behind the one before it
+-- "then trees until only blanks remain": gene trees (#104), each drawn from the offset just behind the one before it
 pub data TreesFrom (line text : List ℕ) : ℕ → List Tree → Type 0 where
   only-blanks : {at : ℕ} → Blanks (drop at text) [] → TreesFrom line text at []
   a-tree :
       {at next : ℕ} {t : Tree} {rest : List ℕ} {trees : List Tree}
-      → Draws line text at t rest → JustBehind text at rest next → TreesFrom line text next trees → TreesFrom line text at (t ∷ trees)
+      → Draws Gene line text at t rest → JustBehind text at rest next → TreesFrom line text next trees → TreesFrom line text at (t ∷ trees)
 
 -- "Standard input holds the roster line, a line that is exactly `all` or `genes`, then trees", inside the program's limits
 pub record Holds (input line mode : List ℕ) (trees : List Tree) : Type 0 where
@@ -35,7 +36,7 @@ pub record Holds (input line mode : List ℕ) (trees : List Tree) : Type 0 where
   pub few-species : length (names line) ≤ programMost
   -- "exactly `all` or `genes`"
   pub mode-word : (mode ≡ allWord) ⊎ (mode ≡ genesWord)
-  -- gene trees stand behind the two lines, each drawn by the grammar with every species once, and nothing else
+  -- gene trees stand behind the two lines, each drawn by the grammar with each of its species once, and nothing else
   pub stand : TreesFrom line text 0 trees
   pub some-trees : 1 ≤ length trees
   pub few-trees : length trees ≤ genesMost

@@ -9,6 +9,7 @@ use Rattle.trees.specs.Tree.{Tree}
 use Rattle.roster.specs.Roster.{names}
 use Rattle.nodes.specs.Grammar.{Blanks}
 use Rattle.reader.specs.Promise.{textMost, Reads}
+use Rattle.reader.specs.declared.Kind.the-variants.{Gene}
 use Rattle.reader.specs.declared.Reading.{Reading}
 use Rattle.reader.specs.Accepted.{Draws, JustBehind}
 use Rattle.gather.specs.GeneTrees.{genesMost}
@@ -40,7 +41,7 @@ pub data TreesTo (line text : List ℕ) : ℕ → ℕ → Type 0 where
   no-tree-yet : TreesTo line text 0 0
   one-more :
       {m at next : ℕ} {t : Tree} {rest : List ℕ}
-      → TreesTo line text m at → Draws line text at t rest → JustBehind text at rest next → TreesTo line text (suc m) next
+      → TreesTo line text m at → Draws Gene line text at t rest → JustBehind text at rest next → TreesTo line text (suc m) next
 
 -- "until only blanks remain": behind m trees more stands there, and begins at b, "its first byte that is no blank"
 pub record MoreBehind (line text : List ℕ) (m b : ℕ) : Type 0 where
@@ -52,9 +53,9 @@ pub record MoreBehind (line text : List ℕ) (m b : ℕ) : Type 0 where
 
 -- the text behind the two lines begins at shift: "Places are offsets in the input"
 pub data TreesFault (line text : List ℕ) (shift : ℕ) : ℕ → ℕ → Type 0 where
-  -- behind fewer than 512 trees stands what the reader refuses
+  -- behind fewer than 512 trees stands what the reader refuses as a gene tree
   refused-tree :
-      {m b : ℕ} (r : Reading) → MoreBehind line text m b → m < genesMost → Reads line text b r → (r .number ≡ 0 → ⊥)
+      {m b : ℕ} (r : Reading) → MoreBehind line text m b → m < genesMost → Reads Gene line text b r → (r .number ≡ 0 → ⊥)
       → TreesFault line text shift (r .number) (shift + r .place)
   -- "a 513th tree is 17 at its first byte that is no blank, before it is read"
   tree-513 : {b : ℕ} → MoreBehind line text genesMost b → TreesFault line text shift 17 (shift + b)

@@ -9,6 +9,7 @@ use Rattle.trees.specs.Tree.{Tree}
 use Rattle.trees.specs.Records.{listed, SpeciesValid, BinaryOn}
 use Rattle.roster.specs.Roster.{names}
 use Rattle.reader.specs.Promise.{Reads}
+use Rattle.reader.specs.declared.Kind.{Kind}
 use Rattle.reader.specs.declared.Reading.{Reading}
 use Rattle.texts.specs.Writing.{written}
 use Rattle.printing.specs.Words.{taxaText, genesText, scoreText, newline, decimal}
@@ -54,9 +55,9 @@ pub record Signed (input : List ℕ) (n m s : ℕ) (r : List ℕ) : Type 0 where
   -- its score, counted over the gene trees as drawn, is s, and no such tree has less
   pub counted : scoreOver trees r ≡ s
   pub least : (c : List ℕ) → Eligible n mode trees c → s ≤ scoreOver trees c
-  -- its text, read on the roster, gives that very tree
+  -- its text, read on the roster as either kind, gives that very tree
   pub reads-back :
-      (q : Reading) → Reads line (written (names line) r) 0 q
+      (kind : Kind) (q : Reading) → Reads kind line (written (names line) r) 0 q
       → q ≡ record { number = 0; place = 0; next = length (written (names line) r); numbers = r }
   -- and the output is three lines: species and gene trees, the score, the tree
   pub lines :

@@ -4,23 +4,23 @@ use mathlib.Core.Path.{_≡_}
 use mathlib.Core.Bool.{true, false}
 use mathlib.Core.List.{List}
 use lib.ListN.{length, drop}
-use Rattle.clusters.specs.Sets.{whole}
 use Rattle.roster.specs.Roster.{names, faulty, firstFault}
 use Rattle.roster.specs.Judged.{speciesMost}
-use Rattle.reader.specs.Promise.{textMost}
+use Rattle.reader.specs.Promise.{textMost, needed}
+use Rattle.reader.specs.declared.Kind.{Kind}
 use Rattle.nodes.specs.Meaning.{Refusal}
 
--- the fault of a text that is read from start on, by the number and the place that are given for it
-pub data TextFault (line text : List ℕ) (start : ℕ) : ℕ → ℕ → Type 0 where
+-- the fault of a text that is read from start on as a tree of the kind, by the number and the place that are given for it
+pub data TextFault (kind : Kind) (line text : List ℕ) (start : ℕ) : ℕ → ℕ → Type 0 where
   -- "1 | roster faulty | first byte at fault"
-  roster-faulty : faulty speciesMost line ≡ true → TextFault line text start 1 (firstFault speciesMost line)
+  roster-faulty : faulty speciesMost line ≡ true → TextFault kind line text start 1 (firstFault speciesMost line)
   -- "2 | text over 65,536 bytes | 65,536"
-  too-long : faulty speciesMost line ≡ false → textMost < length text → TextFault line text start 2 textMost
+  too-long : faulty speciesMost line ≡ false → textMost < length text → TextFault kind line text start 2 textMost
   -- "A start beyond the text gives 10": "text length"
-  beyond : faulty speciesMost line ≡ false → length text ≤ textMost → length text < start → TextFault line text start 10 (length text)
-  -- 3 to 10 "as met", with what each says of the text
+  beyond : faulty speciesMost line ≡ false → length text ≤ textMost → length text < start → TextFault kind line text start 10 (length text)
+  -- 3 to 10 "as met", with what each says of the text; 9 is for a species that the kind needs (#104)
   as-met :
       {number place : ℕ}
       → faulty speciesMost line ≡ false → length text ≤ textMost → start ≤ length text
-      → Refusal (names line) (whole (length (names line))) (drop start text) start number place
-      → TextFault line text start number place
+      → Refusal (names line) (needed kind (length (names line))) (drop start text) start number place
+      → TextFault kind line text start number place

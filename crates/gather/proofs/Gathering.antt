@@ -11,6 +11,7 @@ use borrow.Author.Tests.{le-leb, lt-leb, leb-false}
 use Rattle.trees.specs.Lists.{pieces}
 use Rattle.tokens.specs.Tokens.{blanks}
 use Rattle.reader.specs.Promise.{answerTo, readingOf, Reads}
+use Rattle.reader.specs.declared.Kind.the-variants.{Gene}
 use Rattle.reader.specs.declared.Reading.{Reading}
 use Rattle.trees.specs.Records.{recordsIn}
 use Rattle.trees.proofs.Lent.{length-recordsIn}
@@ -41,7 +42,7 @@ module _ (line trees : List ℕ) where
 
     -- a tree is refused
     pub left-refused :
-        (r : Reading) → p < length trees → length genes < 512 → Reads line trees p r → (r .number ≡ 0 → ⊥)
+        (r : Reading) → p < length trees → length genes < 512 → Reads Gene line trees p r → (r .number ≡ 0 → ⊥)
         → leftFrom k genes p ≡ stopped (r .number) (r .place)
     unfolding leftFrom Reads
     left-refused r h l e some = rw (lt-leb (length trees) p h, lt-leb 512 (length genes) l, ← e) (go (r .number) refl)
@@ -55,7 +56,7 @@ module _ (line trees : List ℕ) where
   -- a tree is read
   pub left-read :
       (k : ℕ) (genes : List (List ℕ)) (p : ℕ) (r : Reading)
-      → p < length trees → length genes < 512 → Reads line trees p r → r .number ≡ 0
+      → p < length trees → length genes < 512 → Reads Gene line trees p r → r .number ≡ 0
       → leftFrom (suc k) genes p ≡ leftFrom k (genes ++ (r .numbers ∷ [])) (r .next + blanks (drop (r .next) trees))
   unfolding leftFrom Reads gatherTo
   left-read k genes p r h l e z = rw (lt-leb (length trees) p h, lt-leb 512 (length genes) l, ← e, z)
@@ -79,7 +80,7 @@ module _ {line trees : List ℕ} {count : ℕ} {genes : List ℕ} {at : ℕ} (no
   pub left-full : at < length trees → count ≡ 512 → stopped 17 at ≡ gather line trees
   left-full h e = sym (left-many line trees (513 - count) (recordsIn count genes) at h (length-recordsIn count genes ∙ e)) ∙ now .same
 
-  module _ (r : Reading) (inside : at < length trees) (room : count ≡ 512 → ⊥) (read : Reads line trees at r) where
+  module _ (r : Reading) (inside : at < length trees) (room : count ≡ 512 → ⊥) (read : Reads Gene line trees at r) where
     below : length (recordsIn count genes) < 512
     below = omega (arith, length-recordsIn count genes, now .few, room)
 
@@ -121,7 +122,7 @@ module _ (line trees : List ℕ) where
           → gatherAt b line trees p (λ numbers at. gatherTo k line trees (genes ++ (numbers ∷ [])) at)
           ≡ gatherAt b line trees p (λ numbers at. gatherTo k′ line trees (genes ++ (numbers ∷ [])) at)
       same-at true e = refl
-      same-at false e = same-on (leb-false 512 (length genes) e) (readingOf p (answerTo line trees p) .number) (readingOf p (answerTo line trees p))
+      same-at false e = same-on (leb-false 512 (length genes) e) (readingOf p (answerTo Gene line trees p) .number) (readingOf p (answerTo Gene line trees p))
 
       same-more :
           (b : Bool)

@@ -1,6 +1,6 @@
 -- What the gene trees are that were gathered: valid records, 512 at the most; and where a refusal stands.
 use Prim.Native.Nat.{ℕ, zero, suc, _+_, _≤_, _<_}
-use mathlib.Core.Path.{_≡_, refl, sym, subst}
+use mathlib.Core.Path.{_≡_, refl, sym, ap, _∙_, subst}
 use mathlib.Core.Bool.{Bool, true, false}
 use mathlib.Core.Logic.{⊎-elim}
 use mathlib.Core.List.{List, [], _∷_, _++_, List·Memᴰ, List·Memᴰ·append-cases, List·Memᴰ·eq-of-singleton, List·Memᴰ·not-nil}
@@ -10,21 +10,20 @@ use native.Mathlib.Omega.{arith}
 use lib.ListN.{length, drop, length-append, length-drop}
 use lib.Dec.{leb}
 use borrow.Author.Tests.{leb-false, le-leb}
-use Rattle.clusters.specs.Sets.{whole}
 use Rattle.trees.specs.Tree.{Tree, clusters}
 use Rattle.trees.specs.Records.{GeneValid, recordOf, AllValid}
-use Rattle.trees.proofs.Bounds.{whole-below-sixteen}
-use Rattle.trees.proofs.Recorded.{valid-of-drawn}
 use Rattle.roster.specs.Roster.{names, faulty}
 use Rattle.roster.specs.Judged.{speciesMost}
-use Rattle.roster.proofs.Names.{names-count}
 use Rattle.tokens.specs.Answers.{Answer}
 use Rattle.tokens.specs.Answers.Answer.{parsed, refused as refusedAt}
 use Rattle.tokens.specs.Tokens.{blanks}
 use Rattle.nodes.specs.Reading.{readTree}
 use Rattle.nodes.specs.Meaning.{Means}
 use Rattle.reader.specs.Promise.{textMost, answerTo, readingOf}
+use Rattle.reader.specs.declared.Kind.the-variants.{Gene}
 use Rattle.reader.proofs.Accepts.{accepted-derives}
+use Rattle.reader.proofs.Replies.{refusal-some, draws-gene}
+use Rattle.reader.proofs.ByKind.{gene-never-nine}
 use Rattle.nodes.proofs.Meaning.{refusal-means}
 use Rattle.nodes.proofs.Refusals.{refusal-inside, refusal-numbers, says-10}
 use Rattle.gather.specs.GeneTrees.{Gathered, gatherOn, gatherAt, gatherMore, gatherTo, gather}
@@ -40,10 +39,10 @@ Holds P Q (stopped number place) = Q number place
 module _
     (line trees : List ℕ) (P : List (List ℕ) → Type 0) (Q : ℕ → ℕ → Type 0)
     (read :
-    (genes : List (List ℕ)) (p : ℕ) (t : Tree) (rest : List ℕ) (q : ℕ) → length genes < 512 → P genes → answerTo line trees p ≡ parsed t rest q
+    (genes : List (List ℕ)) (p : ℕ) (t : Tree) (rest : List ℕ) (q : ℕ) → length genes < 512 → P genes → answerTo Gene line trees p ≡ parsed t rest q
     → P (genes ++ (recordOf (clusters t) ∷ [])))
     (many : (p : ℕ) → p < length trees → Q 17 p)
-    (refuse : (p number q : ℕ) → p < length trees → answerTo line trees p ≡ refusedAt number q → (1 ≤ number) × Q number q)
+    (refuse : (p number q : ℕ) → p < length trees → answerTo Gene line trees p ≡ refusedAt number q → (1 ≤ number) × Q number q)
   where
     -- at most k more turns keep it
     abbrev Kept : ℕ → Type 0
@@ -54,7 +53,7 @@ module _
       next numbers at = gatherTo k line trees (genes ++ (numbers ∷ [])) at
 
       answered :
-          p < length trees → length genes < 512 → (a : Answer Tree) → answerTo line trees p ≡ a
+          p < length trees → length genes < 512 → (a : Answer Tree) → answerTo Gene line trees p ≡ a
           → Holds P Q (gatherOn (readingOf p a .number) (readingOf p a) next)
       answered inside few (parsed t rest q) e = later (genes ++ (recordOf (clusters t) ∷ [])) q (read genes p t rest q few holds e)
       answered inside few (refusedAt zero q) e = absurd (omega (arith, refuse p zero q inside e .0))
@@ -62,7 +61,7 @@ module _
 
       begun : p < length trees → (b : Bool) → leb 512 (length genes) ≡ b → Holds P Q (gatherAt b line trees p next)
       begun inside true e = many p inside
-      begun inside false e = answered inside (leb-false 512 (length genes) e) (answerTo line trees p) refl
+      begun inside false e = answered inside (leb-false 512 (length genes) e) (answerTo Gene line trees p) refl
 
       turned : (b : Bool) → leb (length trees) p ≡ b → Holds P Q (gatherMore b line trees genes p next)
       turned true e = holds
@@ -94,23 +93,22 @@ among n genes r all one g m =
 
 -- ---- one tree
 
-module _ (line trees : List ℕ) (good : faulty speciesMost line ≡ false) where
-  -- a tree that is read has a valid record
-  read-valid :
-      (p : ℕ) {t : Tree} {rest : List ℕ} {q : ℕ} → answerTo line trees p ≡ parsed t rest q
-      → GeneValid (length (names line)) (recordOf (clusters t))
-  read-valid p e =
-      valid-of-drawn (accepted-derives line trees p e .draws .on) (whole-below-sixteen (length (names line)) (names-count speciesMost line good .1))
+-- a tree that is read has a valid gene record
+read-valid :
+    (line trees : List ℕ) (p : ℕ) {t : Tree} {rest : List ℕ} {q : ℕ} → answerTo Gene line trees p ≡ parsed t rest q
+    → GeneValid (length (names line)) (recordOf (clusters t))
+read-valid line trees p e = draws-gene (accepted-derives Gene line trees p e .draws) .0
 
+module _ (line trees : List ℕ) (good : faulty speciesMost line ≡ false) where
   -- one that is refused has a number from 3 on, and its place lies in the text
   refused-inside :
-      (p : ℕ) {number q : ℕ} → length trees ≤ textMost → p < length trees → answerTo line trees p ≡ refusedAt number q → (3 ≤ number) × (q ≤ length trees)
+      (p : ℕ) {number q : ℕ} → length trees ≤ textMost → p < length trees → answerTo Gene line trees p ≡ refusedAt number q → (3 ≤ number) × (q ≤ length trees)
   unfolding answerTo
   refused-inside p {number} {q} short inside e =
-      let read : readTree (names line) (whole (length (names line))) (drop p trees) p ≡ refusedAt number q =
+      let read : readTree (names line) 0 (drop p trees) p ≡ refusedAt number q =
       rw (good, le-leb (length trees) textMost short, le-leb p (length trees) (omega arith)) at e
       in
-      let r = refusal-means (names line) (whole (length (names line))) (drop p trees) p read in
+      let r = refusal-means (names line) 0 (drop p trees) p read in
       let d = byte-within (r .means) (decLe number 9) in
       (refusal-numbers (r .means) .0, omega (arith, r .place, length-drop p trees))
 
@@ -126,7 +124,7 @@ module _ (line trees : List ℕ) (good : faulty speciesMost line ≡ false) (sho
       gather-holds line trees Gathers (λ number place. place ≤ length trees)
       (λ genes p t rest q few holds e. (
         omega (arith, length-append genes (recordOf (clusters t) ∷ [])),
-        λ g m. among (length (names line)) genes (recordOf (clusters t)) (holds .1) (read-valid line trees good p e) g m,
+        λ g m. among (length (names line)) genes (recordOf (clusters t)) (holds .1) (read-valid line trees p e) g m,
       ))
       (λ p inside. omega arith)
       (λ p number q inside e. let r = refused-inside line trees good p short inside e in (omega arith, r .1))
@@ -140,3 +138,18 @@ module _ (line trees : List ℕ) (good : faulty speciesMost line ≡ false) (sho
 
   pub stopped-inside : {number place : ℕ} → stopped number place ≡ gather line trees → place ≤ length trees
   stopped-inside e = subst (Holds Gathers (λ number place. place ≤ length trees)) (sym e) whole-gathering
+
+-- "9 is shown never to occur for gene trees" (#104): of the program's
+pub stopped-never-nine : (line trees : List ℕ) {number place : ℕ} → stopped number place ≡ gather line trees → number ≡ 9 → ⊥
+stopped-never-nine line trees e = subst (Holds (λ genes. Unit {0}) (λ number place. number ≡ 9 → ⊥)) (sym e) never
+  where
+    never : Holds (λ genes. Unit {0}) (λ number place. number ≡ 9 → ⊥) (gather line trees)
+    never =
+        gather-holds line trees (λ genes. Unit {0}) (λ number place. number ≡ 9 → ⊥)
+        (λ genes p t rest q few holds e. tt)
+        (λ p inside nine. omega arith)
+        (λ p number q inside e. (
+          refusal-some Gene line trees p e,
+          λ nine. gene-never-nine line trees p (e ∙ ap (λ (m : ℕ). refusedAt m q) nine),
+        ))
+        tt

@@ -10,6 +10,7 @@ use borrow.Author.Tests.{le-leb, lt-leb}
 use Rattle.trees.proofs.Stores.{sets-append}
 use Rattle.tokens.specs.Tokens.{blanks}
 use Rattle.reader.specs.Promise.{Reads}
+use Rattle.reader.specs.declared.Kind.the-variants.{Gene}
 use Rattle.reader.specs.declared.Reading.{Reading}
 use Rattle.gather.specs.GeneTrees.{genesMost}
 use Rattle.gather.specs.Work.{readOn, readMore, readTo, joined}
@@ -35,7 +36,7 @@ module _ (line trees : List ℕ) where
   read-ends (suc k) p h = rw (le-leb (length trees) p h) refl
 
   -- at a tree that is refused
-  read-refused : (k p : ℕ) (r : Reading) → p < length trees → Reads line trees p r → (r .number ≡ 0 → ⊥) → readFrom k p ≡ []
+  read-refused : (k p : ℕ) (r : Reading) → p < length trees → Reads Gene line trees p r → (r .number ≡ 0 → ⊥) → readFrom k p ≡ []
   unfolding readFrom Reads
   read-refused zero p r h e f = refl
   read-refused (suc k) p r h e f = rw (lt-leb (length trees) p h, ← e) (go (r .number) f)
@@ -46,7 +47,7 @@ module _ (line trees : List ℕ) where
 
   -- at a tree that is read
   read-one :
-      (k p : ℕ) (r : Reading) → p < length trees → Reads line trees p r → r .number ≡ 0
+      (k p : ℕ) (r : Reading) → p < length trees → Reads Gene line trees p r → r .number ≡ 0
       → readFrom (suc k) p ≡ r .numbers ∷ readFrom k (r .next + blanks (drop (r .next) trees))
   unfolding readFrom Reads
   read-one k p r h e z =
@@ -89,11 +90,11 @@ module _ {line trees lent : List ℕ} {count : ℕ} {genes : List ℕ} {at : ℕ
   unfolding readFrom
   stored-full e = all-stored (ap (λ (n : ℕ). readFrom line trees (512 - n) at) e)
 
-  pub stored-stops : (r : Reading) → at < length trees → Reads line trees at r → (r .number ≡ 0 → ⊥) → genes ≡ sets lent 0 (joined (readTo genesMost line trees 0))
+  pub stored-stops : (r : Reading) → at < length trees → Reads Gene line trees at r → (r .number ≡ 0 → ⊥) → genes ≡ sets lent 0 (joined (readTo genesMost line trees 0))
   stored-stops r h e f = all-stored (read-refused line trees (genesMost - count) at r h e f)
 
   pub stored-goes :
-      (r : Reading) {genes′ : List ℕ} {at′ : ℕ} → count ≤ 512 → (count ≡ 512 → ⊥) → at < length trees → Reads line trees at r → r .number ≡ 0
+      (r : Reading) {genes′ : List ℕ} {at′ : ℕ} → count ≤ 512 → (count ≡ 512 → ⊥) → at < length trees → Reads Gene line trees at r → r .number ≡ 0
       → length (r .numbers) ≡ 32 → genes′ ≡ sets genes (32 * count) (r .numbers) → at′ ≡ r .next + blanks (drop (r .next) trees)
       → Stored line trees lent (count + 1) genes′ at′
   stored-goes r {genes′} {at′} few room h e z wide stored place =

@@ -6,6 +6,7 @@ use lib.ListN.{length, drop}
 use lib.Dec.{leb}
 use Rattle.tokens.specs.Tokens.{blanks}
 use Rattle.reader.specs.Promise.{answerTo, readingOf}
+use Rattle.reader.specs.declared.Kind.the-variants.{Gene}
 use Rattle.reader.specs.declared.Reading.{Reading}
 
 -- the gene trees that were read, or the first refusal
@@ -26,7 +27,7 @@ gatherOn (suc number) r next = stopped (suc number) (r .place)
 abbrev pub gatherAt : Bool → List ℕ → List ℕ → ℕ → (List ℕ → ℕ → Gathered) → Gathered
 gatherAt true line trees p next = stopped 17 p
 gatherAt false line trees p next =
-    gatherOn (readingOf p (answerTo line trees p) .number) (readingOf p (answerTo line trees p)) (λ numbers at. next numbers at)
+    gatherOn (readingOf p (answerTo Gene line trees p) .number) (readingOf p (answerTo Gene line trees p)) (λ numbers at. next numbers at)
 
 -- "then trees until only blanks remain"
 abbrev pub gatherMore : Bool → List ℕ → List ℕ → List (List ℕ) → ℕ → (List ℕ → ℕ → Gathered) → Gathered

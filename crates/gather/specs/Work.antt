@@ -9,6 +9,7 @@ use lib.Dec.{leb}
 use Rattle.trees.specs.Records.{recordsIn}
 use Rattle.tokens.specs.Tokens.{blanks}
 use Rattle.reader.specs.Promise.{answerTo, readingOf}
+use Rattle.reader.specs.declared.Kind.the-variants.{Gene}
 use Rattle.reader.specs.declared.Reading.{Reading}
 use Rattle.gather.specs.GeneTrees.{Gathered, genesMost, gather}
 use Rattle.gather.specs.GeneTrees.Gathered.{gathered, stopped}
@@ -28,7 +29,7 @@ readOn (suc number) r next = []
 -- "until only blanks remain"
 abbrev pub readMore : Bool → List ℕ → List ℕ → ℕ → (ℕ → List (List ℕ)) → List (List ℕ)
 readMore true line trees p next = []
-readMore false line trees p next = readOn (readingOf p (answerTo line trees p) .number) (readingOf p (answerTo line trees p)) (λ at. next at)
+readMore false line trees p next = readOn (readingOf p (answerTo Gene line trees p) .number) (readingOf p (answerTo Gene line trees p)) (λ at. next at)
 
 -- the records of the trees that are read from a place on, k at the most, up to the end or to one that is refused
 unfoldable pub readTo : ℕ → List ℕ → List ℕ → ℕ → List (List ℕ)

@@ -7,12 +7,9 @@ use mathlib.Core.List.{List, [], _∷_, List·Memᴰ, List·Memᴰ·not-nil, Lis
 use native.Mathlib.Omega.{arith}
 use lib.ListN.{length, take, drop}
 use Rattle.labels.specs.Bytes.{oneMore}
-use Rattle.clusters.specs.Sets.{whole}
-use Rattle.clusters.proofs.Sets.{below-of-within}
-use Rattle.trees.specs.Records.{GeneValid, recordsIn, AllValid}
-use Rattle.trees.specs.Valid.{valid}
-use Rattle.trees.proofs.Bounds.{whole-below-sixteen}
-use Rattle.trees.proofs.ValidTest.{valid-decides}
+use Rattle.trees.specs.Records.{largest, GeneValid, recordsIn, AllValid}
+use Rattle.trees.specs.Valid.{validGene}
+use Rattle.trees.proofs.GeneRecords.{gene-decides, gene-small, gene-cluster-below}
 use Rattle.lineages.specs.Checks.{firstBad}
 use Rattle.weights.specs.Work.{AllCountable, AllMarkable}
 use Rattle.trees.proofs.Lent.{length-recordsIn, recordsFrom, records-from-first, records-next, records-from-last}
@@ -21,11 +18,11 @@ first-bad-none : (n : ℕ) → firstBad n [] ≡ 0
 unfolding firstBad
 first-bad-none n = refl
 
-first-bad-here : (n : ℕ) (g : List ℕ) (l : List (List ℕ)) → valid (whole n) g ≡ false → firstBad n (g ∷ l) ≡ 0
+first-bad-here : (n : ℕ) (g : List ℕ) (l : List (List ℕ)) → validGene n g ≡ false → firstBad n (g ∷ l) ≡ 0
 unfolding firstBad
 first-bad-here n g l e = rw e
 
-first-bad-later : (n : ℕ) (g : List ℕ) (l : List (List ℕ)) → valid (whole n) g ≡ true → firstBad n (g ∷ l) ≡ suc (firstBad n l)
+first-bad-later : (n : ℕ) (g : List ℕ) (l : List (List ℕ)) → validGene n g ≡ true → firstBad n (g ∷ l) ≡ suc (firstBad n l)
 unfolding firstBad
 first-bad-later n g l e = rw e
 
@@ -40,12 +37,12 @@ pub passed-start : (n : ℕ) (genes : List ℕ) (count : ℕ) → PassedTo n gen
 passed-start n genes count = record { place = omega arith; left = rw records-from-first (omega arith) }
 
 module _ {n : ℕ} {genes : List ℕ} {count i : ℕ} (now : PassedTo n genes count i) where
-  pub passed-next : i < count → valid (whole n) (take 32 (drop (32 * i) genes)) ≡ true → PassedTo n genes count (i + 1)
+  pub passed-next : i < count → validGene n (take 32 (drop (32 * i) genes)) ≡ true → PassedTo n genes count (i + 1)
   passed-next l e =
       let next = rw (← records-next i count genes l) at (first-bad-later n (take 32 (drop (32 * i) genes)) (recordsFrom (i + 1) count genes) e) in
       record { place = omega arith; left = omega (arith, now .left) }
 
-  pub passed-found : i < count → valid (whole n) (take 32 (drop (32 * i) genes)) ≡ false → i ≡ firstBad n (recordsIn count genes)
+  pub passed-found : i < count → validGene n (take 32 (drop (32 * i) genes)) ≡ false → i ≡ firstBad n (recordsIn count genes)
   passed-found l e =
       let here = rw (← records-next i count genes l) at (first-bad-here n (take 32 (drop (32 * i) genes)) (recordsFrom (i + 1) count genes) e) in
       omega (arith, now .left)
@@ -61,7 +58,7 @@ module _ {n : ℕ} {genes : List ℕ} {count i : ℕ} (now : PassedTo n genes co
 pub first-bad-le : (n : ℕ) (genes : List (List ℕ)) → firstBad n genes ≤ length genes
 unfolding firstBad
 first-bad-le n [] = omega arith
-first-bad-le n (g ∷ l) = go (valid (whole n) g) (first-bad-le n l)
+first-bad-le n (g ∷ l) = go (validGene n g) (first-bad-le n l)
   where
     go : (b : Bool) → firstBad n l ≤ length l → oneMore b (firstBad n l) ≤ suc (length l)
     go true h = omega arith
@@ -71,12 +68,12 @@ first-bad-le n (g ∷ l) = go (valid (whole n) g) (first-bad-le n l)
 pub none-bad : (n : ℕ) (genes : List (List ℕ)) → n ≤ 16 → length genes ≤ firstBad n genes → AllValid n genes
 unfolding firstBad
 none-bad n [] small h g m = absurd (List·Memᴰ·not-nil m)
-none-bad n (x ∷ l) small h g m = go (valid (whole n) x) refl h (List·Memᴰ·cases-cons m) (λ k p. none-bad n l small k g p)
+none-bad n (x ∷ l) small h g m = go (validGene n x) refl h (List·Memᴰ·cases-cons m) (λ k p. none-bad n l small k g p)
   where
     go :
-        (b : Bool) → valid (whole n) x ≡ b → suc (length l) ≤ oneMore b (firstBad n l) → (g ≡ x) ⊎ List·Memᴰ g l
+        (b : Bool) → validGene n x ≡ b → suc (length l) ≤ oneMore b (firstBad n l) → (g ≡ x) ⊎ List·Memᴰ g l
         → (length l ≤ firstBad n l → List·Memᴰ g l → GeneValid n g) → GeneValid n g
-    go true e k (inl p) ih = subst (λ (y : List ℕ). GeneValid n y) (sym p) (valid-decides x (whole-below-sixteen n small) .holds e)
+    go true e k (inl p) ih = subst (λ (y : List ℕ). GeneValid n y) (sym p) (gene-decides x small .holds e)
     go true e k (inr p) ih = ih (omega arith) p
     go false e k p ih = absurd (omega arith)
 
@@ -86,9 +83,11 @@ module _ (n : ℕ) (genes : List ℕ) (count : ℕ) {bad : ℕ} (small : n ≤ 1
   checked-valid = none-bad n (recordsIn count genes) small (omega (arith, length-recordsIn count genes))
 
   pub checked-countable : AllCountable (recordsIn count genes)
-  checked-countable g m = record { species = whole n; valid = checked-valid g m; small = whole-below-sixteen n small }
+  checked-countable g m =
+      let v = checked-valid g m in
+      record { species = largest g; valid = v .valid; small = gene-small small v }
 
   pub checked-markable : AllMarkable (2 ^ n) (recordsIn count genes)
   checked-markable g m =
       let v = checked-valid g m in
-      record { form = v .form; below = λ x h. below-of-within n (v .inside x h .1) }
+      record { form = v .valid .form; below = λ x h. gene-cluster-below v x h .1 }

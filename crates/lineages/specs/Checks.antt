@@ -6,7 +6,7 @@ use lib.ListN.{length}
 use lib.Dec.{leb, ltb}
 use Rattle.clusters.specs.Sets.{whole}
 use Rattle.labels.specs.Bytes.{oneMore}
-use Rattle.trees.specs.Valid.{valid, binary}
+use Rattle.trees.specs.Valid.{valid, validGene, binary}
 use Rattle.roster.specs.Verdict.{Test, lengthTest}
 use Rattle.trees.specs.Records.{recordsIn}
 
@@ -18,14 +18,14 @@ speciesTest n = record { fault = not (leb 1 n && leb n 16); number = 1; place = 
 unfoldable pub countTest : ℕ → Test
 countTest count = record { fault = not (leb 1 count && leb count 4096); number = 11; place = 0 }
 
--- "16 | species record not valid or not binary | 0"
+-- "16 | species record not valid or not binary | 0"; "Species records still have every species" (#104)
 unfoldable pub speciesRecordTest : ℕ → List ℕ → Test
 speciesRecordTest n r = record { fault = not (valid (whole n) r && binary (whole n) r); number = 16; place = 0 }
 
--- the index of the first record that is not valid; how many there are where all are
+-- the index of the first record that is not that of a gene tree for n species (#104); how many there are where all are
 unfoldable pub firstBad : ℕ → List (List ℕ) → ℕ
 firstBad n [] = zero
-firstBad n (g ∷ l) = oneMore (valid (whole n) g) (firstBad n l)
+firstBad n (g ∷ l) = oneMore (validGene n g) (firstBad n l)
 
 -- "15 | a record not valid | index of the first"
 unfoldable pub recordsTest : ℕ → List (List ℕ) → Test

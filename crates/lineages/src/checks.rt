@@ -33,18 +33,17 @@ pub fn shape(n: usize, genes: &[u16], count: usize) -> u32
     0
 }
 
-// The index of the first gene record that is not valid, and count where all are. `search` calls it too, behind `shape`, which says that the entries are there.
+// The index of the first record that is not that of a gene tree for n species, and count where all are. `search` calls it too, behind `shape`, which says that the entries are there.
 pub fn first_bad(n: usize, genes: &[u16], count: usize) -> usize
     requires { ⌜ n ≤ 16 ⌝ }
     requires { ⌜ 32 * count ≤ length (now genes) ⌝ }
     ensures { λ r. ⌜ r ≡ firstBad n (recordsIn count (now (genes .entry))) ⌝ }
 {
-    let all = clusters::whole(n);
     let mut i = 0;
     while i < count {
         let start = 32 * i;
         let end = start + 32;
-        if records::valid(&genes[start..end], all) {
+        if records::valid_gene(&genes[start..end], n) {
             i += 1;
         } else {
             return i;
@@ -64,7 +63,7 @@ pub(crate) fn is_cluster(n: usize, a: usize) -> bool
     a <= clusters::whole(n) as usize
 }
 
-// Whether the species record is valid and that of a binary tree.
+// Whether the species record is valid, with every species, and that of a binary tree.
 pub(crate) fn is_species_tree(n: usize, species: &[u16]) -> bool
     requires { ⌜ n ≤ 16 ⌝ }
     requires { ⌜ length (now species) ≡ 32 ⌝ }

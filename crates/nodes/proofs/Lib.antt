@@ -15,6 +15,7 @@ pub mod MeaningLifted
 pub mod MeaningSpecies
 pub mod MeaningSteps
 pub mod MeaningTokens
+pub mod Needed
 pub mod NodeAnswers
 pub mod NodeSteps
 pub mod NodeWays

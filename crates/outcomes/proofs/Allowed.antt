@@ -5,10 +5,8 @@ use mathlib.Core.Bool.{Bool, true, false}
 use mathlib.Core.List.{List, [], _∷_, _++_, map, append-nil, List·Memᴰ, List·Memᴰ·head as here, List·Memᴰ·tail as there}
 use native.Mathlib.Omega.{arith}
 use lib.ListN.{length, getD, drop, length-append, drop-of-length-le, getD-replicate, length-replicate}
-use Rattle.clusters.specs.Sets.{whole}
-use Rattle.trees.specs.Valid.{valid}
-use Rattle.trees.proofs.Bounds.{whole-below-sixteen}
-use Rattle.trees.proofs.ValidTest.{valid-decides}
+use Rattle.trees.specs.Valid.{validGene}
+use Rattle.trees.proofs.GeneRecords.{gene-decides}
 use Rattle.trees.specs.Lists.{upTo}
 use Rattle.roster.specs.declared.Reply.{Reply}
 use Rattle.trees.specs.Records.{recordsIn, AllValid}
@@ -24,8 +22,8 @@ use Rattle.outcomes.specs.Outcome.{allowedBy}
 use Rattle.outcomes.specs.Work.{Genes, Marked}
 
 -- where every record is valid, the test of each passes, and none is the first bad one
-pub valid-tests : (n : ℕ) (genes : List (List ℕ)) → n ≤ 16 → AllValid n genes → (g : List ℕ) → List·Memᴰ g genes → valid (whole n) g ≡ true
-valid-tests n genes few all g m = valid-decides g (whole-below-sixteen n few) .told (all g m)
+pub valid-tests : (n : ℕ) (genes : List (List ℕ)) → n ≤ 16 → AllValid n genes → (g : List ℕ) → List·Memᴰ g genes → validGene n g ≡ true
+valid-tests n genes few all g m = gene-decides g few .told (all g m)
 
 pub none-bad : (n : ℕ) (genes : List (List ℕ)) → n ≤ 16 → AllValid n genes → firstBad n genes ≡ length genes
 unfolding firstBad

@@ -3,3 +3,4 @@ pub mod Allowed
 pub mod TreeText
 pub mod Searching
 pub mod GeneTrees
+pub mod NeverNine

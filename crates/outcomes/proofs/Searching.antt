@@ -7,7 +7,7 @@ use native.Mathlib.Omega.{arith}
 use lib.ListN.{length}
 use lib.Pow.{pow-mono}
 use Rattle.clusters.specs.Sets.{whole}
-use Rattle.trees.specs.Records.{ValidOn, recordsIn}
+use Rattle.trees.specs.Records.{SpeciesValid, recordsIn}
 use Rattle.weights.specs.Count.{weight}
 use Rattle.splits.specs.BinaryTrees.{Binary}
 use Rattle.tables.specs.Allowed.{allowedIn}
@@ -65,11 +65,11 @@ module _ (n : ℕ) (genes : List (List ℕ)) (allowed : List ℕ) {r : Found} (i
   unfolding searched
   searched-solved e z = rw (e, ← is, z)
 
-  -- the record of what is found is valid
-  pub found-valid : n ≤ 16 → r .number ≡ 0 → ValidOn (whole n) (r .numbers)
+  -- the record of what is found is valid, and has every species
+  pub found-valid : n ≤ 16 → r .number ≡ 0 → SpeciesValid n (r .numbers)
   unfolding bestFor
   found-valid few z = go (bestFor n genes allowed (whole n)) refl is
     where
-      go : (o : Option Binary) → bestFor n genes allowed (whole n) ≡ o → r ≡ foundBy o genes → ValidOn (whole n) (r .numbers)
+      go : (o : Option Binary) → bestFor n genes allowed (whole n) ≡ o → r ≡ foundBy o genes → SpeciesValid n (r .numbers)
       go (some t) e h = rw h (tree-valid (best-on (weight genes) (allowedIn n allowed) (whole n) t e) (whole-below-sixteen n few))
       go none e h = absurd (omega (arith, sym z ∙ ap (λ (f : Found). f .number) h))

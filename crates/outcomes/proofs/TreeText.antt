@@ -5,10 +5,8 @@ use mathlib.Core.List.{List, _++_, append-assoc, append-nil}
 use native.Mathlib.Omega.{arith}
 use lib.ListN.{length, take, drop, length-drop, drop-of-length-le}
 use lib.Seq.{sets, sets-eq, take-all, drop-drop}
-use Rattle.clusters.specs.Sets.{whole}
-use Rattle.trees.specs.Records.{ValidOn}
-use Rattle.trees.proofs.Bounds.{whole-below-sixteen}
-use Rattle.trees.proofs.ValidTest.{valid-decides}
+use Rattle.trees.specs.Records.{SpeciesValid, GeneValid}
+use Rattle.trees.proofs.GeneRecords.{gene-of-species, gene-decides}
 use Rattle.roster.specs.Roster.{names}
 use Rattle.roster.specs.declared.Reply.{Reply}
 use Rattle.printing.specs.Work.{Put}
@@ -32,9 +30,10 @@ put-part n at l w {after} e h stored =
     let none : length (drop at l) ≤ n - at = omega (arith, length-drop at l) in
     rw (drop-of-length-le (drop at l) none, append-nil, stored, drop-drop (length w) at l, sets-eq w l at (omega arith), append-assoc)
 
-module _ {line r : List ℕ} {n : ℕ} (good : Roster line n) (tree : ValidOn (whole n) r) where
-  on-names : ValidOn (whole (length (names line))) r
-  on-names = rw (good .named) at tree
+module _ {line r : List ℕ} {n : ℕ} (good : Roster line n) (tree : SpeciesValid n r) where
+  -- a species record is a gene record with every species
+  on-names : GeneValid (length (names line)) r
+  on-names = gene-of-species (good-names line (good .good) .some) (rw (good .named) at tree)
 
   -- "The text .. never passes 286 bytes"
   pub tree-length : length (written (names line) r) ≤ 286
@@ -45,7 +44,7 @@ module _ {line r : List ℕ} {n : ℕ} (good : Roster line n) (tree : ValidOn (w
     outcome =
         let part = part-behind 512 at l (room .bytes) in
         let g = good-names line (good .good) in
-        let test = valid-decides r (whole-below-sixteen (length (names line)) (g .few)) .told on-names in
+        let test = gene-decides r (g .few) .told on-names in
         let fits : length (written (names line) r) ≤ length (drop at l) = omega (arith, tree-length, length-drop at l, room .bytes, room .used) in
         let w′ : Writes line r (drop at l) reply after = rw part at w in
         let both = writes-once w′ (writes-done line r (drop at l) (good .good) test fits refl refl) in

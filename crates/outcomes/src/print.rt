@@ -1,7 +1,6 @@
 // The output of an answer: the lines of the counts, and the tree's text behind them.
 ghost use mathlib.Core.Path.{_≡_};
-ghost use Rattle.clusters.specs.Sets.{whole};
-ghost use Rattle.trees.specs.Records.{ValidOn};
+ghost use Rattle.trees.specs.Records.{SpeciesValid};
 ghost use Rattle.roster.specs.Roster.{names};
 ghost use Rattle.outcomes.specs.Outcome.Outcome.{solved as Outcome·solved};
 ghost use Rattle.outcomes.specs.Work.{told, Roster};
@@ -13,7 +12,7 @@ use trees::Record;
 // Species and gene trees read, the score, and the tree.
 pub(crate) fn solved(line: &[u8], n: usize, count: usize, score: usize, tree: Record) -> Report
     requires { ⌜ Roster (now line) n ⌝ }
-    requires { ⌜ ValidOn (whole n) (tree .numbers) ⌝ }
+    requires { ⌜ SpeciesValid n (tree .numbers) ⌝ }
     ensures { λ r. ⌜ r ≡ told (names (now (line .entry))) (Outcome·solved n count score (tree .numbers)) ⌝ }
 {
     let mut text = [0u8; 512];

@@ -1,4 +1,4 @@
--- What `read` accepts: exactly the texts that draw, by 01's grammar and within its limits, a tree with each species of a good roster once.
+-- What `read` accepts: exactly the texts that draw, by 01's grammar and within its limits, a tree of the kind with each of its species once.
 use Prim.Native.Nat.{ℕ, _+_, _-_, _≤_}
 use mathlib.Core.Path.{_≡_, refl, sym, ap, _∙_}
 use mathlib.Core.Bool.{Bool, true, false}
@@ -10,32 +10,35 @@ use lib.Dec.{leb}
 use borrow.Author.Tests.{leb-true, le-leb}
 use Rattle.clusters.specs.Sets.{Within, whole}
 use Rattle.clusters.proofs.Members.{whole-has, within-of-has}
-use Rattle.clusters.proofs.Sets.{within-refl, within-antisym}
-use Rattle.trees.specs.Tree.{Tree, On, leaves, cluster}
-use Rattle.trees.proofs.Nodes.{has-leaf}
+use Rattle.clusters.proofs.Sets.{within-refl, within-antisym, zero-within, below-of-within}
+use Rattle.trees.specs.Tree.{Tree, leaves, cluster}
+use Rattle.trees.proofs.Nodes.{has-leaf, cluster-some}
 use Rattle.roster.specs.Roster.{names, faulty}
 use Rattle.roster.specs.Judged.{speciesMost}
 use Rattle.tokens.specs.Answers.Answer.{parsed}
-use Rattle.reader.specs.Accepted.{Draws, JustBehind, Accepted}
-use Rattle.reader.specs.Promise.{textMost, fromStart, inLimit, onRoster, answerTo}
+use Rattle.reader.specs.Accepted.{MayHave, Draws, JustBehind, Accepted}
+use Rattle.reader.specs.Promise.{textMost, needed, fromStart, inLimit, onRoster, answerTo}
+use Rattle.reader.specs.declared.Kind.{Kind}
+use Rattle.reader.specs.declared.Kind.the-variants.{Species, Gene}
 use Rattle.nodes.proofs.Answers.{refused-parsed}
 use Rattle.nodes.proofs.Rests.{Advances, advances-shorter, readTree-advances}
-use Rattle.nodes.proofs.Sound.{TreeSound, read-sound, AllKnown}
+use Rattle.nodes.proofs.Sound.{read-sound, AllKnown}
 use Rattle.nodes.proofs.Exact.{Same}
 use Rattle.nodes.proofs.Complete.{read-complete}
 use Rattle.nodes.proofs.Unique.{tree-unique}
 
--- ---- the species of a tree whose leaves are on the roster, and which lacks none
+-- ---- the species of a tree whose leaves are on the roster, and which lacks none that it must have
 
-on-roster :
-    (ns : List (List ℕ)) (t : Tree) → AllKnown ns (leaves t) → Within (whole (length ns)) (cluster t) → cluster t ≡ whole (length ns)
-on-roster ns t known all =
-    within-antisym (within-of-has (cluster t) (whole (length ns)) (λ i h. whole-has (length ns) i (known i (has-leaf t i h)))) all
+on-roster : (ns : List (List ℕ)) (t : Tree) → AllKnown ns (leaves t) → Within (cluster t) (whole (length ns))
+on-roster ns t known = within-of-has (cluster t) (whole (length ns)) (λ i h. whole-has (length ns) i (known i (has-leaf t i h)))
 
-pub read-on :
-    (ns : List (List ℕ)) {s : List ℕ} {p : ℕ} {t : Tree} {rest : List ℕ} {q : ℕ}
-    → TreeSound ns (whole (length ns)) s p t rest q → On (whole (length ns)) t
-read-on ns {t = t} r = record { once = r .once; all = on-roster ns t (r .known) (r .all) }
+may-have : (kind : Kind) (n : ℕ) (t : Tree) → Within (cluster t) (whole n) → Within (needed kind n) (cluster t) → MayHave kind n (cluster t)
+may-have Species n t inside all = within-antisym inside all
+may-have Gene n t inside all = (cluster-some t, below-of-within n inside)
+
+has-needed : (kind : Kind) (n s : ℕ) → MayHave kind n s → Within (needed kind n) s
+has-needed Species n s all = rw all (within-refl (whole n))
+has-needed Gene n s some = zero-within s
 
 -- ---- what is answered is drawn
 
@@ -52,53 +55,60 @@ behind-start text start {q = q} inside a =
     }
 
 pub accepted-derives :
-    (line text : List ℕ) (start : ℕ) {t : Tree} {rest : List ℕ} {q : ℕ}
-    → answerTo line text start ≡ parsed t rest q → Accepted line text start t rest q
+    (kind : Kind) (line text : List ℕ) (start : ℕ) {t : Tree} {rest : List ℕ} {q : ℕ}
+    → answerTo kind line text start ≡ parsed t rest q → Accepted kind line text start t rest q
 unfolding answerTo
-accepted-derives line text start {t} {rest} {q} h = judged (faulty speciesMost line) refl h
+accepted-derives kind line text start {t} {rest} {q} h = judged (faulty speciesMost line) refl h
   where
     started :
         (b : Bool) → leb start (length text) ≡ b → faulty speciesMost line ≡ false → length text ≤ textMost
-        → fromStart b (names line) text start ≡ parsed t rest q → Accepted line text start t rest q
+        → fromStart kind b (names line) text start ≡ parsed t rest q → Accepted kind line text start t rest q
     started true is good short h =
         let ns = names line in
         let inside = leb-true start (length text) is in
-        let r = read-sound ns (whole (length ns)) (drop start text) start h in
+        let r = read-sound ns (needed kind (length ns)) (drop start text) start h in
         record {
-          draws = record { good = good; short = short; inside = inside; derives = r .derives; on = read-on ns r };
+          draws = record {
+            good = good;
+            short = short;
+            inside = inside;
+            derives = r .derives;
+            once = r .once;
+            species = may-have kind (length ns) t (on-roster ns t (r .known)) (r .all);
+          };
           place = behind-start text start inside (r .moved);
         }
     started false is good short h = absurd (refused-parsed h)
 
     limited :
         (b : Bool) → leb (length text) textMost ≡ b → faulty speciesMost line ≡ false
-        → inLimit b (names line) text start ≡ parsed t rest q → Accepted line text start t rest q
+        → inLimit kind b (names line) text start ≡ parsed t rest q → Accepted kind line text start t rest q
     limited true is good h = started (leb start (length text)) refl good (leb-true (length text) textMost is) h
     limited false is good h = absurd (refused-parsed h)
 
-    judged : (b : Bool) → faulty speciesMost line ≡ b → onRoster b line text start ≡ parsed t rest q → Accepted line text start t rest q
+    judged : (b : Bool) → faulty speciesMost line ≡ b → onRoster kind b line text start ≡ parsed t rest q → Accepted kind line text start t rest q
     judged true is h = absurd (refused-parsed h)
     judged false is h = limited (leb (length text) textMost) refl is h
 
 -- ---- what is drawn is answered
 
 pub derives-accepted :
-    (line text : List ℕ) (start : ℕ) {t : Tree} {rest : List ℕ}
-    → Draws line text start t rest → answerTo line text start ≡ parsed t rest (length text - length rest)
+    (kind : Kind) (line text : List ℕ) (start : ℕ) {t : Tree} {rest : List ℕ}
+    → Draws kind line text start t rest → answerTo kind line text start ≡ parsed t rest (length text - length rest)
 unfolding answerTo
-derives-accepted line text start {t} {rest} d =
+derives-accepted kind line text start {t} {rest} d =
     let ns = names line in
     let s = drop start text in
-    let all : Within (whole (length ns)) (cluster t) = rw (d .on .all) (within-refl (whole (length ns))) in
-    let r = read-complete ns (whole (length ns)) s start (d .derives) (d .on .once) all in
-    let a = readTree-advances ns (whole (length ns)) s start r in
+    let all = has-needed kind (length ns) (cluster t) (d .species) in
+    let r = read-complete ns (needed kind (length ns)) s start (d .derives) (d .once) all in
+    let a = readTree-advances ns (needed kind (length ns)) s start r in
     let l = length-drop start text in
     let e : start + (length s - length rest) ≡ length text - length rest = omega (arith, advances-shorter a, d .inside) in
     rw (d .good, le-leb (length text) textMost (d .short), le-leb start (length text) (d .inside))
     (r ∙ ap (λ (q : ℕ). parsed t rest q) e)
 
--- a text draws one tree at most
+-- a text draws one tree at most, of whatever kind
 pub draws-one :
-    (line text : List ℕ) (start : ℕ) {t t′ : Tree} {rest rest′ : List ℕ}
-    → Draws line text start t rest → Draws line text start t′ rest′ → Same t t′ rest rest′
-draws-one line text start d d′ = tree-unique (names line) (d .derives) (d′ .derives)
+    (kind kind′ : Kind) (line text : List ℕ) (start : ℕ) {t t′ : Tree} {rest rest′ : List ℕ}
+    → Draws kind line text start t rest → Draws kind′ line text start t′ rest′ → Same t t′ rest rest′
+draws-one kind kind′ line text start d d′ = tree-unique (names line) (d .derives) (d′ .derives)

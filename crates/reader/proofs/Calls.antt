@@ -16,7 +16,8 @@ use Rattle.tokens.specs.Answers.Answer.{refused}
 use Rattle.nodes.specs.Reading.{openMost, readTree, readTreeTo}
 use Rattle.nodes.specs.Core.{Holds}
 use Rattle.reader.specs.Work.{treeAnswer, ReadsRecord}
-use Rattle.reader.specs.Promise.{textMost, readingOf, answerTo, Reads}
+use Rattle.reader.specs.Promise.{textMost, needed, readingOf, answerTo, Reads}
+use Rattle.reader.specs.declared.Kind.{Kind}
 use Rattle.reader.specs.declared.Reading.{Reading}
 
 -- the table of a good roster has the line's names
@@ -29,10 +30,10 @@ holds-names line roster judged good =
       finds = λ s short. rw (g .1, g .2) (table-tells speciesMost line (g .0) (word s) (word-fits s short));
     }
 
-module _ (line text : List ℕ) (start : ℕ) (roster : Roster) (judged : roster ≡ rosterOf speciesMost line) (r : Reading) where
+module _ (kind : Kind) (line text : List ℕ) (start : ℕ) (roster : Roster) (judged : roster ≡ rosterOf speciesMost line) (r : Reading) where
   -- "1 | roster faulty"
   pub roster-refused :
-      (roster .number ≡ 0 → ⊥) → r ≡ readingOf start (refused (roster .number) (roster .place)) → Reads line text start r
+      (roster .number ≡ 0 → ⊥) → r ≡ readingOf start (refused (roster .number) (roster .place)) → Reads kind line text start r
   unfolding Reads answerTo
   roster-refused faulted is =
       let f = read-faulty speciesMost line roster judged faulted in
@@ -40,21 +41,23 @@ module _ (line text : List ℕ) (start : ℕ) (roster : Roster) (judged : roster
 
   module _ (good : roster .number ≡ 0) where
     -- "2 | text over 65,536 bytes"
-    pub long-refused : textMost < length text → r ≡ readingOf start (refused 2 textMost) → Reads line text start r
+    pub long-refused : textMost < length text → r ≡ readingOf start (refused 2 textMost) → Reads kind line text start r
     unfolding Reads answerTo
     long-refused h is = rw (read-good speciesMost line roster judged good .0, lt-leb (length text) textMost h) is
 
     module _ (short : length text ≤ textMost) where
       -- "A start beyond the text gives 10"
-      pub start-refused : length text < start → r ≡ readingOf start (refused 10 (length text)) → Reads line text start r
+      pub start-refused : length text < start → r ≡ readingOf start (refused 10 (length text)) → Reads kind line text start r
       unfolding Reads answerTo
       start-refused h is =
           rw (read-good speciesMost line roster judged good .0, le-leb (length text) textMost short, lt-leb start (length text) h) is
 
-      pub tree-recorded : start ≤ length text → ReadsRecord text (roster .table) (roster .count) start openMost r → Reads line text start r
+      pub tree-recorded :
+          (all : ℕ) → all ≡ needed kind (roster .count) → start ≤ length text → ReadsRecord text (roster .table) (roster .count) all start openMost r
+          → Reads kind line text start r
       unfolding Reads answerTo ReadsRecord readTree readTreeTo treeAnswer
-      tree-recorded h reads =
+      tree-recorded all is h reads =
           let g = read-good speciesMost line roster judged good in
           let deep : 2 * (length text - start) < 2 * length (drop start text) + 1 = let l = length-drop start text in omega arith in
           rw (g .0, le-leb (length text) textMost short, le-leb start (length text) h)
-          (rw (g .1) at (reads (names line) (holds-names line roster judged good) (2 * length (drop start text) + 1) deep))
+          (rw (is, g .1) at (reads (names line) (holds-names line roster judged good) (2 * length (drop start text) + 1) deep))

@@ -1,4 +1,6 @@
 pub mod Accepts
+pub mod ByKind
 pub mod Calls
 pub mod MeaningAnswers
+pub mod Replies
 pub mod TreeWays

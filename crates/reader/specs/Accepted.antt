@@ -1,25 +1,34 @@
--- Which texts are to be read: those that draw, by the grammar and within the limits, a tree with each species of a good roster once.
-use Prim.Native.Nat.{ℕ, _≤_, _<_}
+-- Which texts are to be read: those that draw, by the grammar and within the limits, a tree with each of its species once, whose species are those that a tree of the kind may have.
+use Prim.Native.Nat.{ℕ, _^_, _≤_, _<_}
 use mathlib.Core.Path.{_≡_}
 use mathlib.Core.Bool.{false}
 use mathlib.Core.List.{List}
 use lib.ListN.{length, drop}
 use Rattle.clusters.specs.Sets.{whole}
-use Rattle.trees.specs.Tree.{Tree, On}
+use Rattle.trees.specs.Lists.{NoneTwice}
+use Rattle.trees.specs.Tree.{Tree, leaves, cluster}
 use Rattle.roster.specs.Roster.{names, faulty}
 use Rattle.roster.specs.Judged.{speciesMost}
 use Rattle.nodes.specs.Reading.{openMost}
 use Rattle.nodes.specs.Grammar.{strict, Text}
 use Rattle.reader.specs.Promise.{textMost}
+use Rattle.reader.specs.declared.Kind.{Kind}
+use Rattle.reader.specs.declared.Kind.the-variants.{Species, Gene}
 
--- from start on, the text draws t, and rest is left behind its `;`: the roster is good, the limits are kept,
--- the grammar has it, and each species of the roster is a leaf once
-pub record Draws (line text : List ℕ) (start : ℕ) (t : Tree) (rest : List ℕ) : Type 0 where
+-- the species that a tree of the kind has, of n: "Species records still have every species", a gene tree may have lost some, but has one (#104)
+abbrev pub MayHave : Kind → ℕ → ℕ → Type 0
+MayHave Species n s = s ≡ whole n
+MayHave Gene n s = (1 ≤ s) × (s < 2 ^ n)
+
+-- from start on, the text draws the tree t of the kind, and rest is left behind its `;`: the roster is good, the limits are kept,
+-- the grammar has it, no species is a leaf twice, and its species are those of such a tree
+pub record Draws (kind : Kind) (line text : List ℕ) (start : ℕ) (t : Tree) (rest : List ℕ) : Type 0 where
   pub good : faulty speciesMost line ≡ false
   pub short : length text ≤ textMost
   pub inside : start ≤ length text
   pub derives : Text (strict (names line)) openMost (drop start text) t rest
-  pub on : On (whole (length (names line))) t
+  pub once : NoneTwice (leaves t)
+  pub species : MayHave kind (length (names line)) (cluster t)
 
 -- q is the offset just behind the tree
 pub record JustBehind (text : List ℕ) (start : ℕ) (rest : List ℕ) (q : ℕ) : Type 0 where
@@ -28,6 +37,6 @@ pub record JustBehind (text : List ℕ) (start : ℕ) (rest : List ℕ) (q : ℕ
   pub left : rest ≡ drop q text
 
 -- from start on, the text draws t, and q is "the offset just after `;`"
-pub record Accepted (line text : List ℕ) (start : ℕ) (t : Tree) (rest : List ℕ) (q : ℕ) : Type 0 where
-  pub draws : Draws line text start t rest
+pub record Accepted (kind : Kind) (line text : List ℕ) (start : ℕ) (t : Tree) (rest : List ℕ) (q : ℕ) : Type 0 where
+  pub draws : Draws kind line text start t rest
   pub place : JustBehind text start rest q

@@ -1,9 +1,8 @@
--- What the parts of the call say of a whole tree: a node and `;`, with every species, and its record.
+-- What the parts of the call say of a whole tree: a node and `;`, with the species that are needed, and its record.
 use Prim.Native.Nat.{ℕ, _-_, _*_, _+_, _<_}
 use mathlib.Core.Path.{_≡_}
 use mathlib.Core.List.{List}
 use lib.ListN.{length, drop}
-use Rattle.clusters.specs.Sets.{whole}
 use Rattle.trees.specs.Tree.{Tree}
 use Rattle.tokens.specs.Answers.{Answer, andThen}
 use Rattle.tokens.specs.Tokens.{nextIs, blanks, skip}
@@ -27,11 +26,11 @@ ReadsTree text table count needed start room before after r =
     → 2 * (length text - start) < k
     → NodeReads text 0 0 before after (treeAnswer k names room needed (drop start text) start) r
 
--- the promise of the reader of a tree with all of the species, which sorts its clusters into a record
-unfoldable pub ReadsRecord : List ℕ → List ℕ → ℕ → ℕ → ℕ → Reading → Type 0
-ReadsRecord text table count start room r =
+-- the promise of `recorded`, which sorts its clusters into a record
+unfoldable pub ReadsRecord : List ℕ → List ℕ → ℕ → ℕ → ℕ → ℕ → Reading → Type 0
+ReadsRecord text table count needed start room r =
     (names : List (List ℕ))
     → Holds names count table
     → (k : ℕ)
     → 2 * (length text - start) < k
-    → r ≡ readingOf start (treeAnswer k names room (whole count) (drop start text) start)
+    → r ≡ readingOf start (treeAnswer k names room needed (drop start text) start)

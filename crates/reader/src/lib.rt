@@ -3,6 +3,12 @@ mod tree;
 
 pub use tree::read;
 
+// What a text is read as: a species tree has every species, a gene tree may lack some.
+pub enum Kind {
+    Species,
+    Gene,
+}
+
 // What reading answers: number and place, the offset just after the tree's `;`, and the tree's record.
 #[repr(C)]
 pub struct Reading {

@@ -6,7 +6,8 @@ ghost use lib.ListN.{length};
 ghost use Rattle.tokens.specs.Answers.Answer.{refused as Answer·refused};
 ghost use Rattle.nodes.specs.Core.{Holds, Given};
 ghost use Rattle.reader.specs.Work.{ReadsTree, ReadsRecord};
-ghost use Rattle.reader.specs.Promise.{readingOf, Reads};
+ghost use Rattle.reader.specs.Promise.{needed, readingOf, Reads};
+use crate::Kind;
 use crate::Reading;
 use clusters::whole;
 use clusters::within;
@@ -60,6 +61,18 @@ fn tree(
     }
 }
 
+// The species that a tree of the kind must have, of `count`.
+fn needed(kind: Kind, count: usize) -> u32
+    requires { ⌜ count ≤ 16 ⌝ }
+    ensures { λ r. ⌜ r ≡ needed kind count ⌝ }
+{
+    let all = whole(count);
+    match kind {
+        Kind::Species => all,
+        Kind::Gene => 0,
+    }
+}
+
 // A refused call: the offset that was given, and zeros.
 fn refused(start: usize, number: u32, place: usize) -> Reading
     ensures { λ r. ⌜ r ≡ readingOf start (Answer·refused number place) ⌝ }
@@ -72,15 +85,22 @@ fn refused(start: usize, number: u32, place: usize) -> Reading
     }
 }
 
-// The tree that begins at `start`, with all of at most 16 species: its clusters, sorted into a record.
-fn recorded(text: &[u8], table: &[u8], count: usize, start: usize, room: usize) -> Reading
+// The tree that begins at `start`, of at most 16 species and with every species of `needed`: its clusters, sorted into a record.
+fn recorded(
+    text: &[u8],
+    table: &[u8],
+    count: usize,
+    needed: u32,
+    start: usize,
+    room: usize,
+) -> Reading
     requires { ⌜ ((names : List (List ℕ)) × Holds names count (now table)) ⌝ }
     requires { ⌜ count ≤ 16 ⌝ }
     requires { ⌜ 16 * count ≤ length (now table) ⌝ }
-    ensures { λ r. ⌜ ReadsRecord (now (text .entry)) (now (table .entry)) count start room r ⌝ }
+    ensures { λ r. ⌜ ReadsRecord (now (text .entry)) (now (table .entry)) count needed start room r ⌝ }
 {
     let mut found = [0u32; 64];
-    let read = tree(text, table, count, whole(count), start, room, &mut found);
+    let read = tree(text, table, count, needed, start, room, &mut found);
     let NodeRead::Node { mask: _, next } = read else {
         let fault = node_refusal(read);
         return refused(start, fault.number, fault.place);
@@ -95,9 +115,9 @@ fn recorded(text: &[u8], table: &[u8], count: usize, start: usize, room: usize) 
     }
 }
 
-// The tree that begins at `start`, over the names of the roster line.
-pub fn read(line: &[u8], text: &[u8], start: usize) -> Reading
-    ensures { λ r. ⌜ Reads (now (line .entry)) (now (text .entry)) start r ⌝ }
+// The tree of the kind that begins at `start`, over the names of the roster line.
+pub fn read(kind: Kind, line: &[u8], text: &[u8], start: usize) -> Reading
+    ensures { λ r. ⌜ Reads kind (now (line .entry)) (now (text .entry)) start r ⌝ }
 {
     let roster = parse(line, 16);
     let number = roster.number;
@@ -111,5 +131,6 @@ pub fn read(line: &[u8], text: &[u8], start: usize) -> Reading
         return refused(start, 10, text.len());
     }
     let table = roster.table;
-    recorded(text, &table, roster.count, start, 15)
+    let count = roster.count;
+    recorded(text, &table, count, needed(kind, count), start, 15)
 }

@@ -4,12 +4,12 @@ mod nesting;
 mod presence;
 
 ghost use mathlib.Core.Path.{_≡_};
-ghost use Prim.Native.Nat.{_<_};
+ghost use Prim.Native.Nat.{_<_, _≤_};
 ghost use lib.ListN.{length};
 ghost use Rattle.trees.specs.Decides.{Decides};
-ghost use Rattle.trees.specs.Records.{ValidOn, BinaryOn};
+ghost use Rattle.trees.specs.Records.{ValidOn, GeneValid, BinaryOn};
 
-// Whether r is a valid record of a tree whose whole set is s. `writer` and `lineages` ask it of 32 numbers and a set of at most 16 species.
+// Whether r is a valid record of a tree whose whole set is s. `lineages` asks it of 32 numbers and a set of at most 16 species.
 pub fn valid(r: &[u16], s: u32) -> bool
     requires { ⌜ length (now r) ≡ 32 ⌝ }
     requires { ⌜ s < 65536 ⌝ }
@@ -20,6 +20,25 @@ pub fn valid(r: &[u16], s: u32) -> bool
         if presence::inside(r, m, s) {
             if presence::complete(r, m, s) {
                 return nesting::nested(r, m);
+            }
+        }
+    }
+    false
+}
+
+// Whether r is a valid record of a gene tree for n species: on its largest cluster, the last that it lists. `writer` and `lineages` ask it of 32 numbers and at most 16 species.
+pub fn valid_gene(r: &[u16], n: usize) -> bool
+    requires { ⌜ length (now r) ≡ 32 ⌝ }
+    requires { ⌜ n ≤ 16 ⌝ }
+    ensures { λ result. ⌜ Decides result (GeneValid n (now (r .entry))) ⌝ }
+{
+    let all = clusters::whole(n);
+    let m = r[0] as usize;
+    if m <= 31 {
+        let s = r[m] as u32;
+        if 1 <= s {
+            if s <= all {
+                return valid(r, s);
             }
         }
     }

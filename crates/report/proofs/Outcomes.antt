@@ -1,16 +1,21 @@
--- What every report is: one outcome for an input, a line that refuses or three that answer, and never more than its bytes.
+-- What every report is: one outcome for an input, a line that refuses, never by 9, or three that answer, and never more than its bytes.
 use Prim.Native.Nat.{ℕ, _-_, _≤_}
 use mathlib.Core.Path.{_≡_, refl, sym, ap, _∙_}
+use mathlib.Core.Bool.{Bool, true, false}
 use mathlib.Core.List.{List}
 use native.Mathlib.Omega.{arith}
-use lib.ListN.{length, take, replicate, length-append}
+use lib.ListN.{length, take, drop, replicate, length-append}
 use lib.Seq.{take-at}
-use Rattle.roster.specs.Roster.{names}
+use lib.Dec.{leb}
+use Rattle.roster.specs.Roster.{names, faulty, same}
+use Rattle.roster.specs.Judged.{speciesMost}
+use Rattle.reader.specs.Promise.{textMost}
 use Rattle.printing.specs.declared.Report.{Report}
-use Rattle.report.specs.Input.{firstLine}
-use Rattle.report.specs.Program.{program}
-use Rattle.outcomes.specs.Outcome.{Outcome, printed}
+use Rattle.report.specs.Input.{firstLine, behindLine, endsInFeed, treesPlace, allWord, genesWord}
+use Rattle.report.specs.Program.{onMode, onFeeds, onSpecies, onRoster, onText, program}
+use Rattle.outcomes.specs.Outcome.{Outcome, programMost, printed}
 use Rattle.outcomes.specs.Outcome.Outcome.{refused, solved}
+use Rattle.outcomes.proofs.NeverNine.{other-number, trees-never-nine}
 use Rattle.report.specs.Promise.{output, Reports}
 use Rattle.report.specs.Forms.{Form}
 use Rattle.report.specs.Forms.Form.{refusal, answer}
@@ -43,3 +48,35 @@ output-form input = go (program input)
     go : (outcome : Outcome) → Form (names (firstLine input)) (printed (names (firstLine input)) outcome)
     go (refused number place) = refusal number place
     go (solved n m score r) = answer n m score r
+
+-- ---- 9
+
+-- "9 is shown never to occur for gene trees" (#104): the program reads no species text, so it never says 9
+pub program-never-nine : (input : List ℕ) {number place : ℕ} → program input ≡ refused number place → number ≡ 9 → ⊥
+unfolding program
+program-never-nine input {number} {place} = sized (leb (length input) textMost)
+  where
+    NeverNine : Outcome → Type 0
+    NeverNine outcome = outcome ≡ refused number place → number ≡ 9 → ⊥
+
+    moded : (all genes : Bool) → NeverNine (onMode all genes input)
+    moded false false e = other-number (λ k. omega arith) e
+    moded false true e = trees-never-nine (firstLine input) (drop (treesPlace input) input) (treesPlace input) false (length (names (firstLine input))) e
+    moded true genes e = trees-never-nine (firstLine input) (drop (treesPlace input) input) (treesPlace input) true (length (names (firstLine input))) e
+
+    fed : (first second : Bool) → NeverNine (onFeeds first second input)
+    fed false second e = other-number (λ k. omega arith) e
+    fed true false e = other-number (λ k. omega arith) e
+    fed true true e = moded (same (firstLine (behindLine input)) allWord) (same (firstLine (behindLine input)) genesWord) e
+
+    counted : (few : Bool) → NeverNine (onSpecies few input)
+    counted false e = other-number (λ k. omega arith) e
+    counted true e = fed (endsInFeed input) (endsInFeed (behindLine input)) e
+
+    judged : (fault : Bool) → NeverNine (onRoster fault input)
+    judged true e = other-number (λ k. omega arith) e
+    judged false e = counted (leb (length (names (firstLine input))) programMost) e
+
+    sized : (short : Bool) → NeverNine (onText short input)
+    sized true e = judged (faulty speciesMost (firstLine input)) e
+    sized false e = other-number (λ k. omega arith) e

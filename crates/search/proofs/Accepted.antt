@@ -9,8 +9,7 @@ use lib.Dec.{leb}
 use lib.ListN.{length, getD}
 use borrow.Author.Tests.{ltb-false, leb-true, le-leb, le-ltb, not-false}
 use Rattle.labels.specs.Bytes.{oneMore}
-use Rattle.clusters.specs.Sets.{whole}
-use Rattle.trees.specs.Valid.{valid}
+use Rattle.trees.specs.Valid.{validGene}
 use Rattle.roster.proofs.Least.{least-first, least-none}
 use Rattle.trees.specs.Records.{recordsIn}
 use Rattle.roster.specs.Verdict.{Test, verdict, verdictBy, lengthTest}
@@ -53,18 +52,18 @@ both true true e = (refl, refl)
 both true false e = absurd (true≢false e)
 both false b e = absurd (true≢false e)
 
-first-bad-all : (n : ℕ) (genes : List (List ℕ)) → length genes ≤ firstBad n genes → (g : List ℕ) → List·Memᴰ g genes → valid (whole n) g ≡ true
+first-bad-all : (n : ℕ) (genes : List (List ℕ)) → length genes ≤ firstBad n genes → (g : List ℕ) → List·Memᴰ g genes → validGene n g ≡ true
 unfolding firstBad
 first-bad-all n [] h g m = absurd (List·Memᴰ·not-nil m)
-first-bad-all n (x ∷ l) h g m = go (valid (whole n) x) refl h (List·Memᴰ·cases-cons m) (λ k p. first-bad-all n l k g p)
+first-bad-all n (x ∷ l) h g m = go (validGene n x) refl h (List·Memᴰ·cases-cons m) (λ k p. first-bad-all n l k g p)
   where
-    go : (b : Bool) → valid (whole n) x ≡ b → suc (length l) ≤ oneMore b (firstBad n l) → (g ≡ x) ⊎ List·Memᴰ g l
-        → (length l ≤ firstBad n l → List·Memᴰ g l → valid (whole n) g ≡ true) → valid (whole n) g ≡ true
-    go true e k (inl p) ih = ap (valid (whole n)) p ∙ e
+    go : (b : Bool) → validGene n x ≡ b → suc (length l) ≤ oneMore b (firstBad n l) → (g ≡ x) ⊎ List·Memᴰ g l
+        → (length l ≤ firstBad n l → List·Memᴰ g l → validGene n g ≡ true) → validGene n g ≡ true
+    go true e k (inl p) ih = ap (validGene n) p ∙ e
     go true e k (inr p) ih = ih (omega arith) p
     go false e k p ih = absurd (omega arith)
 
-pub all-first-bad : (n : ℕ) (genes : List (List ℕ)) → ((g : List ℕ) → List·Memᴰ g genes → valid (whole n) g ≡ true) → firstBad n genes ≡ length genes
+pub all-first-bad : (n : ℕ) (genes : List (List ℕ)) → ((g : List ℕ) → List·Memᴰ g genes → validGene n g ≡ true) → firstBad n genes ≡ length genes
 unfolding firstBad
 all-first-bad n [] h = refl
 all-first-bad n (x ∷ l) h = rw (h x (here refl)) (ap suc (all-first-bad n l (λ g m. h g (there m))))

@@ -8,7 +8,7 @@ use lib.ListN.{length, getD, take, drop}
 use Rattle.clusters.specs.Sets.{whole}
 use Rattle.trees.specs.Lists.{Among}
 use Rattle.trees.specs.Records.{listed, recordOf, ValidOn, BinaryOn, recordsIn}
-use Rattle.trees.specs.Valid.{valid}
+use Rattle.trees.specs.Valid.{validGene}
 use Rattle.weights.specs.Count.{score}
 use Rattle.splits.specs.BinaryTrees.{Binary, clustersIn}
 use Rattle.splits.specs.Order.{Earlier}
@@ -26,7 +26,7 @@ pub record Accepted (n : ℕ) (genes : List ℕ) (count : ℕ) (allowed scores s
   pub allowed-fits : 2 ^ n ≤ length allowed
   pub scores-fit : 2 ^ n ≤ length scores
   pub splits-fit : 2 ^ n ≤ length splits
-  pub genes-valid : (g : List ℕ) → List·Memᴰ g (recordsIn count genes) → valid (whole n) g ≡ true
+  pub genes-valid : (g : List ℕ) → List·Memᴰ g (recordsIn count genes) → validGene n g ≡ true
   pub allowed-bytes : (a : ℕ) → a < 2 ^ n → getD allowed a 0 ≤ 1
 
 -- a valid binary species record, all of whose clusters are allowed

@@ -1,14 +1,17 @@
 -- The names that stand in a table.
 use Prim.Native.Nat.{ℕ, zero, suc, _+_, _-_, _*_, _≤_, _<_}
 use mathlib.Core.Path.{_≡_, refl, ap, _∙_}
+use mathlib.Core.Bool.{Bool, true, false}
 use mathlib.Core.List.{List, []}
 use native.Mathlib.Omega.{arith}
 use lib.ListN.{length, getD, take, drop, length-take, length-drop}
 use lib.Seq.{length-take-le, drop-drop}
+use Rattle.clusters.specs.Sets.{single, within}
 use Rattle.labels.specs.Bytes.{run}
 use Rattle.labels.proofs.Runs.{run-within}
 use Rattle.roster.specs.Table.{nonZero}
-use Rattle.texts.specs.Work.{nameIn, namesIn, labels}
+use Rattle.texts.specs.Writing.{label}
+use Rattle.texts.specs.Work.{nameIn, namesIn, bytesIf, labelsIn}
 
 module _ (table : List ℕ) (i : ℕ) (fits : 16 * i + 16 ≤ length table) where
   name-run : run nonZero (take 16 (drop (16 * i) table)) ≤ 16
@@ -51,12 +54,28 @@ names-at zero table i h = absurd (omega arith)
 names-at (suc n) table zero h = refl
 names-at (suc n) table (suc i) h = names-at n (drop 16 table) i (omega arith) ∙ later-name table i
 
--- one name more
-pub labels-more : (n : ℕ) (table : List ℕ) → labels (namesIn (suc n) table) ≡ labels (namesIn n table) + length (nameIn table n)
-unfolding labels namesIn
-labels-more zero table = omega arith
-labels-more (suc n) table = let h = labels-more n (drop 16 table) in let e = ap length (later-name table n) in omega arith
+-- ---- the labels of a set
 
-pub labels-none : (table : List ℕ) → labels (namesIn 0 table) ≡ 0
-unfolding labels namesIn
-labels-none table = refl
+pub labels-none : (names : List (List ℕ)) (set : ℕ) → labelsIn names set 0 ≡ 0
+unfolding labelsIn
+labels-none names set = refl
+
+-- one species more
+pub labels-more :
+    (n : ℕ) (table : List ℕ) (set i : ℕ) → i < n
+    → labelsIn (namesIn n table) set (suc i) ≡ labelsIn (namesIn n table) set i + bytesIf (within (single i) set) (length (nameIn table i))
+unfolding labelsIn
+labels-more n table set i h =
+    ap (λ (w : List ℕ). labelsIn (namesIn n table) set i + bytesIf (within (single i) set) (length (label w))) (names-at n table i h)
+
+pub label-short : (table : List ℕ) (i : ℕ) → 16 * i + 16 ≤ length table → (b : Bool) → bytesIf b (length (nameIn table i)) ≤ 16
+label-short table i fits true = name-short table i fits
+label-short table i fits false = omega arith
+
+-- the label of species i by the test that the code makes
+module _ (i set : ℕ) {one : ℕ} {b : Bool} (n : ℕ) (alone : one ≡ single i) (test : b ≡ within one set) where
+  pub bytes-there : b ≡ true → {r : ℕ} → r ≡ n → r ≡ bytesIf (within (single i) set) n
+  bytes-there t e = rw (← alone, ← test, t) e
+
+  pub bytes-absent : b ≡ false → 0 ≡ bytesIf (within (single i) set) n
+  bytes-absent t = rw (← alone, ← test, t)

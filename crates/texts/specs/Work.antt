@@ -1,8 +1,9 @@
 -- What the functions that write a node ask of one another: the names in a table, and a cluster of a record that draws a tree.
 use Prim.Native.Nat.{ℕ, zero, suc, _+_, _*_, _<_}
+use mathlib.Core.Bool.{Bool, true, false}
 use mathlib.Core.List.{List, [], _∷_}
-use lib.ListN.{length, take, drop}
-use Rattle.clusters.specs.Sets.{Has}
+use lib.ListN.{length, getD, take, drop}
+use Rattle.clusters.specs.Sets.{Has, single, within}
 use Rattle.labels.specs.Bytes.{run}
 use Rattle.trees.specs.Lists.{Among}
 use Rattle.trees.specs.Records.{listed, ValidOn}
@@ -20,10 +21,15 @@ unfolding nameIn
 namesIn zero table = []
 namesIn (suc n) table = nameIn table 0 ∷ namesIn n (drop 16 table)
 
--- the bytes of the labels of all names
-unfoldable pub labels : List (List ℕ) → ℕ
-labels [] = 0
-labels (w ∷ names) = length (label w) + labels names
+-- n bytes where the test holds, else none
+abbrev pub bytesIf : Bool → ℕ → ℕ
+bytesIf true n = n
+bytesIf false n = 0
+
+-- the bytes of the labels of those of the first n species that are in s
+unfoldable pub labelsIn : List (List ℕ) → ℕ → ℕ → ℕ
+labelsIn names s zero = 0
+labelsIn names s (suc i) = labelsIn names s i + bytesIf (within (single i) s) (length (label (getD names i [])))
 
 -- the text of the node of a cluster, over a table of 32 names
 unfoldable pub clusterText : List ℕ → List ℕ → ℕ → List ℕ

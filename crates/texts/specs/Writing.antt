@@ -1,12 +1,11 @@
 -- Tree text in the one form (01, "Tree text"): children in rising order of their lowest species, no blanks, inner names or numbers.
 use Prim.Native.Nat.{ℕ}
 use mathlib.Core.List.{List, [], _∷_, _++_}
-use lib.ListN.{length, getD}
-use Rattle.clusters.specs.Sets.{whole}
+use lib.ListN.{getD}
 use Rattle.trees.specs.Tree.{Tree, Forest, cluster}
 use Rattle.trees.specs.Tree.Tree.{leaf, node}
 use Rattle.trees.specs.Tree.Forest.{last, more}
-use Rattle.trees.specs.Records.{listed}
+use Rattle.trees.specs.Records.{listed, largest}
 use Rattle.trees.specs.Drawn.{drawn}
 
 -- how a name is written: as it is
@@ -32,6 +31,6 @@ unfoldable pub treeText : List (List ℕ) → Tree → List ℕ
 unfolding nodeText
 treeText names t = nodeText names t ++ 59 ∷ []
 
--- the text of a record: of the tree that it draws on all species of the roster
+-- the text of a record: of the tree that it draws on its largest cluster; "Species records still have every species; the writer takes both" (#104)
 unfoldable pub written : List (List ℕ) → List ℕ → List ℕ
-written names r = treeText names (drawn (listed r) (whole (length names)))
+written names r = treeText names (drawn (listed r) (largest r))

@@ -5,6 +5,7 @@ pub mod Counts
 pub mod Drawing
 pub mod EqualPieces
 pub mod Form
+pub mod GeneRecords
 pub mod Lent
 pub mod Likeness
 pub mod Listing

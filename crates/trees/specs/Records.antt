@@ -1,5 +1,5 @@
 -- A tree's record, and when 32 numbers are a valid one (01, "Species, clusters, records").
-use Prim.Native.Nat.{ℕ, _+_, _-_, _*_, _≤_}
+use Prim.Native.Nat.{ℕ, _+_, _-_, _*_, _^_, _≤_, _<_}
 use mathlib.Core.Path.{_≡_}
 use mathlib.Core.Logic.{_⊎_}
 use mathlib.Core.List.{List, _∷_, _++_, List·Memᴰ}
@@ -38,13 +38,19 @@ pub record ValidOn (s : ℕ) (r : List ℕ) : Type 0 where
   pub inside : (a : ℕ) → Among a (listed r) → (1 ≤ a) × Within a s
   pub nested : (a b : ℕ) → Among a (listed r) → Among b (listed r) → Nested a b
 
--- a valid record of a species tree, and of a gene tree, for n species
+-- a valid record of a species tree for n species: "Species records still have every species" (#104)
 abbrev pub SpeciesValid : ℕ → List ℕ → Type 0
 SpeciesValid n r = ValidOn (whole n) r
 
--- a valid record of a gene tree for n species
-abbrev pub GeneValid : ℕ → List ℕ → Type 0
-GeneValid n r = ValidOn (whole n) r
+-- "its largest one" (#104): clusters rise, so it is the last that is listed (`GeneRecords.among-le-largest`)
+abbrev pub largest : List ℕ → ℕ
+largest r = getD r (count r) 0
+
+-- a valid record of a gene tree for n species: "its clusters lie within its largest one, whose species are each there singly" (#104)
+pub record GeneValid (n : ℕ) (r : List ℕ) : Type 0 where
+  pub some-species : 1 ≤ largest r
+  pub of-roster : largest r < 2 ^ n
+  pub valid : ValidOn (largest r) r
 
 -- "m = 2n - 1 exactly when the tree is binary"
 abbrev pub BinaryOn : ℕ → List ℕ → Type 0

@@ -1,12 +1,12 @@
 -- The test for a valid record, as a computation; `valid-decides` shows that it says whether `ValidOn` holds.
-use Prim.Native.Nat.{ℕ, zero, suc, _+_, _*_}
+use Prim.Native.Nat.{ℕ, zero, suc, _+_, _*_, _^_}
 use mathlib.Core.Bool.{Bool, true, _&&_, _||_, not}
 use mathlib.Core.List.{List, [], _∷_}
 use lib.ListN.{length, drop}
 use lib.Dec.{eqb, leb, ltb}
 use Rattle.clusters.specs.Sets.{has, within, apart, single, size}
 use Rattle.trees.specs.Lists.{some}
-use Rattle.trees.specs.Records.{count, listed}
+use Rattle.trees.specs.Records.{count, listed, largest}
 
 -- every number of the list passes the test
 unfoldable pub every : (ℕ → Bool) → List ℕ → Bool
@@ -43,6 +43,11 @@ valid s r =
     && among s (listed r)
     && every (λ a. leb 1 a && within a s) (listed r)
     && nested (listed r)
+
+-- the test of a gene record: 01's clauses on its largest cluster, which is a cluster of n species (#104)
+unfoldable pub validGene : ℕ → List ℕ → Bool
+unfolding valid
+validGene n r = leb 1 (largest r) && ltb (largest r) (2 ^ n) && valid (largest r) r
 
 -- "m = 2n - 1 exactly when the tree is binary"
 unfoldable pub binary : ℕ → List ℕ → Bool

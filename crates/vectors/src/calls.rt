@@ -11,6 +11,7 @@ use cases::fields::byte;
 use cases::packed::bytes;
 use cases::packed::numbers;
 use cases::room;
+use reader::Kind;
 use showing::show;
 
 // Runs a case whose first field is a text.
@@ -20,7 +21,8 @@ fn run_with_text(case: &[u8], letter: u8) {
     let text = &space[..n];
     match letter {
         b'J' => judging::run(text),
-        b'R' => reading::run(case, text),
+        b'R' => reading::run(Kind::Species, case, text),
+        b'G' => reading::run(Kind::Gene, case, text),
         b'W' => writing::run(case, text),
         _ => reporting::run(text),
     }
@@ -43,7 +45,7 @@ fn run_with_genes(case: &[u8], letter: u8) {
 pub fn run(case: &[u8]) {
     let letter = byte(case, 0);
     match letter {
-        b'J' | b'R' | b'W' | b'P' => run_with_text(case, letter),
+        b'J' | b'R' | b'G' | b'W' | b'P' => run_with_text(case, letter),
         b'K' | b'S' | b'M' | b'F' => run_with_genes(case, letter),
         _ => show::text(b"no such call\n"),
     }

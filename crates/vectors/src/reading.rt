@@ -1,13 +1,14 @@
-// `R` roster line | text | start: reads a tree, and prints number, place and next place, and the record.
+// `R` roster line | text | start: reads a species tree, and prints number, place and next place, and the record; `G` the same for a gene tree.
 use cases::fields::number;
 use cases::packed::bytes;
 use cases::room;
+use reader::Kind;
 use showing::show;
 
-pub fn run(case: &[u8], line: &[u8]) {
+pub fn run(kind: Kind, case: &[u8], line: &[u8]) {
     let mut text = room::bytes();
     let n = bytes(case, 1, true, &mut text);
-    let reading = reader::read(line, &text[..n], number(case, 2));
+    let reading = reader::read(kind, line, &text[..n], number(case, 2));
     let entries = reading.numbers;
     show::answer(reading.number, reading.place, reading.next);
     show::record_start(&entries);

@@ -1,4 +1,4 @@
--- How large k is: at most the size of A and the number of species of the tree, and 1 for single species and the whole set.
+-- How large k is: at most the size of A and the number of species of the tree. It is 1 for a single species of the tree, and where A holds all of them.
 use Prim.Native.Nat.{ℕ, _-_, _^_, _≤_, _<_}
 use mathlib.Core.Path.{_≡_, refl, sym}
 use mathlib.Core.Logic.{inl, inr}
@@ -7,7 +7,7 @@ use native.Mathlib.Omega.{arith}
 use lib.ListN.{length}
 use Rattle.clusters.specs.Sets.{Has, Within, Apart, within, single, size}
 use Rattle.clusters.proofs.Members.{within-of-has, has-of-within, single-has}
-use Rattle.clusters.proofs.Sets.{within-refl, within-trans}
+use Rattle.clusters.proofs.Sets.{within-trans}
 use Rattle.clusters.proofs.Sizes.{size-some, size-apart, size-within, size-single}
 use Rattle.trees.specs.Lists.{Among, NoneTwice}
 use Rattle.trees.specs.Records.{listed, Nested, ValidOn}
@@ -72,6 +72,11 @@ module _ {s : ℕ} {g : List ℕ} (v : ValidOn s g) where
   k-of-holder a w =
       k-held (listed g) a (tells-every (λ x. within x a) (listed g) (λ x. tells-within x a) .told (λ x h. within-trans x s a (v .inside x h .1) w))
 
+  -- no extra lineages of a set that holds all its species
+  pub extra-of-holder : (a : ℕ) → Within s a → extra g a ≡ 0
+  unfolding extra
+  extra-of-holder a w = omega (arith, k-of-holder a w)
+
   module _ (small : s < 2 ^ 16) where
     pub k-le : (a : ℕ) → kOf (listed g) a ≤ size a
     k-le a = omega (arith, k-never-more v small a, drawn-le a)
@@ -84,14 +89,6 @@ module _ {s : ℕ} {g : List ℕ} (v : ValidOn s g) where
 
     -- ---- extra lineages
 
-    pub extra-of-single : (i : ℕ) → Has s i → extra g (single i) ≡ 0
-    unfolding extra
-    extra-of-single i h = omega (arith, k-of-single i h)
-
-    pub extra-of-whole : extra g s ≡ 0
-    unfolding extra
-    extra-of-whole = omega (arith, k-of-holder s (within-refl s))
-
     pub extra-lt-size : (a : ℕ) → extra g a ≤ size a - 1
     unfolding extra
     extra-lt-size a = omega (arith, k-le a)
@@ -99,3 +96,7 @@ module _ {s : ℕ} {g : List ℕ} (v : ValidOn s g) where
     pub extra-lt-all : (a : ℕ) → extra g a ≤ size s - 1
     unfolding extra
     extra-lt-all a = omega (arith, k-le-all a)
+
+    -- of a single species nothing is extra, whether the tree has it or not
+    pub extra-of-single : (i : ℕ) → extra g (single i) ≡ 0
+    extra-of-single i = omega (arith, extra-lt-size (single i), size-single i)

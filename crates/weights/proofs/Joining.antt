@@ -126,7 +126,7 @@ pub joining-passed : (cs : List ℕ) (a p : ℕ) → holdsMaximal cs a p ≡ fal
 unfolding joining keep
 joining-passed cs a p e = rw e refl
 
-keep-same : (test other : ℕ → Bool) (l : List ℕ) → ((x : ℕ) → Among x l → test x ≡ other x) → keep test l ≡ keep other l
+pub keep-same : (test other : ℕ → Bool) (l : List ℕ) → ((x : ℕ) → Among x l → test x ≡ other x) → keep test l ≡ keep other l
 unfolding keep
 keep-same test other [] h = refl
 keep-same test other (x ∷ l) h = ap₂ (λ (b : Bool) (r : List ℕ). keepIf b x r) (h x (here refl)) (keep-same test other l (λ y m. h y (there m)))

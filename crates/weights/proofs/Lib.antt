@@ -6,6 +6,7 @@ pub mod CountedDown
 pub mod Compared
 pub mod Bounds
 pub mod Sums
+pub mod Lost
 pub mod Pass
 pub mod Checked
 pub mod RunningSums

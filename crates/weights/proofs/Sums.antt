@@ -6,14 +6,14 @@ use native.Mathlib.Nat.{mul-suc}
 use native.Mathlib.Omega.{arith}
 use lib.ListN.{length, drop, length-take}
 use Rattle.clusters.specs.Sets.{whole, single}
-use Rattle.clusters.proofs.Members.{whole-has}
-use Rattle.clusters.proofs.Sizes.{size-whole}
-use Rattle.trees.specs.Records.{count, listed, SpeciesValid, AllValid}
+use Rattle.clusters.proofs.Sets.{within-whole}
+use Rattle.clusters.proofs.Sizes.{size-le}
+use Rattle.trees.specs.Records.{count, listed, largest, SpeciesValid, AllValid}
 use Rattle.trees.specs.Lists.{total, InAnyOrder}
 use Rattle.trees.specs.Lists.InAnyOrder.{nothing, put}
-use Rattle.trees.proofs.Bounds.{whole-below-sixteen}
+use Rattle.trees.proofs.GeneRecords.{gene-small}
 use Rattle.weights.specs.Count.{extra, weight, score}
-use Rattle.weights.proofs.Bounds.{extra-of-single, extra-of-whole, extra-lt-all}
+use Rattle.weights.proofs.Bounds.{extra-of-single, extra-of-holder, extra-lt-all}
 
 -- ---- the weight of a cluster
 
@@ -66,7 +66,7 @@ score-append g h species =
 -- ---- the order of the gene trees
 
 -- a gene tree in the middle counts as one at the front
-weight-anywhere : (g : List (List ℕ)) (x : List ℕ) (h : List (List ℕ)) (a : ℕ) → weight (g ++ (x ∷ h)) a ≡ extra x a + weight (g ++ h) a
+pub weight-anywhere : (g : List (List ℕ)) (x : List ℕ) (h : List (List ℕ)) (a : ℕ) → weight (g ++ (x ∷ h)) a ≡ extra x a + weight (g ++ h) a
 weight-anywhere g x h a = omega (arith, weight-append g (x ∷ h) a, weight-cons x h a, weight-append g h a)
 
 -- the weight does not depend on the order
@@ -90,12 +90,12 @@ weight-of-nothing [] a f = weight-none a
 weight-of-nothing (g ∷ l) a f = omega (arith, weight-cons g l a, f g (here refl), weight-of-nothing l a (λ h m. f h (there m)))
 
 -- "single species and the whole set weigh 0"
-pub singles-weigh-nothing : (n i : ℕ) (genes : List (List ℕ)) → n ≤ 16 → i < n → AllValid n genes → weight genes (single i) ≡ 0
-singles-weigh-nothing n i genes few l v =
-    weight-of-nothing genes (single i) (λ g m. extra-of-single (v g m) (whole-below-sixteen n few) i (whole-has n i l))
+pub singles-weigh-nothing : (n i : ℕ) (genes : List (List ℕ)) → n ≤ 16 → AllValid n genes → weight genes (single i) ≡ 0
+singles-weigh-nothing n i genes few v =
+    weight-of-nothing genes (single i) (λ g m. extra-of-single (v g m .valid) (gene-small few (v g m)) i)
 
-pub whole-weighs-nothing : (n : ℕ) (genes : List (List ℕ)) → n ≤ 16 → AllValid n genes → weight genes (whole n) ≡ 0
-whole-weighs-nothing n genes few v = weight-of-nothing genes (whole n) (λ g m. extra-of-whole (v g m) (whole-below-sixteen n few))
+pub whole-weighs-nothing : (n : ℕ) (genes : List (List ℕ)) → AllValid n genes → weight genes (whole n) ≡ 0
+whole-weighs-nothing n genes v = weight-of-nothing genes (whole n) (λ g m. extra-of-holder (v g m .valid) (whole n) (within-whole n (v g m .of-roster)))
 
 -- ---- bounds
 
@@ -110,7 +110,9 @@ weights-le b genes (a ∷ cs) f = omega (arith, weights-cons genes a cs, f a, we
 
 -- a gene tree adds at most 15 to a weight
 pub weight-bound : {n : ℕ} (genes : List (List ℕ)) (a : ℕ) → n ≤ 16 → AllValid n genes → weight genes a ≤ 15 * length genes
-weight-bound {n} genes a l v = weight-le 15 genes a (λ g m. omega (arith, extra-lt-all (v g m) (whole-below-sixteen n l) a, size-whole n))
+weight-bound {n} genes a l v =
+    weight-le 15 genes a
+    (λ g m. let small = gene-small l (v g m) in omega (arith, extra-lt-all (v g m .valid) small a, size-le {a = largest g} 16 small))
 
 -- inside the limits a score is at most 31 times 61,440
 pub score-bound :

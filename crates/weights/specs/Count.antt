@@ -37,11 +37,11 @@ unfoldable pub kOf : List ℕ → ℕ → ℕ
 unfolding holdsMaximal
 kOf cs a = oneOr (every (λ x. within x a) cs) (length (keep (λ p. holdsMaximal cs a p) cs))
 
--- the extra lineages of A in one gene tree: "k - 1"
+-- the extra lineages of A in one gene tree: "k - 1", which ends at 0: "A gene tree with no cluster within A adds nothing to A's weight" (#104)
 unfoldable pub extra : List ℕ → ℕ → ℕ
 extra g a = kOf (shownBy g) a - 1
 
--- "The weight of A is the sum over all gene trees of k - 1"
+-- "The weight of A is the sum over all gene trees of k - 1", and of 0 for those with no cluster within A (#104)
 unfoldable pub weight : List (List ℕ) → ℕ → ℕ
 unfolding total
 weight genes a = total (map (λ g. extra g a) genes)

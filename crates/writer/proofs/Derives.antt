@@ -6,20 +6,20 @@ use mathlib.Core.List.{List, [], _∷_, _++_, append-assoc, append-nil, List·Me
 use native.Mathlib.Decide.{ℕ-discrete}
 use native.Mathlib.Omega.{arith}
 use lib.ListN.{length, getD}
-use Rattle.clusters.specs.Sets.{whole, size}
-use Rattle.clusters.proofs.Sets.{whole-below, within-below}
-use Rattle.clusters.proofs.Sizes.{size-some, size-within-lt, size-whole}
+use Rattle.clusters.specs.Sets.{size}
+use Rattle.clusters.proofs.Sets.{within-below}
+use Rattle.clusters.proofs.Sizes.{size-some, size-within-lt, size-le}
 use Rattle.clusters.proofs.LowestSpecies.{lowest-below}
 use Rattle.labels.specs.Bytes.{isName}
 use Rattle.trees.specs.Lists.{Among}
 use Rattle.trees.specs.Tree.{Tree, Forest, Behind}
 use Rattle.trees.specs.Tree.Tree.{leaf, node}
 use Rattle.trees.specs.Tree.Forest.{last, more}
-use Rattle.trees.specs.Records.{listed, ValidOn}
+use Rattle.trees.specs.Records.{listed, largest, GeneValid}
 use Rattle.trees.specs.Drawn.{bare, children, forestOver, nodeOver, drawn}
 use Rattle.trees.proofs.Children.{Hierarchy, hierarchy-of-valid, among-children, cluster-below, children-two}
 use Rattle.trees.proofs.Drawing.{drawn-node, drawn-leaf}
-use Rattle.trees.proofs.Bounds.{whole-below-sixteen}
+use Rattle.trees.proofs.GeneRecords.{gene-small}
 use Rattle.nodes.specs.Reading.{openMost}
 use Rattle.nodes.specs.Grammar.{strict, Blanks, Run, Node, Children, Text}
 use Rattle.nodes.specs.Grammar.Blanks.{none}
@@ -120,12 +120,12 @@ module _ {s : ℕ} {cs : List ℕ} (h : Hierarchy s cs) (n : ℕ) (below : s < 2
           (over-plain (λ b. drawn cs b) (children cs a) (children-two h m e)
           (λ x i. let c = among-children cs a i in let q = size-within-lt x a (c .inside) (c .other) in ih x (c .among) (omega arith)))
 
--- the text of a valid record derives the tree that the record draws
-pub derives-written : (names : List (List ℕ)) {r : List ℕ} → GoodNames names → ValidOn (whole (length names)) r
-    → Text (strict names) openMost (written names r) (drawn (listed r) (whole (length names))) []
+-- the text of a valid gene record derives the tree that the record draws
+pub derives-written : (names : List (List ℕ)) {r : List ℕ} → GoodNames names → GeneValid (length names) r
+    → Text (strict names) openMost (written names r) (drawn (listed r) (largest r)) []
 unfolding written treeText
 derives-written names {r} g v =
     let n = length names in
-    let h = hierarchy-of-valid v (whole-below-sixteen n (g .few)) in
-    let l : size (whole n) ≤ suc openMost = let e = size-whole n in let f = g .few in omega arith in
-    text (node-derives g (59 ∷ []) (drawn-plain h n (whole-below n) openMost (whole n) (v .all) l)) none
+    let h = hierarchy-of-valid (v .valid) (gene-small (g .few) v) in
+    let l : size (largest r) ≤ suc openMost = let e = size-le n (v .of-roster) in let f = g .few in omega arith in
+    text (node-derives g (59 ∷ []) (drawn-plain h n (v .of-roster) openMost (largest r) (v .valid .all) l)) none

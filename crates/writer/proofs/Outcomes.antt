@@ -7,11 +7,9 @@ use native.Mathlib.Omega.{arith}
 use lib.ListN.{length, drop}
 use lib.Dec.{ltb}
 use borrow.Author.Tests.{lt-ltb, le-ltb, ltb-true, ltb-false}
-use Rattle.clusters.specs.Sets.{whole}
-use Rattle.trees.specs.Valid.{valid}
-use Rattle.trees.specs.Records.{ValidOn}
-use Rattle.trees.proofs.Bounds.{whole-below-sixteen}
-use Rattle.trees.proofs.ValidTest.{valid-decides}
+use Rattle.trees.specs.Valid.{validGene}
+use Rattle.trees.specs.Records.{GeneValid}
+use Rattle.trees.proofs.GeneRecords.{gene-decides}
 use Rattle.roster.specs.Roster.{names, faulty, firstFault}
 use Rattle.roster.specs.Judged.{speciesMost, done, refusal}
 use Rattle.roster.specs.Verdict.{Verdict, verdict, lengthTest}
@@ -35,18 +33,18 @@ module _ (line r out : List ℕ) where
   unfolding verdict writeTests rosterTest
   faulty-verdict f = rw f
 
-  invalid-verdict : faulty speciesMost line ≡ false → valid (whole (length (names line))) r ≡ false → verdict (writeTests line r out) ≡ record { number = 15; place = 0 }
+  invalid-verdict : faulty speciesMost line ≡ false → validGene (length (names line)) r ≡ false → verdict (writeTests line r out) ≡ record { number = 15; place = 0 }
   unfolding verdict writeTests rosterTest recordTest
   invalid-verdict f v = rw (f, v)
 
   short-verdict :
-      faulty speciesMost line ≡ false → valid (whole (length (names line))) r ≡ true → length out < size
+      faulty speciesMost line ≡ false → validGene (length (names line)) r ≡ true → length out < size
       → verdict (writeTests line r out) ≡ record { number = 12; place = 0 }
   unfolding verdict writeTests rosterTest recordTest lengthTest
   short-verdict f v s = rw (f, v, lt-ltb (length out) (length (written (names line) r)) s)
 
   done-verdict :
-      faulty speciesMost line ≡ false → valid (whole (length (names line))) r ≡ true → size ≤ length out
+      faulty speciesMost line ≡ false → validGene (length (names line)) r ≡ true → size ≤ length out
       → verdict (writeTests line r out) ≡ record { number = 0; place = 0 }
   unfolding verdict writeTests rosterTest recordTest lengthTest
   done-verdict f v s = rw (f, v, le-ltb (length out) (length (written (names line) r)) s)
@@ -61,16 +59,16 @@ module _ (line r out : List ℕ) where
   writes-faulty f = refused-by (faulty-verdict f)
 
   pub writes-invalid :
-      {p : Reply} {after : List ℕ} → faulty speciesMost line ≡ false → valid (whole (length (names line))) r ≡ false → p ≡ refusal 15 0 → after ≡ out
+      {p : Reply} {after : List ℕ} → faulty speciesMost line ≡ false → validGene (length (names line)) r ≡ false → p ≡ refusal 15 0 → after ≡ out
       → Writes line r out p after
   writes-invalid f v = refused-by (invalid-verdict f v)
 
   pub writes-short :
-      {p : Reply} {after : List ℕ} → faulty speciesMost line ≡ false → valid (whole (length (names line))) r ≡ true → length out < size → p ≡ refusal 12 0
+      {p : Reply} {after : List ℕ} → faulty speciesMost line ≡ false → validGene (length (names line)) r ≡ true → length out < size → p ≡ refusal 12 0
       → after ≡ out → Writes line r out p after
   writes-short f v s = refused-by (short-verdict f v s)
 
-  pub writes-done : {p : Reply} {after : List ℕ} → faulty speciesMost line ≡ false → valid (whole (length (names line))) r ≡ true → size ≤ length out
+  pub writes-done : {p : Reply} {after : List ℕ} → faulty speciesMost line ≡ false → validGene (length (names line)) r ≡ true → size ≤ length out
       → p ≡ done size → after ≡ written (names line) r ++ drop size out → Writes line r out p after
   writes-done f v s a b = let e = done-verdict f v s in record { answer = a ∙ rw e; bytes = b ∙ rw e }
 
@@ -79,7 +77,7 @@ module _ (line r out : List ℕ) where
 -- a text was written
 pub record Wrote (line r out : List ℕ) (p : Reply) (after : List ℕ) : Type 0 where
   pub good : faulty speciesMost line ≡ false
-  pub valid : ValidOn (whole (length (names line))) r
+  pub valid : GeneValid (length (names line)) r
   pub room : length (written (names line) r) ≤ length out
   pub value : p .value ≡ length (written (names line) r)
   pub bytes : after ≡ written (names line) r ++ drop (length (written (names line) r)) out
@@ -92,23 +90,23 @@ writes-zero {line} {r} {out} {p} {after} w z = judged (faulty speciesMost line) 
 
     roomy :
         (t : Bool) → ltb (length out) (length (written (names line) r)) ≡ t → faulty speciesMost line ≡ false
-        → valid (whole (length (names line))) r ≡ true → Wrote line r out p after
+        → validGene (length (names line)) r ≡ true → Wrote line r out p after
     roomy true e f v = absurd (other (short-verdict line r out f v (ltb-true (length out) (length (written (names line) r)) e)))
     roomy false e f v =
         let l = ltb-false (length out) (length (written (names line) r)) e in
         let d = done-verdict line r out f v l in
         record {
           good = f;
-          valid = valid-decides r (whole-below-sixteen (length (names line)) (good-names line f .few)) .holds v;
+          valid = gene-decides r (good-names line f .few) .holds v;
           room = l;
           value = ap (λ (a : Reply). a .value) (w .answer) ∙ rw d;
           bytes = w .bytes ∙ rw d;
         }
 
-    checked : (t : Bool) → valid (whole (length (names line))) r ≡ t → faulty speciesMost line ≡ false → Wrote line r out p after
+    checked : (t : Bool) → validGene (length (names line)) r ≡ t → faulty speciesMost line ≡ false → Wrote line r out p after
     checked true v f = roomy (ltb (length out) (length (written (names line) r))) refl f v
     checked false v f = absurd (other (invalid-verdict line r out f v))
 
     judged : (t : Bool) → faulty speciesMost line ≡ t → Wrote line r out p after
     judged true f = absurd (other (faulty-verdict line r out f))
-    judged false f = checked (valid (whole (length (names line))) r) refl f
+    judged false f = checked (validGene (length (names line)) r) refl f

@@ -1,136 +1,128 @@
--- Reading what was written gives the record back, and all texts of one record are written alike.
-use Prim.Native.Nat.{ℕ, _≤_}
+-- Reading what was written gives the record back.
+use Prim.Native.Nat.{ℕ, _-_}
 use mathlib.Core.Path.{_≡_, refl, sym, ap, _∙_, subst}
-use mathlib.Core.Bool.{Bool, true, false}
+use mathlib.Core.Bool.{false}
 use mathlib.Core.List.{List, []}
 use native.Mathlib.Omega.{arith}
-use lib.ListN.{length, take, drop}
+use lib.ListN.{length, take, drop, replicate}
 use lib.Seq.{take-append-seam}
-use lib.Dec.{leb}
 use Rattle.clusters.specs.Sets.{whole}
-use Rattle.trees.specs.Tree.{Tree}
-use Rattle.trees.specs.Records.{listed, ValidOn}
+use Rattle.trees.specs.Records.{listed, largest, GeneValid}
 use Rattle.trees.specs.Drawn.{drawn}
-use Rattle.trees.proofs.Recorded.{valid-of-drawn}
 use Rattle.trees.proofs.Drawing.{drawn-on, drawn-record}
-use Rattle.trees.proofs.Bounds.{whole-below-sixteen}
+use Rattle.trees.proofs.GeneRecords.{gene-small}
 use Rattle.roster.specs.Roster.{names, faulty}
 use Rattle.roster.specs.Judged.{speciesMost}
 use Rattle.roster.specs.declared.Reply.{Reply}
-use Rattle.tokens.specs.Answers.{Answer}
-use Rattle.tokens.specs.Answers.Answer.{parsed, refused}
-use Rattle.reader.specs.Promise.{textMost, readingOf, fromStart, inLimit, onRoster, answerTo, Reads}
+use Rattle.tokens.specs.Answers.Answer.{parsed}
+use Rattle.reader.specs.Promise.{readingOf, answerTo, Reads}
+use Rattle.reader.specs.Accepted.{MayHave, Draws}
+use Rattle.reader.specs.declared.Kind.{Kind}
+use Rattle.reader.specs.declared.Kind.the-variants.{Species, Gene}
 use Rattle.reader.specs.declared.Reading.{Reading}
-use Rattle.reader.specs.Accepted.{Draws}
-use Rattle.reader.proofs.Accepts.{accepted-derives, derives-accepted}
-use Rattle.nodes.proofs.Meaning.{refusal-means}
-use Rattle.nodes.proofs.Refusals.{refusal-numbers}
+use Rattle.reader.proofs.Accepts.{derives-accepted}
+use Rattle.reader.proofs.Replies.{reads-zero}
+use Rattle.reader.proofs.ByKind.{kinds-compared}
 use Rattle.texts.specs.Writing.{written}
+use Rattle.texts.proofs.Lengths.{text-most}
 use Rattle.writer.specs.Promise.{Writes}
 use Rattle.writer.proofs.RosterNames.{good-names}
-use Rattle.texts.proofs.Lengths.{text-most}
 use Rattle.writer.proofs.Derives.{derives-written}
 use Rattle.writer.proofs.Outcomes.{writes-once, writes-zero}
 
-module _ (line : List ℕ) {r : List ℕ} (good : faulty speciesMost line ≡ false) (v : ValidOn (whole (length (names line))) r) where
-  -- the text draws the tree that the record draws
-  written-draws : Draws line (written (names line) r) 0 (drawn (listed r) (whole (length (names line)))) []
-  written-draws =
-      let g = good-names line good in
-      let l = text-most (names line) (g .few) v (g .short) in
-      record {
-        good = good;
-        short = omega arith;
-        inside = omega arith;
-        derives = derives-written (names line) g v;
-        on = drawn-on v (whole-below-sixteen (length (names line)) (g .few));
-      }
+-- ---- a valid gene record written, and read
 
-  -- "for every valid record, reading what the writer wrote gives that record"
-  pub round-trip : answerTo line (written (names line) r) 0 ≡ parsed (drawn (listed r) (whole (length (names line)))) [] (length (written (names line) r))
-  round-trip = derives-accepted line (written (names line) r) 0 written-draws ∙ ap (λ (q : ℕ). parsed (drawn (listed r) (whole (length (names line)))) [] q) (omega arith)
+module _ (line : List ℕ) {r : List ℕ} (good : faulty speciesMost line ≡ false) (v : GeneValid (length (names line)) r) where
+  -- as a tree of a kind that has its species
+  module _ (kind : Kind) (species : MayHave kind (length (names line)) (largest r)) where
+    -- the text draws the tree that the record draws
+    written-draws : Draws kind line (written (names line) r) 0 (drawn (listed r) (largest r)) []
+    written-draws =
+        let g = good-names line good in
+        let l = text-most (names line) (g .few) v (g .short) in
+        let o = drawn-on (v .valid) (gene-small (g .few) v) in
+        record {
+          good = good;
+          short = omega arith;
+          inside = omega arith;
+          derives = derives-written (names line) g v;
+          once = o .once;
+          species = subst (λ (s : ℕ). MayHave kind (length (names line)) s) (sym (o .all)) species;
+        }
 
-  -- the reader's whole answer: number 0, the record, and the offset behind the text
-  pub reads-back : {q : Reading} → Reads line (written (names line) r) 0 q
+    -- for every valid record, reading what the writer wrote gives that record
+    pub round-trip : answerTo kind line (written (names line) r) 0 ≡ parsed (drawn (listed r) (largest r)) [] (length (written (names line) r))
+    round-trip = derives-accepted kind line (written (names line) r) 0 written-draws ∙ ap (λ (q : ℕ). parsed (drawn (listed r) (largest r)) [] q) (omega arith)
+
+    -- the reader's whole answer: number 0, the record, and the offset behind the text
+    pub reads-back : {q : Reading} → Reads kind line (written (names line) r) 0 q
+        → q ≡ record { number = 0; place = 0; next = length (written (names line) r); numbers = r }
+    unfolding Reads
+    reads-back h =
+        h ∙ ap (readingOf 0) round-trip
+        ∙ ap (λ (k : List ℕ). record { number = 0; place = 0; next = length (written (names line) r); numbers = k })
+        (drawn-record (v .valid) (gene-small (good-names line good .few) v))
+
+  -- as a gene tree: whatever species it has
+  pub reads-back-gene : {q : Reading} → Reads Gene line (written (names line) r) 0 q
       → q ≡ record { number = 0; place = 0; next = length (written (names line) r); numbers = r }
+  reads-back-gene h = reads-back Gene (v .some-species, v .of-roster) h
+
+  -- as species text, where it lacks a species: 9 at its `;`, the last byte
+  pub reads-back-lacking : (largest r ≡ whole (length (names line)) → ⊥) → {q : Reading} → Reads Species line (written (names line) r) 0 q
+      → q ≡ record { number = 9; place = length (written (names line) r) - 1; next = 0; numbers = replicate 32 0 }
   unfolding Reads
-  reads-back h =
-      h ∙ ap (readingOf 0) round-trip
-      ∙ ap (λ (k : List ℕ). record { number = 0; place = 0; next = length (written (names line) r); numbers = k })
-      (drawn-record v (whole-below-sixteen (length (names line)) (good-names line good .few)))
+  reads-back-lacking lacks h =
+      let gene = readingOf 0 (answerTo Gene line (written (names line) r) 0) in
+      let back = reads-back-gene {q = gene} refl in
+      kinds-compared line (written (names line) r) 0 {gene = gene} refl h .lacking-nine (ap (λ (q : Reading). q .number) back)
+      (λ all. lacks (sym (ap (λ (q : Reading). largest (q .numbers)) back) ∙ all))
+      ∙ ap (λ (q : Reading). record { number = 9; place = q .next - 1; next = 0; numbers = replicate 32 0 }) back
 
--- ---- what was read
+-- ---- over the calls
 
--- no refusal has number 0
-refusal-some : (line text : List ℕ) (start : ℕ) {n p : ℕ} → answerTo line text start ≡ refused n p → 1 ≤ n
-unfolding answerTo
-refusal-some line text start {n} {p} = judged (faulty speciesMost line)
-  where
-    told : {m q : ℕ} → _≡_ {A = Answer Tree} (refused m q) (refused n p) → m ≡ n
-    told e = cc
-
-    started : (b : Bool) → fromStart b (names line) text start ≡ refused n p → 1 ≤ n
-    started true e = let k = refusal-numbers (refusal-means (names line) (whole (length (names line))) (drop start text) start e .means) in omega arith
-    started false e = let k = told e in omega arith
-
-    limited : (b : Bool) → inLimit b (names line) text start ≡ refused n p → 1 ≤ n
-    limited true e = started (leb start (length text)) e
-    limited false e = let k = told e in omega arith
-
-    judged : (b : Bool) → onRoster b line text start ≡ refused n p → 1 ≤ n
-    judged true e = let k = told e in omega arith
-    judged false e = limited (leb (length text) textMost) e
-
--- a tree was read: the roster is good, and the record is valid
-pub record WasRead (line : List ℕ) (q : Reading) : Type 0 where
-  pub good : faulty speciesMost line ≡ false
-  pub valid : ValidOn (whole (length (names line))) (q .numbers)
-
-pub reads-zero : (line text : List ℕ) (start : ℕ) {q : Reading} → Reads line text start q → q .number ≡ 0 → WasRead line q
-unfolding Reads
-reads-zero line text start {q} h z = by (answerTo line text start) refl
-  where
-    by : (a : Answer Tree) → answerTo line text start ≡ a → WasRead line q
-    by (parsed t rest n) e =
-        let d = accepted-derives line text start e .draws in
-        let w = whole-below-sixteen (length (names line)) (good-names line (d .good) .few) in
-        record { good = d .good; valid = rw (h, e) (valid-of-drawn (d .on) w) }
-    by (refused n p) e =
-        let k = refusal-some line text start e in
-        let l : q .number ≡ n = rw (h, e) in
-        absurd (omega arith)
-
--- ---- the one form
-
--- "texts with equal clusters are written alike": two texts that were read to one record are written alike
-pub written-alike :
-    (line text text′ : List ℕ) (start start′ : ℕ) (q q′ : Reading) (out : List ℕ) {p p′ : Reply} {after after′ : List ℕ}
-    → Reads line text start q → Reads line text′ start′ q′ → q .number ≡ 0 → q′ .number ≡ 0 → q .numbers ≡ q′ .numbers
-    → Writes line (q .numbers) out p after → Writes line (q′ .numbers) out p′ after′ → (p ≡ p′) × (after ≡ after′)
-written-alike line text text′ start start′ q q′ out {p} {p′} {after} {after′} h h′ z z′ e w w′ =
-    writes-once w (subst (λ (r : List ℕ). Writes line r out p′ after′) (sym e) w′)
-
--- what was written is read back: the record, and the length that the writer gave
-pub write-read :
-    {line r out : List ℕ} {p : Reply} {after : List ℕ} {q : Reading}
-    → Writes line r out p after → p .number ≡ 0 → Reads line (take (p .value) after) 0 q
-    → q ≡ record { number = 0; place = 0; next = p .value; numbers = r }
-write-read {line} {r} {out} {p} {after} {q} w z h =
+-- the bytes that were written are the text
+text-there : {line r out : List ℕ} {p : Reply} {after : List ℕ} → Writes line r out p after → p .number ≡ 0 → take (p .value) after ≡ written (names line) r
+text-there {line} {r} {out} w z =
     let o = writes-zero w z in
-    let t : take (p .value) after ≡ written (names line) r =
     rw (o .value, o .bytes) (take-append-seam (written (names line) r) (drop (length (written (names line) r)) out))
-    in
-    reads-back line (o .good) (o .valid) (rw t at h) ∙ rw (o .value)
 
--- a record that was read, written and read again is the same record
+-- what was written is read back, as a tree of a kind that has its species: the record, and the length that the writer gave
+pub write-read :
+    (kind : Kind) {line r out : List ℕ} {p : Reply} {after : List ℕ} {q : Reading}
+    → Writes line r out p after → p .number ≡ 0 → MayHave kind (length (names line)) (largest r) → Reads kind line (take (p .value) after) 0 q
+    → q ≡ record { number = 0; place = 0; next = p .value; numbers = r }
+write-read kind {line} {r} {out} {p} {after} {q} w z species h =
+    let o = writes-zero w z in
+    reads-back line (o .good) (o .valid) kind species (rw (text-there w z) at h) ∙ rw (o .value)
+
+-- as a gene tree: always
+pub write-read-gene :
+    {line r out : List ℕ} {p : Reply} {after : List ℕ} {q : Reading}
+    → Writes line r out p after → p .number ≡ 0 → Reads Gene line (take (p .value) after) 0 q
+    → q ≡ record { number = 0; place = 0; next = p .value; numbers = r }
+write-read-gene w z h = let v = writes-zero w z .valid in write-read Gene w z (v .some-species, v .of-roster) h
+
+-- as species text, where it lacks a species: 9 at its `;`
+pub write-read-lacking :
+    {line r out : List ℕ} {p : Reply} {after : List ℕ} {q : Reading}
+    → Writes line r out p after → p .number ≡ 0 → (largest r ≡ whole (length (names line)) → ⊥) → Reads Species line (take (p .value) after) 0 q
+    → q ≡ record { number = 9; place = p .value - 1; next = 0; numbers = replicate 32 0 }
+write-read-lacking w z lacks h =
+    let o = writes-zero w z in
+    reads-back-lacking _ (o .good) (o .valid) lacks (rw (text-there w z) at h) ∙ rw (o .value)
+
+-- a record that was read, written and read again as the same kind is the same record
 pub read-write-read :
-    (line text : List ℕ) (start : ℕ) (q : Reading) {q′ : Reading} → Reads line text start q → q .number ≡ 0
-    → Reads line (written (names line) (q .numbers)) 0 q′
+    (kind : Kind) (line text : List ℕ) (start : ℕ) (q : Reading) {q′ : Reading} → Reads kind line text start q → q .number ≡ 0
+    → Reads kind line (written (names line) (q .numbers)) 0 q′
     → q′ ≡ record { number = 0; place = 0; next = length (written (names line) (q .numbers)); numbers = q .numbers }
-read-write-read line text start q h z h′ = let r = reads-zero line text start h z in reads-back line (r .good) (r .valid) h′
+read-write-read kind line text start q h z h′ =
+    let r = reads-zero kind line text start h z in
+    reads-back line (r .good) (r .gene) kind (r .species) h′
 
 -- a text in the one form is written as itself
 pub one-form :
-    (line : List ℕ) {r : List ℕ} (q : Reading) → faulty speciesMost line ≡ false → ValidOn (whole (length (names line))) r
-    → Reads line (written (names line) r) 0 q → written (names line) (q .numbers) ≡ written (names line) r
-one-form line q good v h = ap (λ (q : Reading). written (names line) (q .numbers)) (reads-back line good v h)
+    (line : List ℕ) {r : List ℕ} (q : Reading) → faulty speciesMost line ≡ false → GeneValid (length (names line)) r
+    → Reads Gene line (written (names line) r) 0 q → written (names line) (q .numbers) ≡ written (names line) r
+one-form line q good v h = ap (λ (q : Reading). written (names line) (q .numbers)) (reads-back-gene line good v h)

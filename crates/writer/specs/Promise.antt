@@ -4,8 +4,7 @@ use mathlib.Core.Path.{_≡_}
 use mathlib.Core.Bool.{not}
 use mathlib.Core.List.{List, [], _∷_, _++_}
 use lib.ListN.{length, drop}
-use Rattle.clusters.specs.Sets.{whole}
-use Rattle.trees.specs.Valid.{valid}
+use Rattle.trees.specs.Valid.{validGene}
 use Rattle.roster.specs.Roster.{names, faulty, firstFault}
 use Rattle.roster.specs.Judged.{speciesMost}
 use Rattle.roster.specs.Verdict.{Test, verdict, lengthTest, replyOf}
@@ -16,9 +15,9 @@ use Rattle.texts.specs.Writing.{written}
 unfoldable pub rosterTest : List ℕ → Test
 rosterTest line = record { fault = faulty speciesMost line; number = 1; place = firstFault speciesMost line }
 
--- "15 | a record not valid"; "for the writer 0": it has one
+-- "15 | a record not valid"; "for the writer 0": it has one. "the writer takes both", species records and those of gene trees that lack species (#104)
 unfoldable pub recordTest : List ℕ → List ℕ → Test
-recordTest line r = record { fault = not (valid (whole (length (names line))) r); number = 15; place = 0 }
+recordTest line r = record { fault = not (validGene (length (names line)) r); number = 15; place = 0 }
 
 -- "The writer: 1, 15, 12": "fewer bytes than its text"
 unfoldable pub writeTests : List ℕ → List ℕ → List ℕ → List Test

@@ -4,7 +4,7 @@ use roster::Reply;
 use roster::refused;
 use trees::Record;
 
-// Writes the text of the tree into out, and answers its length. What is refused leaves out as it was: the length is judged before a byte is written.
+// Writes the text of the tree, which may lack species of the roster, into out, and answers its length. What is refused leaves out as it was: the length is judged before a byte is written.
 pub fn write(line: &[u8], tree: Record, out: &mut [u8]) -> Reply
     ensures { λ q. ⌜ Writes (now (line .entry)) (tree .numbers) (now (out .entry)) q (now (out .exit)) ⌝ }
 {
@@ -15,12 +15,13 @@ pub fn write(line: &[u8], tree: Record, out: &mut [u8]) -> Reply
     }
     let n = roster.count;
     let table = roster.table;
-    let all = clusters::whole(n);
     let numbers = tree.numbers;
-    if !records::valid(&numbers, all) {
+    if !records::valid_gene(&numbers, n) {
         return refused(15, 0);
     }
-    let length = texts::label::text_length(&table, n, numbers[0] as usize);
+    let m = numbers[0] as usize;
+    let all = numbers[m] as u32;
+    let length = texts::label::text_length(&table, n, all, m);
     if out.len() < length {
         return refused(12, 0);
     }

@@ -1,5 +1,6 @@
 //! Cases from a seed: good and damaged rosters, texts, records and inputs.
 use crate::lines::Cases;
+use reference::reader::Kind;
 use reference::roster::joined;
 use reference::seeded::Seeded;
 use reference::writer;
@@ -41,7 +42,7 @@ fn text(c: &mut Cases, s: &mut Seeded) {
     let text = if s.one_in(4) { good } else { s.damaged(good) };
     let before = s.below(4);
     let text = [&b"(;)x"[..before], &text, b"(a"].concat();
-    c.read(&joined(&names), &text, before);
+    c.read(Kind::Species, &joined(&names), &text, before);
 }
 
 fn record(c: &mut Cases, s: &mut Seeded) {

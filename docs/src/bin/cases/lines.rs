@@ -1,4 +1,5 @@
 //! The lines of the case file: a call with its fields, packed as README.md says.
+use reference::reader::Kind;
 
 #[derive(Default)]
 pub struct Cases {
@@ -16,8 +17,9 @@ impl Cases {
         self.add(b'J', &[escaped(line)]);
     }
 
-    pub fn read(&mut self, line: &[u8], text: &[u8], start: usize) {
-        self.add(b'R', &[escaped(line), escaped(text), decimal(start)]);
+    pub fn read(&mut self, kind: Kind, line: &[u8], text: &[u8], start: usize) {
+        let call = if kind == Kind::Species { b'R' } else { b'G' };
+        self.add(call, &[escaped(line), escaped(text), decimal(start)]);
     }
 
     pub fn write(&mut self, line: &[u8], r: &[u16; 32], out: usize) {

@@ -6,4 +6,4 @@ use Rattle.cases.proofs.room.cases.Statement.{statement}
 use Rattle.cases.proofs.room.cases.Tie as tie
 
 pub cases-spec : {M : Type 1} → statement M
-cases-spec = tie.close (tie.spec (λ c. sym (length-replicate {0} {A = ℕ} 1048576 0)))
+cases-spec = tie.close (tie.spec (λ c. sym (length-replicate {0} {A = ℕ} 2097152 0)))

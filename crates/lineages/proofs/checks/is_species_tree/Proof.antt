@@ -1,6 +1,7 @@
 -- `lineages::checks::is_species_tree` meets its contract: the replies that decide are the tests.
 use mathlib.Core.Path.{sym, _∙_}
 use borrow.Author.Needs.{needs}
+use native.Mathlib.Omega.{arith}
 use Rattle.trees.proofs.Bounds.{whole-below-sixteen}
 use Rattle.lineages.proofs.Told.{valid-told, binary-told}
 use Rattle.lineages.proofs.checks.is_species_tree.Statement.{statement}
@@ -9,7 +10,7 @@ use Rattle.lineages.proofs.checks.is_species_tree.Tie as tie
 valid-requires : tie.Need-valid-requires
 valid-requires c κs =
     let start = c .before .before in
-    (start .pre .1, rw (c .whole .ensures) (whole-below-sixteen (start .args .n) (start .pre .0)))
+    (start .pre .1, omega (arith, c .whole .ensures, whole-below-sixteen (start .args .n) (start .pre .0)))
 
 returns : tie.Need-returns
 returns c =

@@ -1,5 +1,7 @@
 -- `tree::read` meets its contract: 1, 2, a start beyond the text, or the tree.
+use Prim.Native.Nat.{_*_, _≤_}
 use borrow.Author.Needs.{needs}
+use lib.ListN.{length}
 use native.Mathlib.Omega.{arith}
 use Rattle.roster.specs.Roster.{names}
 use Rattle.roster.proofs.Judging.{read-room}
@@ -17,7 +19,7 @@ returns : tie.Need-returns
 returns c =
     let start = c .before .before .before .before .before in
     let parse = c .before .before .parse in
-    roster-refused (start .args .line .now) (start .args .text .now) (start .args .start) (parse .result) (parse .ensures) (c .refused .result)
+    roster-refused (start .args .kind) (start .args .line .now) (start .args .text .now) (start .args .start) (parse .result) (parse .ensures) (c .refused .result)
     (c .before .if1 .taken) (c .refused .ensures)
 
 refused-requires-2 : tie.Need-refused-requires-2
@@ -27,7 +29,7 @@ returns-2 : tie.Need-returns-2
 returns-2 c =
     let start = c .before .before .before .before .before .before in
     let parse = c .before .before .before .parse in
-    long-refused (start .args .line .now) (start .args .text .now) (start .args .start) (parse .result) (parse .ensures) (c .refused2 .result)
+    long-refused (start .args .kind) (start .args .line .now) (start .args .text .now) (start .args .start) (parse .result) (parse .ensures) (c .refused2 .result)
     (omega arith) (c .before .if2 .taken) (c .refused2 .ensures)
 
 refused-requires-3 : tie.Need-refused-requires-3
@@ -37,32 +39,40 @@ returns-3 : tie.Need-returns-3
 returns-3 c =
     let start = c .before .before .before .before .before .before .before in
     let parse = c .before .before .before .before .parse in
-    start-refused (start .args .line .now) (start .args .text .now) (start .args .start) (parse .result) (parse .ensures) (c .refused3 .result)
+    start-refused (start .args .kind) (start .args .line .now) (start .args .text .now) (start .args .start) (parse .result) (parse .ensures) (c .refused3 .result)
     (omega arith) (c .before .before .if2 .left) (c .before .if3 .taken) (c .refused3 .ensures)
 
 slice-aggregate-recorded : tie.Need-slice-aggregate-recorded
 slice-aggregate-recorded c = search needs
 
+few-names :
+    (c : tie.After-table2)
+    → let parse = c .before .before .before .before .before .parse in
+    (16 * parse .result .count ≤ length (parse .result .table)) × (parse .result .count ≤ 16)
+few-names c =
+    let parse = c .before .before .before .before .before .parse in
+    let line = c .before .before .before .before .before .before .before .before .args .line .now in
+    let room = read-room 16 line (parse .result) (parse .ensures) (omega arith) in
+    (omega (arith, room .0, room .1), room .1)
+
+needed-requires : tie.Need-needed-requires
+needed-requires c κs = few-names c .1
+
 recorded-requires : tie.Need-recorded-requires
 recorded-requires c κs =
-    let start = c .before .before .before .before .before .before .before .before in
-    let parse = c .before .before .before .before .before .parse in
-    let line = start .args .line .now in
-    let room = read-room 16 line (parse .result) (parse .ensures) (omega arith) in (
-      (
-        names line,
-        holds-names line (parse .result) (parse .ensures) (omega arith),
-      ),
-      (room .1, omega (arith, room .0, room .1)),
-    )
+    let parse = c .before .before .before .before .before .before .parse in
+    let line = c .before .before .before .before .before .before .before .before .before .args .line .now in
+    let room = few-names (c .before) in
+    ((names line, holds-names line (parse .result) (parse .ensures) (omega arith)), (room .1, room .0))
 
 returns-4 : tie.Need-returns-4
 returns-4 c =
-    let start = c .before .before .before .before .before .before .before .before .before in
-    let if2 = c .before .before .before .before .if2 in
-    let parse = c .before .before .before .before .before .before .parse in
-    tree-recorded (start .args .line .now) (start .args .text .now) (start .args .start) (parse .result) (parse .ensures) (c .recorded .result)
-    (omega arith) (if2 .left) (c .before .before .before .if3 .left) (c .recorded .ensures)
+    let start = c .before .before .before .before .before .before .before .before .before .before in
+    let if2 = c .before .before .before .before .before .if2 in
+    let parse = c .before .before .before .before .before .before .before .parse in
+    tree-recorded (start .args .kind) (start .args .line .now) (start .args .text .now) (start .args .start) (parse .result) (parse .ensures)
+    (c .recorded .result) (omega arith) (if2 .left) (c .before .needed .result) (c .before .needed .ensures) (c .before .before .before .before .if3 .left)
+    (c .recorded .ensures)
 
 pub read-spec : {M : Type 1} → statement M
 read-spec =
@@ -76,5 +86,6 @@ read-spec =
     refused-requires-3
     returns-3
     slice-aggregate-recorded
+    needed-requires
     recorded-requires
     returns-4)

@@ -8,15 +8,12 @@ use Rattle.reader.proofs.TreeWays.{given-empty, reading-refused, stored
 use Rattle.reader.proofs.tree.recorded.Statement.{statement}
 use Rattle.reader.proofs.tree.recorded.Tie as tie
 
-whole-requires : tie.Need-whole-requires
-whole-requires c κs = search needs
-
 slice-aggregate-tree : tie.Need-slice-aggregate-tree
 slice-aggregate-tree c = search needs
 
 tree-requires : tie.Need-tree-requires
 tree-requires c κs =
-    let start = c .before .before .before .before in
+    let start = c .before .before .before in
     given-empty (start .args .count) (start .args .table .now) (start .pre .0) (start .pre .1 .0) (start .pre .1 .1)
 
 enum-known-read : tie.Need-enum-known-read
@@ -34,14 +31,12 @@ refused-requires c κs = search needs
 returns : tie.Need-returns
 unfolding ReadsRecord
 returns c = λ names holds k deep.
-    let start = c .before .before .before .before .before .before .before .before .before .before in
+    let start = c .before .before .before .before .before .before .before .before .before in
     let tree = c .before .before .before .before .before .tree in
-    let whole = c .before .before .before .before .before .before .before .whole in
-    rw (← whole .ensures)
-    (reading-refused (start .args .text .now) (start .args .table .now) (start .args .count) names holds (start .args .start) (whole .result)
+    reading-refused (start .args .text .now) (start .args .table .now) (start .args .count) names holds (start .args .start) (start .args .needed)
     (start .args .room) (tree .last .1 .1 .1 .1 .1 .1 .0) (tree .result) (tree .ensures) k deep _ (c .before .node-refusal .result) (c .refused .result)
     (c .before .before .enum-told .given .1) (c .before .node-refusal .ensures)
-    (c .refused .ensures))
+    (c .refused .ensures)
 
 slice-aggregate-record-of : tie.Need-slice-aggregate-record-of
 slice-aggregate-record-of c = search needs
@@ -49,31 +44,27 @@ slice-aggregate-record-of c = search needs
 record-of-requires : tie.Need-record-of-requires
 record-of-requires c κs =
     let tree = c .before .before .before .before .before .tree in
-    let whole = c .before .before .before .before .before .before .before .whole in
-    let start = c .before .before .before .before .before .before .before .before .before .before in
+    let start = c .before .before .before .before .before .before .before .before .before in
     let text = start .args .text .now in
     let at = start .args .start in
-    stored-fit text (start .args .table .now) (start .args .count) (start .pre .0 .0) (start .pre .0 .1) at (whole .result) (start .args .room)
+    stored-fit text (start .args .table .now) (start .args .count) (start .pre .0 .0) (start .pre .0 .1) at (start .args .needed) (start .args .room)
     (tree .last .1 .1 .1 .1 .1 .1 .0) (tree .result) (tree .ensures) (2 * (length text - at) + 1) (omega arith) _ _ (c .before .before .read .given .1)
     (start .pre .1 .0)
 
 returns-2 : tie.Need-returns-2
 unfolding ReadsRecord
 returns-2 c = λ names holds k deep.
-    let start = c .before .before .before .before .before .before .before .before .before .before .before .before in
+    let start = c .before .before .before .before .before .before .before .before .before .before .before in
     let read = c .before .before .before .before .read in
     let tree = c .before .before .before .before .before .before .before .tree in
-    let whole = c .before .before .before .before .before .before .before .before .before .whole in
-    rw (← whole .ensures)
-    (reading-recorded (start .args .text .now) (start .args .table .now) (start .args .count) names holds (start .args .start) (whole .result)
+    reading-recorded (start .args .text .now) (start .args .table .now) (start .args .count) names holds (start .args .start) (start .args .needed)
     (start .args .room) (tree .last .1 .1 .1 .1 .1 .1 .0) (tree .result) (tree .ensures) k deep _ _ (read .given .1) (start .pre .1 .0)
-    (c .before .record-of .result .numbers) (c .before .record-of .ensures))
+    (c .before .record-of .result .numbers) (c .before .record-of .ensures)
 
 pub recorded-spec : {M : Type 1} → statement M
 recorded-spec =
     tie.close
     (tie.spec
-    whole-requires
     slice-aggregate-tree
     tree-requires
     enum-known-read

@@ -5,6 +5,9 @@ use Rattle.weights.specs.Count.{extra}
 use Rattle.weights.proofs.count.extra.Statement.{statement}
 use Rattle.weights.proofs.count.extra.Tie as tie
 
+some-counted : tie.Need-sub-result
+some-counted c = omega arith
+
 returns : tie.Need-returns
 unfolding extra
 returns c = omega (arith, c .before .lineages-within .ensures)
@@ -14,4 +17,4 @@ unfolding extra
 returns-2 c = omega (arith, c .before .lineages-within .ensures)
 
 pub extra-spec : {M : Type 1} → statement M
-extra-spec = tie.close (tie.spec (λ c κs. search needs) (λ c. search needs) returns returns-2)
+extra-spec = tie.close (tie.spec (λ c κs. search needs) some-counted returns returns-2)

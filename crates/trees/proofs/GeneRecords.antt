@@ -1,0 +1,135 @@
+-- Gene records, whose trees may lack species (#104): the largest cluster is the tree's whole set, the test decides exactly, and they are the records of drawn trees on some of the species.
+use Prim.Native.Nat.{ℕ, zero, suc, _+_, _-_, _^_, _≤_, _<_}
+use mathlib.Core.Path.{_≡_, sym, ap, _∙_, subst}
+use mathlib.Core.Logic.{_↔_}
+use mathlib.Core.Bool.{true, _&&_}
+use mathlib.Core.List.{List, [], _∷_}
+use native.Mathlib.Decide.{decLt}
+use native.Mathlib.Omega.{arith}
+use lib.Dec.{leb, ltb}
+use lib.ListN.{length, getD}
+use lib.Pow.{pow-mono}
+use borrow.Author.Tests.{leb-true, le-leb, ltb-true, lt-ltb}
+use Rattle.clusters.specs.Sets.{whole}
+use Rattle.clusters.proofs.Sets.{within-le, whole-below, whole-some}
+use Rattle.trees.specs.Lists.{Among, Rising}
+use Rattle.trees.specs.Tree.{Tree, On, clusters}
+use Rattle.trees.specs.Records.{count, listed, recordOf, largest, Form, ValidOn, SpeciesValid, GeneValid}
+use Rattle.trees.specs.Valid.{valid, validGene}
+use Rattle.trees.specs.Drawn.{Alike, drawn}
+use Rattle.trees.proofs.Booleans.{both}
+use Rattle.trees.proofs.Order.{rising-below}
+use Rattle.trees.proofs.Places.{at-among, listed-length, listed-place, place-among, Placed, among-place}
+use Rattle.trees.proofs.ValidTest.{Tells, valid-decides}
+use Rattle.trees.proofs.Drawing.{drawn-on, drawn-record}
+use Rattle.trees.proofs.Recorded.{valid-of-drawn}
+use Rattle.trees.proofs.Likeness.{alike-of-record}
+
+-- ---- the largest cluster
+
+-- in a rising list what stands at a later place is larger
+rising-places : (l : List ℕ) → Rising l → (i j : ℕ) → i < j → j < length l → getD l i 0 < getD l j 0
+unfolding Rising
+rising-places [] r i j p q = absurd (omega arith)
+rising-places (x ∷ l) r i zero p q = absurd (omega arith)
+rising-places (x ∷ l) r zero (suc j) p q = rising-below l r (at-among l j (omega arith))
+rising-places (x ∷ l) r (suc i) (suc j) p q = rising-places l (r .1) i j (omega arith) (omega arith)
+
+-- the largest cluster is listed
+pub largest-among : {r : List ℕ} → Form r → 1 ≤ count r → Among (largest r) (listed r)
+largest-among {r} f some = place-among r (count r) (f .thirty-two) (f .counted) (count r) some (omega arith)
+
+-- and no other is larger
+pub among-le-largest : {r : List ℕ} {x : ℕ} → Form r → Among x (listed r) → (1 ≤ count r) × (x ≤ largest r)
+among-le-largest {r} {x} f m = (omega (arith, p .first, p .last), go (decLt (p .place) (count r)))
+  where
+    p : Placed r (count r) (f .thirty-two) (f .counted) x
+    p = among-place r (count r) (f .thirty-two) (f .counted) x m
+
+    go : Dec (p .place < count r) → x ≤ largest r
+    go (yes l) =
+        let first = p .first in
+        let here : p .place - 1 + 1 ≡ p .place = omega arith in
+        let end : count r - 1 + 1 ≡ count r = omega arith in
+        let less = rising-places (listed r) (f .rising) (p .place - 1) (count r - 1) (omega arith)
+        (omega (arith, listed-length r (count r) (f .thirty-two) (f .counted))) in
+        let low = listed-place r (count r) (f .thirty-two) (f .counted) (p .place - 1) (omega arith) in
+        let high = listed-place r (count r) (f .thirty-two) (f .counted) (count r - 1) (omega arith) in
+        omega (arith, less, low, high, ap (λ (k : ℕ). getD r k 0) here, ap (λ (k : ℕ). getD r k 0) end, p .there)
+    go (no n) =
+        let last = p .last in
+        let same : p .place ≡ count r = omega arith in
+        omega (arith, ap (λ (k : ℕ). getD r k 0) same, p .there)
+
+-- the whole set of a valid record is its largest cluster
+pub largest-of-valid : {s : ℕ} {r : List ℕ} → ValidOn s r → largest r ≡ s
+largest-of-valid {s} {r} v =
+    let up = among-le-largest (v .form) (v .all) in
+    let down = within-le (v .inside (largest r) (largest-among (v .form) (up .0)) .1) in
+    omega (arith, up .1)
+
+-- ---- gene records and species records
+
+-- a record of n species is a gene record with every species, and the other way round
+pub gene-of-species : {n : ℕ} {r : List ℕ} → 1 ≤ n → SpeciesValid n r → GeneValid n r
+gene-of-species {n} {r} some v =
+    let e = largest-of-valid v in
+    record {
+      some-species = omega (arith, whole-some n some);
+      of-roster = omega (arith, whole-below n);
+      valid = subst (λ (s : ℕ). ValidOn s r) (sym e) v;
+    }
+
+pub species-of-gene : {n : ℕ} {r : List ℕ} → GeneValid n r → largest r ≡ whole n → SpeciesValid n r
+species-of-gene {n} {r} g e = subst (λ (s : ℕ). ValidOn s r) e (g .valid)
+
+-- a valid record on a set of species of the roster is a gene record
+pub gene-of-valid : {n s : ℕ} {r : List ℕ} → ValidOn s r → 1 ≤ s → s < 2 ^ n → GeneValid n r
+gene-of-valid {n} {s} {r} v some below =
+    let e = largest-of-valid v in
+    record { some-species = omega arith; of-roster = omega arith; valid = subst (λ (s : ℕ). ValidOn s r) (sym e) v }
+
+-- its species are sixteen bits
+pub gene-small : {n : ℕ} {r : List ℕ} → n ≤ 16 → GeneValid n r → largest r < 2 ^ 16
+gene-small {n} few g = omega (arith, g .of-roster, pow-mono {i = n} {j = 16} few)
+
+-- each of its clusters is a cluster of n species
+pub gene-cluster-below : {n : ℕ} {r : List ℕ} → GeneValid n r → (x : ℕ) → Among x (listed r) → (1 ≤ x) × (x < 2 ^ n)
+gene-cluster-below {n} {r} g x m = let k = g .valid .inside x m in (k .0, omega (arith, within-le (k .1), g .of-roster))
+
+-- ---- the test
+
+-- the test is true exactly when the record is a valid gene record
+pub gene-decides : {n : ℕ} (r : List ℕ) → n ≤ 16 → Tells (validGene n r) (GeneValid n r)
+unfolding validGene
+gene-decides {n} r few = record { holds = holds; told = told }
+  where
+    holds : (leb 1 (largest r) && ltb (largest r) (2 ^ n) && valid (largest r) r) ≡ true → GeneValid n r
+    holds e =
+        let k = both (leb 1 (largest r) && ltb (largest r) (2 ^ n)) (valid (largest r) r) e in
+        let b = both (leb 1 (largest r)) (ltb (largest r) (2 ^ n)) (k .0) in
+        let below = ltb-true (largest r) (2 ^ n) (b .1) in
+        record {
+          some-species = leb-true 1 (largest r) (b .0);
+          of-roster = below;
+          valid = valid-decides {s = largest r} r (omega (arith, below, pow-mono {i = n} {j = 16} few)) .holds (k .1);
+        }
+
+    told : GeneValid n r → (leb 1 (largest r) && ltb (largest r) (2 ^ n) && valid (largest r) r) ≡ true
+    told g = rw (le-leb 1 (largest r) (g .some-species), lt-ltb (largest r) (2 ^ n) (g .of-roster)) (valid-decides r (gene-small few g) .told (g .valid))
+
+-- ---- drawn trees
+
+-- a gene record is valid exactly when it is the record of a drawn tree on some of the species, at least one
+pub gene-exactly : {n : ℕ} {r : List ℕ} → n ≤ 16 → GeneValid n r ↔ ((s : ℕ) × (1 ≤ s) × (s < 2 ^ n) × ((t : Tree) × On s t × (recordOf (clusters t) ≡ r)))
+gene-exactly {n} {r} few = (
+  λ g. (largest r, g .some-species, g .of-roster, (drawn (listed r) (largest r), drawn-on (g .valid) (gene-small few g), drawn-record (g .valid) (gene-small few g))),
+  λ k. gene-of-valid (subst (λ (r : List ℕ). ValidOn (k .0) r) (k .3 .2) (valid-of-drawn (k .3 .1) (omega (arith, k .2, pow-mono {i = n} {j = 16} few)))) (k .1) (k .2),
+)
+
+-- that tree is unique up to the order of children: trees with one record are on the same species, and alike
+pub gene-tree-unique :
+    {s s′ : ℕ} {t u : Tree} → s < 2 ^ 16 → s′ < 2 ^ 16 → On s t → On s′ u → recordOf (clusters t) ≡ recordOf (clusters u) → (s ≡ s′) × Alike t u
+gene-tree-unique {s} {s′} {t} {u} b b′ o q e =
+    let same = sym (largest-of-valid (valid-of-drawn o b)) ∙ ap largest e ∙ largest-of-valid (valid-of-drawn q b′) in
+    (same, alike-of-record o (subst (λ (x : ℕ). On x u) (sym same) q) e)
