@@ -15,7 +15,7 @@ int main(void) {
     const char *texts[2] = {"((a,b),c);", "((a,c),b);"};
     const size_t roster_length = strlen(roster);
     uint16_t genes[2 * 32];
-    uint8_t allowed[8], text[286];
+    uint8_t allowed[8], text[558];
     uint32_t scores[8];
     uint16_t splits[8];
 

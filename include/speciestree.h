@@ -36,7 +36,9 @@ typedef struct {
     uint16_t numbers[32];
 } st_Found;
 
-/* value: how many species the roster line has */
+/* value: how many species the roster line has. Its names are 1 to 15 printable bytes each, written bare (letters, digits, underscores
+   that stand for blanks) or between single quotes (a quote written twice), with one space between two; leaves and inner nodes of a
+   text have theirs in the same two forms */
 st_Reply st_roster(const uint8_t *line, size_t line_length);
 
 /* the record of the species tree that begins at start, which has to have every species, and the offset just after its `;` */
@@ -45,7 +47,7 @@ st_Reading st_read(const uint8_t *line, size_t line_length, const uint8_t *text,
 /* the same for a gene tree, which may lack species */
 st_Reading st_read_gene(const uint8_t *line, size_t line_length, const uint8_t *text, size_t text_length, size_t start);
 
-/* value: the length of the text; tree is a species tree's record or a gene tree's */
+/* value: the length of the text, 558 bytes at the most; tree is a species tree's record or a gene tree's */
 st_Reply st_write(const uint8_t *line, size_t line_length, st_Record tree, uint8_t *out, size_t out_length);
 
 /* value: the weight of the cluster */

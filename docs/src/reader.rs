@@ -1,7 +1,7 @@
 //! Tree text read from the left, to a record or the first fault met.
-use crate::roster::{is_name, names};
+use crate::roster::names;
 use crate::trees::{record, whole, Record};
-use crate::{Refusal, NAME, NUMBER, OPEN, TEXT};
+use crate::{label, Refusal, NUMBER, OPEN, TEXT};
 
 /// What a text is read as (02, #104): a species tree has every species, a gene tree may lack some.
 #[derive(Clone, Copy, PartialEq, Eq, Debug)]
@@ -36,15 +36,11 @@ impl Reader<'_> {
         }
     }
 
-    fn run(&mut self) -> Read<&[u8]> {
-        let from = self.at;
-        while self.at < self.text.len() && is_name(self.text[self.at]) {
-            if self.at - from == NAME {
-                return Err((4, self.at));
-            }
-            self.at += 1;
-        }
-        Ok(&self.text[from..self.at])
+    /// The name of the label that begins here.
+    fn label(&mut self) -> Read<Vec<u8>> {
+        let (name, behind) = label::scan(self.text, self.at)?;
+        self.at = behind;
+        Ok(name)
     }
 
     fn number(&mut self) -> Read<()> {
@@ -109,7 +105,7 @@ impl Reader<'_> {
 
     fn leaf(&mut self) -> Read<u16> {
         let from = self.at;
-        let name = self.run()?.to_vec();
+        let name = self.label()?;
         let Some(i) = self.names.iter().position(|known| *known == name) else {
             return Err((5, from));
         };
@@ -122,7 +118,7 @@ impl Reader<'_> {
 
     fn node(&mut self, open: usize) -> Read<u16> {
         let first = self.next()?;
-        let cluster = if is_name(first) {
+        let cluster = if label::begins(first) {
             self.leaf()?
         } else if first == b'(' {
             if open == OPEN {
@@ -131,8 +127,8 @@ impl Reader<'_> {
             self.at += 1;
             let joined = self.list(open + 1)?;
             self.blanks();
-            if self.at < self.text.len() && is_name(self.text[self.at]) {
-                self.run()?;
+            if self.at < self.text.len() && label::begins(self.text[self.at]) {
+                self.label()?;
             }
             joined
         } else {

@@ -1,52 +1,29 @@
-//! The roster line: every place at which it is at fault, and the least of them.
-use crate::{Refusal, NAME, SPECIES};
+//! The roster line: its names, or the first place at which it is at fault.
+use crate::{label, Refusal, SPECIES};
 
-pub fn is_name(b: u8) -> bool {
-    b.is_ascii_alphanumeric()
-}
-
-/// The runs of letters and digits: where each begins, and its bytes.
-fn runs(line: &[u8]) -> Vec<(usize, &[u8])> {
-    let mut found = Vec::new();
-    let mut at = 0;
-    while at < line.len() {
-        let end = (at..line.len()).find(|&i| !is_name(line[i])).unwrap_or(line.len());
-        if end > at {
-            found.push((at, &line[at..end]));
-        }
-        at = end.max(at + 1);
-    }
-    found
-}
-
-/// The names, or 1 with the least place at fault.
+/// The names, decoded, or 1 with the least place at fault: every fault lies at or behind the beginning of the label that is scanned, so the first that is met is the least.
 pub fn names(line: &[u8]) -> Result<Vec<Vec<u8>>, Refusal> {
-    let mut faults = Vec::new();
-    for (i, &b) in line.iter().enumerate() {
-        let space = b == b' ' && i > 0 && is_name(line[i - 1]);
-        if !is_name(b) && !space {
-            faults.push(i);
+    let mut found: Vec<Vec<u8>> = Vec::new();
+    let mut at = 0;
+    loop {
+        let from = at;
+        if from == line.len() || !label::begins(line[from]) || found.len() == SPECIES {
+            return Err((1, from));
         }
-    }
-    if line.is_empty() || line[line.len() - 1] == b' ' {
-        faults.push(line.len());
-    }
-    let found = runs(line);
-    for (k, (at, name)) in found.iter().enumerate() {
-        if name.len() > NAME {
-            faults.push(at + NAME);
+        let (name, behind) = label::scan(line, from).map_err(|(_, place)| (1, place))?;
+        if found.contains(&name) {
+            return Err((1, from));
         }
-        if k == SPECIES || found[..k].iter().any(|(_, earlier)| earlier == name) {
-            faults.push(*at);
+        found.push(name);
+        match line.get(behind) {
+            None => return Ok(found),
+            Some(b' ') => at = behind + 1,
+            Some(_) => return Err((1, behind)),
         }
-    }
-    match faults.iter().min() {
-        Some(&place) => Err((1, place)),
-        None => Ok(found.iter().map(|(_, name)| name.to_vec()).collect()),
     }
 }
 
-/// The line that has these names.
+/// The line that has these names, each written as the writer does.
 pub fn joined(names: &[Vec<u8>]) -> Vec<u8> {
-    names.join(&b' ')
+    names.iter().map(|name| label::written(name)).collect::<Vec<_>>().join(&b' ')
 }

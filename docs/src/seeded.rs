@@ -1,5 +1,7 @@
 //! Names, trees and texts from a seed: good ones, and damaged ones.
+use crate::label::{in_quotes, written};
 use crate::trees::{record, Record};
+use crate::NAME;
 
 /// A drawn tree: a species, or children.
 pub enum Tree {
@@ -31,6 +33,13 @@ impl Tree {
 
 const LETTERS: &[u8] = b"abcdefghijklmnopqrstuvwxyzABCDEFGHIJKLMNOPQRSTUVWXYZ0123456789";
 
+/// Bytes of names (#103): of bare labels, of labels with quotes, of labels that look like tree text.
+const NAME_BYTES: [&[u8]; 3] = [b"ab 0Z", b"''a _b", b"(),:;[]'. _"];
+
+/// Labels of inner nodes: bare ones, and ones of both forms (#103).
+const BARE_INNER: &[&[u8]] = &[b"x", b"a", b"7", b"Inner15bytesLng"];
+const INNER: &[&[u8]] = &[b"_", b"a_b", b"'a b'", b"''''", b"'(a,b);'", b"'it''s : inner '", b"'fifteen bytes''['", b"_fifteen_bytes_"];
+
 /// A source of numbers that a seed fixes.
 pub struct Seeded {
     seed: u64,
@@ -61,6 +70,35 @@ impl Seeded {
             }
         }
         names
+    }
+
+    /// A name of printable bytes (#103).
+    pub fn printable(&mut self) -> Vec<u8> {
+        let length = match self.below(8) {
+            0 | 1 => NAME - self.below(2),
+            2 => 1 + self.below(NAME),
+            _ => 1 + self.below(5),
+        };
+        match self.below(4) {
+            3 => (0..length).map(|_| b' ' + self.below(95) as u8).collect(),
+            kind => (0..length).map(|_| NAME_BYTES[kind][self.below(NAME_BYTES[kind].len())]).collect(),
+        }
+    }
+
+    pub fn printables(&mut self, n: usize) -> Vec<Vec<u8>> {
+        let mut names: Vec<Vec<u8>> = Vec::new();
+        while names.len() < n {
+            let name = self.printable();
+            if !names.contains(&name) {
+                names.push(name);
+            }
+        }
+        names
+    }
+
+    /// Labels of names: the writer's, or quoted though it may not need to be.
+    pub fn labels(&mut self, names: &[Vec<u8>]) -> Vec<Vec<u8>> {
+        names.iter().map(|name| if self.one_in(3) { in_quotes(name) } else { written(name) }).collect()
     }
 
     pub fn tree(&mut self, mut species: Vec<usize>, binary: bool) -> Tree {
@@ -108,10 +146,10 @@ impl Seeded {
         }
     }
 
-    fn draw(&mut self, names: &[Vec<u8>], tree: &Tree, text: &mut Vec<u8>) {
+    fn draw(&mut self, labels: &[Vec<u8>], inner: &[&[u8]], tree: &Tree, text: &mut Vec<u8>) {
         self.blanks(text);
         match tree {
-            Tree::Leaf(i) => text.extend_from_slice(&names[*i]),
+            Tree::Leaf(i) => text.extend_from_slice(&labels[*i]),
             Tree::Node(children) => {
                 text.push(b'(');
                 for (k, child) in children.iter().enumerate() {
@@ -119,13 +157,13 @@ impl Seeded {
                         self.blanks(text);
                         text.push(b',');
                     }
-                    self.draw(names, child, text);
+                    self.draw(labels, inner, child, text);
                 }
                 self.blanks(text);
                 text.push(b')');
                 if self.one_in(4) {
                     self.blanks(text);
-                    text.extend_from_slice([&b"x"[..], b"a", b"7", b"Inner15bytesLng"][self.below(4)]);
+                    text.extend_from_slice(inner[self.below(inner.len())]);
                 }
             }
         }
@@ -139,10 +177,19 @@ impl Seeded {
 
     /// The same on some of the species.
     pub fn drawn_on(&mut self, species: Vec<usize>, names: &[Vec<u8>]) -> (Record, Vec<u8>) {
+        self.drawn_with(species, names, BARE_INNER)
+    }
+
+    /// The same with labels of both forms (#103), on leaves and inner nodes.
+    pub fn drawn_labels(&mut self, species: Vec<usize>, labels: &[Vec<u8>]) -> (Record, Vec<u8>) {
+        self.drawn_with(species, labels, INNER)
+    }
+
+    fn drawn_with(&mut self, species: Vec<usize>, labels: &[Vec<u8>], inner: &[&[u8]]) -> (Record, Vec<u8>) {
         let binary = self.one_in(2);
         let tree = self.tree(species, binary);
         let mut text = Vec::new();
-        self.draw(names, &tree, &mut text);
+        self.draw(labels, inner, &tree, &mut text);
         self.blanks(&mut text);
         text.push(b';');
         (tree.record(), text)

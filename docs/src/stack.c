@@ -11,7 +11,7 @@
 enum { most = 16, room = 1 << 18, filler = 0xA5 };
 
 static uint8_t stack[room] __attribute__((aligned(4096)));
-static uint8_t text[286];
+static uint8_t text[558];
 static char roster[2 * most], newick[5 * most];
 static size_t used;
 static st_Record tree;

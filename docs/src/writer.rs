@@ -1,7 +1,7 @@
 //! A record written in the one form.
 use crate::roster::names;
 use crate::trees::{clusters, largest, valid_gene, Record};
-use crate::Refusal;
+use crate::{label, Refusal};
 
 /// The children of a cluster: the largest listed ones within it, by lowest species.
 fn children(list: &[u16], a: u16) -> Vec<u16> {
@@ -13,7 +13,7 @@ fn children(list: &[u16], a: u16) -> Vec<u16> {
 
 fn node(names: &[Vec<u8>], list: &[u16], a: u16, text: &mut Vec<u8>) {
     if a.count_ones() == 1 {
-        text.extend_from_slice(&names[a.trailing_zeros() as usize]);
+        text.extend(label::written(&names[a.trailing_zeros() as usize]));
         return;
     }
     for (i, child) in children(list, a).into_iter().enumerate() {

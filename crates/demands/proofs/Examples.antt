@@ -13,12 +13,13 @@ use Rattle.demands.specs.Examples.{recordIn, foundIn, holds, allHold}
 use Rattle.weights.specs.Count.{kOf, extra, weight, score}
 use Rattle.weights.specs.Marks.{shown}
 use Rattle.lineages.specs.Promise.{marks}
-use Rattle.tokens.specs.Tokens.{nextIs, nextName, blanks, skip, number, numberBehind, numbers, name, innerName}
+use Rattle.tokens.specs.Tokens.{blanks, skip, number, numberBehind, numbers, name, innerName}
 use Rattle.reader.specs.Promise.{answerTo}
-use Rattle.nodes.specs.Reading.{leafAt, closing, readTreeTo, readTree, readNode}
-use Rattle.labels.specs.Bytes.{run}
-use Rattle.labels.specs.Labels.{word, padded}
-use Rattle.roster.specs.Roster.{same, position, begins, beginnings, nameAt, names, strayAt, longAt, manyAt, againAt, openAt, faultAt, least, firstFault, faulty}
+use Rattle.nodes.specs.Reading.{leafBy, closingBy, readTreeToBy, readTreeBy, readNodeBy}
+use Rattle.labels.specs.Bytes.{run, nextIs, nextLabel}
+use Rattle.labels.specs.Labels.{bareLetters, letters, lettersFrom, doubled, rawTo, told, padded}
+use Rattle.labels.specs.Writing.{labelOf, mayBeBare}
+use Rattle.roster.specs.Roster.{same, position, inQuotes, begins, beginnings, nameAt, names, strayAt, longAt, manyAt, againAt, openAt, faultAt, least, firstFault, faulty}
 use Rattle.splits.specs.BinaryTrees.{clustersIn, isLow, lows, each, forks, treesTo, treesOn}
 use Rattle.splits.specs.Least.{those, all, scoreOf, treesOver, leastTrees, best}
 use Rattle.tables.specs.Allowed.{allowedIn}
@@ -96,8 +97,9 @@ examples =
 -- every one of them holds, by the definitions that the promises cite
 pub examples-hold : allHold examples ≡ true
 unfolding examples ones onesIn trailingZeros whole single union has within apart size lowest recordIn foundIn holds allHold kOf extra total weight
-    score pieces shown marks answerTo leafAt closing readTreeTo readTree readNode nextIs nextName blanks skip number numberBehind numbers name
-    innerName run word padded upTo same position begins beginnings nameAt names strayAt longAt manyAt againAt openAt faultAt least firstFault faulty
-    clustersIn isLow lows each forks treesTo treesOn those all scoreOf treesOver leastTrees best allowedIn bestFor properly maximal placed byLowest
-    children drawnTo drawn keep some insert sorted recordOf cluster clusters every-trees among rising singlesFrom treeText written nodeText
+    score pieces shown marks answerTo leafBy closingBy readTreeToBy readTreeBy readNodeBy nextIs nextLabel blanks skip number numberBehind numbers
+    name innerName run bareLetters letters lettersFrom doubled rawTo told padded upTo same position inQuotes begins beginnings nameAt names strayAt
+    longAt manyAt againAt openAt faultAt least firstFault faulty clustersIn isLow lows each forks treesTo treesOn those all scoreOf treesOver
+    leastTrees best allowedIn bestFor properly maximal placed byLowest children drawnTo drawn keep some insert sorted recordOf cluster clusters
+    every-trees among rising singlesFrom treeText written nodeText labelOf mayBeBare
 examples-hold = refl

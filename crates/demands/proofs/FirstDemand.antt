@@ -19,6 +19,7 @@ use Rattle.tokens.specs.Answers.Answer.{parsed, refused}
 use Rattle.reader.specs.Promise.{readingOf, answerTo, Reads}
 use Rattle.reader.specs.declared.Kind.{Kind}
 use Rattle.reader.specs.declared.Reading.{Reading}
+use Rattle.printing.specs.Texts.{reportBytes}
 use Rattle.texts.specs.Writing.{written}
 use Rattle.writer.specs.Promise.{rosterTest, recordTest, writeTests, outBy, Writes}
 use Rattle.weights.specs.Count.{weight, score}
@@ -117,7 +118,7 @@ pub replies-report : (input : List ℕ) → Replies (Reports input)
 unfolding Reports
 replies-report input =
     record {
-      outcome = record { len = length (output input); text = output input ++ replicate (512 - length (output input)) 0 };
+      outcome = record { len = length (output input); text = output input ++ replicate (reportBytes - length (output input)) 0 };
       meets = refl;
       only = λ r p. report-once input r _ p refl;
     }

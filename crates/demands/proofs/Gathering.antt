@@ -25,8 +25,9 @@ use Rattle.reader.specs.Promise.{readingOf, answerTo}
 use Rattle.reader.specs.Accepted.{Draws, JustBehind}
 use Rattle.reader.specs.declared.Kind.the-variants.{Gene}
 use Rattle.reader.proofs.Accepts.{accepted-derives, derives-accepted}
-use Rattle.nodes.proofs.Exact.{blanks-skip, skip-to, name-no-blank, run-first}
-use Rattle.nodes.proofs.MeaningContexts.{blanks-on}
+use Rattle.labels.proofs.Spelled.{spells-first}
+use Rattle.nodes.proofs.Exact.{blanks-skip, skip-to, label-no-blank}
+use Rattle.meanings.proofs.MeaningContexts.{node-behind-blanks}
 use Rattle.nodes.proofs.Sound.{skip-blanks}
 use Rattle.gather.specs.GeneTrees.{genesMost, gatherOn, gatherAt, gatherMore, gatherTo, gather}
 use Rattle.gather.specs.GeneTrees.Gathered.{gathered, stopped}
@@ -38,9 +39,7 @@ use Rattle.demands.proofs.TextFaults.{fault-of-refusal, fault-numbers}
 -- ---- blanks before a tree
 
 text-behind-blanks : {R : Rules} {k : ℕ} {s m rest : List ℕ} {t : Tree} → Blanks s m → Text R k m t rest → Text R k s t rest
-text-behind-blanks b (text (a-leaf gap w known behind) ends) = text (a-leaf (blanks-on b gap) w known behind) ends
-text-behind-blanks b (text (an-inner opens first comma others inner behind) ends) = text (an-inner (blanks-on b opens) first comma others inner behind) ends
-text-behind-blanks b (text (a-single enough opens only closes inner behind) ends) = text (a-single enough (blanks-on b opens) only closes inner behind) ends
+text-behind-blanks b (text d ends) = text (node-behind-blanks b d) ends
 
 module _ (line txt : List ℕ) (at : ℕ) where
   abbrev pub begun : ℕ
@@ -182,7 +181,7 @@ blanks-all (blank e b) = rw e (ap suc (blanks-all b))
 
 text-without-blanks : {R : Rules} {k : ℕ} {s rest : List ℕ} {t : Tree} → Text R k s t rest → Text R k (skip s) t rest
 text-without-blanks (text (a-leaf {s₁ = m} gap w known behind) ends) =
-    text (a-leaf (subst (λ (l : List ℕ). Blanks l m) (sym (blanks-skip gap (name-no-blank m (run-first w)))) none) w known behind) ends
+    text (a-leaf (subst (λ (l : List ℕ). Blanks l m) (sym (blanks-skip gap (label-no-blank m (spells-first w)))) none) w known behind) ends
 text-without-blanks (text (an-inner {s₁ = m} opens first comma others inner behind) ends) =
     text (an-inner (subst (λ (l : List ℕ). Blanks l (40 ∷ m)) (sym (skip-to 40 refl opens)) none) first comma others inner behind) ends
 text-without-blanks (text (a-single {s₁ = m} enough opens only closes inner behind) ends) =

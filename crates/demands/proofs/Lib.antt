@@ -26,3 +26,4 @@ pub mod ProgramFaults
 pub mod Locality
 pub mod Lots
 pub mod LotsExample
+pub mod OfLetters

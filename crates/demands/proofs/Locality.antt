@@ -16,26 +16,26 @@ use Rattle.tokens.specs.Answers.{Answer}
 use Rattle.tokens.specs.Answers.Answer.{parsed, refused}
 use Rattle.nodes.specs.Reading.{openMost, readTree}
 use Rattle.nodes.specs.Grammar.{strict, Text}
-use Rattle.nodes.specs.Meaning.{reach}
-use Rattle.nodes.proofs.Fronts.{text-elsewhere}
+use Rattle.nodes.specs.Deciding.{border}
+use Rattle.nodes.proofs.Fronts.{strict-placeless, text-elsewhere}
 use Rattle.nodes.proofs.Locality.{locality}
-use Rattle.nodes.proofs.Refusals.{refusal-inside, refusal-numbers}
+use Rattle.meanings.proofs.Refusals.{refusal-before, refusal-inside, refusal-numbers}
 use Rattle.reader.specs.Promise.{textMost, needed, readingOf, fromStart, inLimit, onRoster, answerTo, Reads}
 use Rattle.reader.specs.Accepted.{Draws}
 use Rattle.reader.specs.declared.Kind.{Kind}
 use Rattle.reader.specs.declared.Reading.{Reading}
 use Rattle.reader.proofs.Accepts.{accepted-derives, derives-accepted}
-use Rattle.demands.specs.Deciding.{SameBytes, Agree}
+use Rattle.demands.specs.Deciding.{SameBytes, SameBefore, Agree}
 use Rattle.demands.specs.TextFaults.{TextFault}
 use Rattle.demands.specs.TextFaults.TextFault.{roster-faulty, too-long, beyond, as-met}
 use Rattle.demands.proofs.TextFaults.{fault-of-refusal}
 
--- a refusal met while reading (3 to 9) is decided by the bytes from start up to and with its place (for 5 and 6, up to the byte that ends the run):
--- a text of at most 65,536 bytes that agrees there is refused alike
+-- a refusal met while reading (3 to 9) is decided by the bytes from start up to its border, and where it asks for that, by whether a label goes on there:
+-- a text of at most 65,536 bytes that agrees so far is refused alike
 pub answer-is-local :
     (kind : Kind) (line text text′ : List ℕ) (start d number : ℕ)
     → answerTo kind line text start ≡ refused number (start + d) → 3 ≤ number → number ≤ 9 → length text′ ≤ textMost → start ≤ length text′
-    → take (reach number (drop start text) d) (drop start text′) ≡ take (reach number (drop start text) d) (drop start text)
+    → SameBefore text text′ start number d
     → answerTo kind line text′ start ≡ refused number (start + d)
 unfolding answerTo
 answer-is-local kind line text text′ start d number h low high short inside agree = judged (faulty speciesMost line) h
@@ -43,7 +43,7 @@ answer-is-local kind line text text′ start d number h low high short inside ag
     started :
         (b : Bool) → fromStart kind b (names line) text start ≡ refused number (start + d)
         → readTree (names line) (needed kind (length (names line))) (drop start text′) start ≡ refused number (start + d)
-    started true e = locality (names line) (needed kind (length (names line))) (drop start text) (drop start text′) start d number e low high agree
+    started true e = locality (names line) (needed kind (length (names line))) (drop start text) (drop start text′) start d number e low high (agree .bytes) (agree .alike)
     started false e = absurd (let z : number ≡ 10 = cc in omega arith)
 
     limited :
@@ -82,7 +82,7 @@ tree-is-local kind line text text′ start {t} {rest} {next} h short agree =
       good = a .draws .good;
       short = short;
       inside = inside;
-      derives = subst (λ (l : List ℕ). Drawn l rest′) (sym split′) (text-elsewhere (strict (names line)) (take n s) rest rest′ derives);
+      derives = subst (λ (l : List ℕ). Drawn l rest′) (sym split′) (text-elsewhere (strict (names line)) (strict-placeless (names line)) (take n s) rest rest′ derives);
       once = a .draws .once;
       species = a .draws .species;
     }
@@ -90,11 +90,9 @@ tree-is-local kind line text text′ start {t} {rest} {next} h short agree =
     let place : length text′ - length rest′ ≡ next = omega (arith, length-drop start text′, all, a .place .after, inside) in
     (rest′, derives-accepted kind line text′ start drawn ∙ ap (λ (q : ℕ). parsed t rest′ q) place)
 
--- a text that agrees on bytes up to one at fault is not empty
-reaches-into : (number : ℕ) (s s′ : List ℕ) (d : ℕ) → d < length s → take (reach number s d) s′ ≡ take (reach number s d) s → 0 < length s′
-unfolding reach
-reaches-into number s s′ d inside same =
-    omega (arith, length-take (reach number s d) s, length-take (reach number s d) s′, ap length same)
+-- a text that agrees on bytes of which there are some is not empty
+reaches-into : (s s′ : List ℕ) (b : ℕ) → 0 < b → 0 < length s → take b s′ ≡ take b s → 0 < length s′
+reaches-into s s′ b some inside same = omega (arith, length-take b s, length-take b s′, ap length same)
 
 -- ---- the call
 
@@ -126,9 +124,12 @@ module _ (kind : Kind) (line text text′ : List ℕ) (start : ℕ) (short : len
       go (yes high) =
           let low = refusal-numbers (r .means) .0 in
           let byte : place - start ≡ r .byte = omega (arith, r .place) in
-          let same : SameBytes text text′ start (reach number (drop start text) (r .byte)) = rw byte at (agree .fault low high) in
+          let b = border number (drop start text) (r .byte) in
+          let same : SameBefore text text′ start number (r .byte) = rw byte at (agree .fault low high) in
           let at : _≡_ {A = Answer Tree} (refused number place) (refused number (start + r .byte)) = rw (r .place) in
-          let goes-on = reaches-into number (drop start text) (drop start text′) (r .byte) (refusal-inside (r .means) high) same in
+          let goes-on =
+          reaches-into (drop start text) (drop start text′) b (omega (arith, refusal-before (r .means))) (omega (arith, refusal-inside (r .means) high)) (same .bytes)
+          in
           let again = answer-is-local kind line text text′ start (r .byte) number (h ∙ at) low high short′ (omega (arith, length-drop start text′)) same in
           ap (readingOf start) (at ∙ sym again)
       go (no over) =

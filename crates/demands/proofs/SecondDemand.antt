@@ -86,20 +86,20 @@ draws-one-set kind kind′ line text start t t′ rest rest′ d d′ x = let e 
 
 -- ---- "and written back in one form; reading that form gives the same clusters"
 
--- "written back", "never passes 286 bytes": a valid record, with every species or not (#104), is written wherever 286 bytes are lent
+-- "written back", "Its bound becomes 558 bytes" (#103): a valid record, with every species or not (#104), is written wherever 558 bytes are lent
 pub valid-is-written :
-    (line tree out : List ℕ) (r : Reply) (after : List ℕ) → faulty speciesMost line ≡ false → GeneValid (length (names line)) tree → 286 ≤ length out
+    (line tree out : List ℕ) (r : Reply) (after : List ℕ) → faulty speciesMost line ≡ false → GeneValid (length (names line)) tree → 558 ≤ length out
     → Writes line tree out r after → r .number ≡ 0
 valid-is-written line tree out r after good v room w =
     let g = good-names line good in
-    let l = text-most (names line) (g .few) v (g .short) in
+    let l = text-most (names line) (g .few) v (g .each) in
     let d = writes-done line tree out good (gene-decides tree (g .few) .told v) (omega arith) refl refl in
     ap (λ (r : Reply). r .number) (writes-once w d .0)
 
 -- and so is every text that was read
 pub read-is-written :
     (kind : Kind) (line text : List ℕ) (start : ℕ) (q : Reading) (out : List ℕ) (r : Reply) (after : List ℕ)
-    → Reads kind line text start q → q .number ≡ 0 → 286 ≤ length out → Writes line (q .numbers) out r after → r .number ≡ 0
+    → Reads kind line text start q → q .number ≡ 0 → 558 ≤ length out → Writes line (q .numbers) out r after → r .number ≡ 0
 read-is-written kind line text start q out r after p z room w =
     let v = reads-zero kind line text start p z in valid-is-written line (q .numbers) out r after (v .good) (v .gene) room w
 

@@ -9,20 +9,21 @@ use lib.Dec.{ltb}
 use lib.ListN.{length, take, getD, replicate}
 use borrow.Author.Tests.{ltb-true}
 use Rattle.clusters.specs.Sets.{whole, single, union, has, within, apart, size, lowest}
-use Rattle.labels.specs.Bytes.{run}
-use Rattle.labels.specs.Labels.{word, padded}
+use Rattle.labels.specs.Bytes.{run, nextIs, nextLabel}
+use Rattle.labels.specs.Labels.{bareLetters, letters, lettersFrom, doubled, rawTo, told, padded}
+use Rattle.labels.specs.Writing.{labelOf, mayBeBare}
 use Rattle.trees.specs.Drawn.{properly, maximal, placed, byLowest, children, drawnTo, drawn}
 use Rattle.trees.specs.Lists.{keep, some, insert, sorted, pieces, total, upTo}
 use Rattle.trees.specs.Records.{recordOf}
 use Rattle.trees.specs.Tree.{cluster, clusters}
 use Rattle.trees.specs.Valid.{every, among, rising, singlesFrom, nested, valid, validGene, binary}
-use Rattle.roster.specs.Roster.{same, position, begins, beginnings, nameAt, names, strayAt, longAt, manyAt, againAt, openAt, faultAt, least, firstFault, faulty}
+use Rattle.roster.specs.Roster.{same, position, inQuotes, begins, beginnings, nameAt, names, strayAt, longAt, manyAt, againAt, openAt, faultAt, least, firstFault, faulty}
 use Rattle.roster.specs.Judged.{Judged}
 use Rattle.roster.specs.Verdict.{verdict, lengthTest}
 use Rattle.roster.specs.declared.Reply.{Reply}
-use Rattle.tokens.specs.Tokens.{nextIs, nextName, blanks, skip, number, numberBehind, numbers, name, innerName}
+use Rattle.tokens.specs.Tokens.{blanks, skip, number, numberBehind, numbers, name, innerName}
 use Rattle.reader.specs.Promise.{answerTo, Reads}
-use Rattle.nodes.specs.Reading.{leafAt, closing, readTreeTo, readTree, readNode}
+use Rattle.nodes.specs.Reading.{leafBy, closingBy, readTreeToBy, readTreeBy, readNodeBy}
 use Rattle.reader.specs.declared.Kind.{Kind}
 use Rattle.reader.specs.declared.Kind.the-variants.{Species, Gene}
 use Rattle.reader.specs.declared.Reading.{Reading}
@@ -39,6 +40,7 @@ use Rattle.search.proofs.BestTrees.{every-among}
 use Rattle.search.specs.Promise.{firstStrange, allowedTest, searchTests, Finds}
 use Rattle.solver.specs.Best.{bestFor}
 use Rattle.solver.specs.declared.Found.{Found}
+use Rattle.printing.specs.Texts.{reportBytes}
 use Rattle.printing.specs.Words.{taxaText, genesText, scoreText, refusedText, atText, digitsTo, decimal}
 use Rattle.gather.specs.GeneTrees.{gatherTo, gather}
 use Rattle.report.specs.Input.{lineLength, firstLine, behindLine, endsInFeed, modePlace, treesPlace}
@@ -65,13 +67,15 @@ room : List ℕ
 room = 9 ∷ 9 ∷ []
 
 judge-a : (r : Reply) → Judged a-line r → r ≡ record { number = 0; place = 0; value = 1 }
-unfolding a-line Judged run word upTo same position begins beginnings nameAt names strayAt longAt manyAt againAt openAt faultAt least firstFault faulty keep
+unfolding a-line Judged run bareLetters letters lettersFrom doubled rawTo told upTo same position inQuotes begins beginnings nameAt names strayAt
+    longAt manyAt againAt openAt faultAt least firstFault faulty keep some nextIs
 judge-a r p = p
 
 read-a : (kind : Kind) (r : Reading) → Reads kind a-line a-text 0 r → r ≡ record { number = 0; place = 0; next = 2; numbers = a-record }
-unfolding a-line a-text a-record Reads ones onesIn trailingZeros whole single union has within apart size lowest answerTo leafAt closing readTreeTo
-    readTree readNode nextIs nextName blanks skip number numberBehind numbers name innerName run word padded upTo same position begins beginnings
-    nameAt names strayAt longAt manyAt againAt openAt faultAt least firstFault faulty keep some insert sorted recordOf cluster clusters
+unfolding a-line a-text a-record Reads ones onesIn trailingZeros whole single union has within apart size lowest answerTo leafBy closingBy
+    readTreeToBy readTreeBy readNodeBy nextIs nextLabel blanks skip number numberBehind numbers name innerName run bareLetters letters lettersFrom
+    doubled rawTo told padded upTo same position inQuotes begins beginnings nameAt names strayAt longAt manyAt againAt openAt faultAt least firstFault
+    faulty keep some insert sorted recordOf cluster clusters
 read-a Species r p = p
 read-a Gene r p = p
 
@@ -80,78 +84,79 @@ ab-line : List ℕ
 ab-line = 97 ∷ 32 ∷ 98 ∷ []
 
 read-a-of-two : (r : Reading) → Reads Species ab-line a-text 0 r → Reads Gene ab-line a-text 0 r → ⊥
-unfolding ab-line a-text Reads ones onesIn trailingZeros whole single union has within apart size lowest answerTo leafAt closing readTreeTo
-    readTree readNode nextIs nextName blanks skip number numberBehind numbers name innerName run word padded upTo same position begins beginnings
-    nameAt names strayAt longAt manyAt againAt openAt faultAt least firstFault faulty keep some insert sorted recordOf cluster clusters
+unfolding ab-line a-text Reads ones onesIn trailingZeros whole single union has within apart size lowest answerTo leafBy closingBy readTreeToBy
+    readTreeBy readNodeBy nextIs nextLabel blanks skip number numberBehind numbers name innerName run bareLetters letters lettersFrom doubled rawTo
+    told padded upTo same position inQuotes begins beginnings nameAt names strayAt longAt manyAt againAt openAt faultAt least firstFault faulty keep
+    some insert sorted recordOf cluster clusters
 read-a-of-two r p q = omega (arith, ap (λ (r : Reading). r .number) (sym p ∙ q))
 
 write-a : (r : Reply) (after : List ℕ) → Writes a-line a-record room r after → (r ≡ record { number = 0; place = 0; value = 2 }) × (after ≡ a-text)
-unfolding a-line a-text a-record room ones onesIn trailingZeros whole single union has within apart size lowest run word upTo same position begins
-    beginnings nameAt names strayAt longAt manyAt againAt openAt faultAt least firstFault faulty keep some insert sorted recordOf cluster every among
-    rising singlesFrom nested valid validGene properly maximal placed byLowest children drawnTo drawn treeText written nodeText verdict lengthTest rosterTest
-    recordTest writeTests
+unfolding a-line a-text a-record room ones onesIn trailingZeros whole single union has within apart size lowest run bareLetters letters lettersFrom
+    doubled rawTo told upTo same position inQuotes begins beginnings nameAt names strayAt longAt manyAt againAt openAt faultAt least firstFault faulty
+    keep some insert sorted recordOf cluster every among rising singlesFrom nested valid validGene properly maximal placed byLowest children drawnTo
+    drawn treeText written nodeText verdict lengthTest rosterTest recordTest writeTests labelOf mayBeBare nextIs
 write-a r after w = (w .answer, w .bytes)
 
 -- cluster 3, `a` with `b`, weighs nothing in two trees that have it, and 1 where the second does not
 weigh-alike : (r : Reply) → Weighs 3 (ab-c ++ ab-c) 2 3 r → r ≡ record { number = 0; place = 0; value = 0 }
 unfolding ab-c Weighs weightTests clusterTest ones onesIn trailingZeros whole single union has within apart size lowest keep some insert sorted
-    recordOf properly maximal every among rising singlesFrom nested valid validGene binary verdict lengthTest kOf placed byLowest children extra total weight score pieces speciesTest
-    countTest firstBad recordsTest
+    recordOf properly maximal every among rising singlesFrom nested valid validGene binary verdict lengthTest kOf placed byLowest children extra total
+    weight score pieces speciesTest countTest firstBad recordsTest
 weigh-alike r p = p
 
 weigh-unlike : (r : Reply) → Weighs 3 (ab-c ++ ac-b) 2 3 r → r ≡ record { number = 0; place = 0; value = 1 }
 unfolding ab-c ac-b Weighs weightTests clusterTest ones onesIn trailingZeros whole single union has within apart size lowest keep some insert sorted
-    recordOf properly maximal every among rising singlesFrom nested valid validGene binary verdict lengthTest kOf placed byLowest children extra total weight score pieces speciesTest
-    countTest firstBad recordsTest
+    recordOf properly maximal every among rising singlesFrom nested valid validGene binary verdict lengthTest kOf placed byLowest children extra total
+    weight score pieces speciesTest countTest firstBad recordsTest
 weigh-unlike r p = p
 
 -- and so for the score of `((a,b),c);`
 score-alike : (r : Reply) → Scores 3 (ab-c ++ ab-c) 2 ab-c r → r ≡ record { number = 0; place = 0; value = 0 }
 unfolding ab-c Scores scoreTests speciesRecordTest ones onesIn trailingZeros whole single union has within apart size lowest keep some insert sorted
-    recordOf properly maximal every among rising singlesFrom nested valid validGene binary verdict lengthTest kOf placed byLowest children extra total weight score pieces speciesTest
-    countTest firstBad recordsTest
+    recordOf properly maximal every among rising singlesFrom nested valid validGene binary verdict lengthTest kOf placed byLowest children extra total
+    weight score pieces speciesTest countTest firstBad recordsTest
 score-alike r p = p
 
 score-unlike : (r : Reply) → Scores 3 (ab-c ++ ac-b) 2 ab-c r → r ≡ record { number = 0; place = 0; value = 1 }
 unfolding ab-c ac-b Scores scoreTests speciesRecordTest ones onesIn trailingZeros whole single union has within apart size lowest keep some insert
-    sorted recordOf properly maximal every among rising singlesFrom nested valid validGene binary verdict lengthTest kOf placed byLowest children extra total weight score pieces
-    speciesTest countTest firstBad recordsTest
+    sorted recordOf properly maximal every among rising singlesFrom nested valid validGene binary verdict lengthTest kOf placed byLowest children
+    extra total weight score pieces speciesTest countTest firstBad recordsTest
 score-unlike r p = p
 
 mark-one : (r : Reply) (after : List ℕ) → Marks 1 a-record 1 room r after → (r ≡ record { number = 0; place = 0; value = 0 }) × (after ≡ 0 ∷ 1 ∷ [])
 unfolding a-record room markTests shown marks upTo ones onesIn trailingZeros whole single union has within apart size lowest keep some insert sorted
-    recordOf properly maximal every among rising singlesFrom nested valid validGene binary verdict lengthTest kOf placed byLowest children extra total weight score pieces speciesTest
-    countTest firstBad recordsTest
+    recordOf properly maximal every among rising singlesFrom nested valid validGene binary verdict lengthTest kOf placed byLowest children extra total
+    weight score pieces speciesTest countTest firstBad recordsTest
 mark-one r after p = (p .reply, p .bytes)
 
 find-ab-c : (r : Found) (s p : List ℕ) → Finds 3 ab-c 1 every-cluster lent lent r s p → r ≡ record { number = 0; place = 0; score = 0; numbers = ab-c }
 unfolding ab-c every-cluster lent ones onesIn trailingZeros whole single union has within apart size lowest keep some insert sorted recordOf properly
-    maximal every among rising singlesFrom nested valid validGene binary verdict lengthTest kOf placed byLowest children extra total weight score pieces speciesTest countTest firstBad
-    recordsTest shown marks upTo least clustersIn isLow lows each forks treesTo treesOn those all scoreOf treesOver leastTrees best allowedIn
-    firstStrange allowedTest searchTests bestFor
+    maximal every among rising singlesFrom nested valid validGene binary verdict lengthTest kOf placed byLowest children extra total weight score
+    pieces speciesTest countTest firstBad recordsTest shown marks upTo least clustersIn isLow lows each forks treesTo treesOn those all scoreOf
+    treesOver leastTrees best allowedIn firstStrange allowedTest searchTests bestFor
 find-ab-c r s p f = f .reply
 
 find-ac-b : (r : Found) (s p : List ℕ) → Finds 3 ac-b 1 every-cluster lent lent r s p → r ≡ record { number = 0; place = 0; score = 0; numbers = ac-b }
 unfolding ac-b every-cluster lent ones onesIn trailingZeros whole single union has within apart size lowest keep some insert sorted recordOf properly
-    maximal every among rising singlesFrom nested valid validGene binary verdict lengthTest kOf placed byLowest children extra total weight score pieces speciesTest countTest firstBad
-    recordsTest shown marks upTo least clustersIn isLow lows each forks treesTo treesOn those all scoreOf treesOver leastTrees best allowedIn
-    firstStrange allowedTest searchTests bestFor
+    maximal every among rising singlesFrom nested valid validGene binary verdict lengthTest kOf placed byLowest children extra total weight score
+    pieces speciesTest countTest firstBad recordsTest shown marks upTo least clustersIn isLow lows each forks treesTo treesOn those all scoreOf
+    treesOver leastTrees best allowedIn firstStrange allowedTest searchTests bestFor
 find-ac-b r s p f = f .reply
 
 find-both : (r : Found) (s p : List ℕ) → Finds 3 (ab-c ++ ac-b) 2 every-cluster lent lent r s p → r ≡ record { number = 0; place = 0; score = 1; numbers = ab-c }
 unfolding ab-c ac-b every-cluster lent ones onesIn trailingZeros whole single union has within apart size lowest keep some insert sorted recordOf
-    properly maximal every among rising singlesFrom nested valid validGene binary verdict lengthTest kOf placed byLowest children extra total weight score pieces speciesTest countTest
-    firstBad recordsTest shown marks upTo least clustersIn isLow lows each forks treesTo treesOn those all scoreOf treesOver leastTrees best allowedIn
-    firstStrange allowedTest searchTests bestFor
+    properly maximal every among rising singlesFrom nested valid validGene binary verdict lengthTest kOf placed byLowest children extra total weight
+    score pieces speciesTest countTest firstBad recordsTest shown marks upTo least clustersIn isLow lows each forks treesTo treesOn those all scoreOf
+    treesOver leastTrees best allowedIn firstStrange allowedTest searchTests bestFor
 find-both r s p f = f .reply
 
 find-tables :
     (r : Found) (s p : List ℕ) → Finds 3 ab-c 1 every-cluster lent lent r s p
     → (s ≡ noTree ∷ 0 ∷ 0 ∷ 0 ∷ 0 ∷ 1 ∷ 1 ∷ 0 ∷ []) × (p ≡ 0 ∷ 0 ∷ 0 ∷ 1 ∷ 0 ∷ 1 ∷ 2 ∷ 3 ∷ [])
 unfolding ab-c every-cluster lent ones onesIn trailingZeros whole single union has within apart size lowest keep some insert sorted recordOf properly
-    maximal every among rising singlesFrom nested valid validGene binary verdict lengthTest kOf placed byLowest children extra total weight score pieces speciesTest countTest firstBad
-    recordsTest shown marks upTo least clustersIn isLow lows each forks treesTo treesOn those all scoreOf treesOver leastTrees best allowedIn
-    firstStrange allowedTest searchTests bestFor
+    maximal every among rising singlesFrom nested valid validGene binary verdict lengthTest kOf placed byLowest children extra total weight score
+    pieces speciesTest countTest firstBad recordsTest shown marks upTo least clustersIn isLow lows each forks treesTo treesOn those all scoreOf
+    treesOver leastTrees best allowedIn firstStrange allowedTest searchTests bestFor
 find-tables r s p f = (f .scoreTable, f .splitTable)
 
 -- the input `a`, `all`, `a;` prints three lines, the empty one `refused 1 at 0`
@@ -161,17 +166,18 @@ a-input = 97 ∷ 10 ∷ 97 ∷ 108 ∷ 108 ∷ 10 ∷ 97 ∷ 59 ∷ 10 ∷ []
 a-output : output a-input ≡ taxaText ++ 49 ∷ genesText ++ 49 ∷ 10 ∷ scoreText ++ 48 ∷ 10 ∷ 97 ∷ 59 ∷ 10 ∷ []
 unfolding a-input lineLength firstLine behindLine endsInFeed modePlace treesPlace gatherTo gather searched program digitsTo decimal output ones onesIn
     trailingZeros whole single union has within apart size lowest keep some insert sorted recordOf properly maximal every among rising singlesFrom
-    nested valid validGene binary verdict lengthTest kOf extra total weight score pieces speciesTest countTest firstBad recordsTest shown marks upTo least
-    clustersIn isLow lows each forks treesTo treesOn those all scoreOf treesOver leastTrees best allowedIn bestFor answerTo leafAt closing readTreeTo
-    readTree readNode nextIs nextName blanks skip number numberBehind numbers name innerName run word padded same position begins beginnings nameAt
-    names strayAt longAt manyAt againAt openAt faultAt firstFault faulty cluster clusters placed byLowest children drawnTo drawn treeText written
-    nodeText
+    nested valid validGene binary verdict lengthTest kOf extra total weight score pieces speciesTest countTest firstBad recordsTest shown marks upTo
+    least clustersIn isLow lows each forks treesTo treesOn those all scoreOf treesOver leastTrees best allowedIn bestFor answerTo leafBy closingBy
+    readTreeToBy readTreeBy readNodeBy nextIs nextLabel blanks skip number numberBehind numbers name innerName run bareLetters letters lettersFrom
+    doubled rawTo told padded same position inQuotes begins beginnings nameAt names strayAt longAt manyAt againAt openAt faultAt firstFault faulty
+    cluster clusters placed byLowest children drawnTo drawn treeText written nodeText labelOf mayBeBare
 a-output = refl
 
 no-output : output [] ≡ refusedText ++ 49 ∷ atText ++ 48 ∷ 10 ∷ []
-unfolding lineLength firstLine behindLine endsInFeed modePlace treesPlace gatherTo gather searched program digitsTo decimal output answerTo leafAt
-    closing readTreeTo readTree readNode nextIs nextName blanks skip number numberBehind numbers name innerName run word padded same position begins
-    beginnings nameAt names strayAt longAt manyAt againAt openAt faultAt firstFault faulty cluster clusters upTo least keep
+unfolding lineLength firstLine behindLine endsInFeed modePlace treesPlace gatherTo gather searched program digitsTo decimal output answerTo leafBy
+    closingBy readTreeToBy readTreeBy readNodeBy nextIs nextLabel blanks skip number numberBehind numbers name innerName run bareLetters letters
+    lettersFrom doubled rawTo told padded same position inQuotes begins beginnings nameAt names strayAt longAt manyAt againAt openAt faultAt
+    firstFault faulty cluster clusters upTo least keep some
 no-output = refl
 
 -- ---- these inputs can be handed over
@@ -482,9 +488,9 @@ module _ (f : ℕ → List ℕ → ℕ → List ℕ → List ℕ → List ℕ �
 
 module _ (len : List ℕ → ℕ) (text : List ℕ → List ℕ)
     (meets : (input : List ℕ) → Bytes input → Reports input (record { len = len input; text = text input })) where
-  printed-text : (input o : List ℕ) → Bytes input → output input ≡ o → text input ≡ o ++ replicate (512 - length o) 0
+  printed-text : (input o : List ℕ) → Bytes input → output input ≡ o → text input ≡ o ++ replicate (reportBytes - length o) 0
   unfolding Reports
-  printed-text input o h e = ap (λ r. r .text) (meets input h) ∙ ap (λ (o : List ℕ). o ++ replicate (512 - length o) 0) e
+  printed-text input o h e = ap (λ r. r .text) (meets input h) ∙ ap (λ (o : List ℕ). o ++ replicate (reportBytes - length o) 0) e
 
   -- "one that turns everything away": it prints `refused ..` whatever the input
   pub report-does-not-refuse-all : ((input : List ℕ) → Bytes input → getD (text input) 0 0 ≡ 114) → ⊥

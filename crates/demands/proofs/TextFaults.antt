@@ -1,24 +1,25 @@
--- A text that is refused has the fault that the number says, at the place, and at one place no other number's.
+-- A text is refused by a number at a place exactly where it has that fault: the faults alone determine what is answered.
 use Prim.Native.Nat.{ℕ, _≤_}
-use mathlib.Core.Path.{_≡_, refl, subst}
+use mathlib.Core.Path.{_≡_, refl, sym, ap, _∙_, subst}
 use mathlib.Core.Bool.{Bool, true, false}
 use mathlib.Core.List.{List}
 use native.Mathlib.Omega.{arith}
 use lib.ListN.{length, drop}
 use lib.Dec.{leb}
-use borrow.Author.Tests.{leb-true, leb-false}
+use borrow.Author.Tests.{le-leb, lt-leb, leb-true, leb-false}
 use Rattle.clusters.proofs.Members.{has-zero}
-use Rattle.trees.proofs.Booleans.{never-both}
+use Rattle.trees.specs.Tree.{Tree}
 use Rattle.roster.specs.Roster.{names, faulty, firstFault}
 use Rattle.roster.specs.Judged.{speciesMost}
-use Rattle.tokens.specs.Answers.Answer.{refused}
+use Rattle.tokens.specs.Answers.{Answer}
+use Rattle.tokens.specs.Answers.Answer.{parsed, refused}
+use Rattle.nodes.proofs.Answers.{refused-parsed}
 use Rattle.reader.specs.Promise.{textMost, needed, fromStart, inLimit, onRoster, answerTo}
 use Rattle.reader.specs.declared.Kind.{Kind}
 use Rattle.reader.specs.declared.Kind.the-variants.{Gene}
-use Rattle.nodes.specs.Meaning.{Means}
-use Rattle.nodes.proofs.Meaning.{refusal-means}
-use Rattle.nodes.proofs.OneNumber.{means-one}
-use Rattle.nodes.proofs.Refusals.{refusal-numbers, says-9}
+use Rattle.meanings.specs.Meaning.{Means}
+use Rattle.meanings.proofs.Refusals.{refusal-numbers, says-9}
+use Rattle.meanings.proofs.MeaningsDecide.{refusal-means, means-refusal}
 use Rattle.demands.specs.TextFaults.{TextFault}
 use Rattle.demands.specs.TextFaults.TextFault.{roster-faulty, too-long, beyond, as-met}
 
@@ -71,26 +72,35 @@ gene-fault-not-nine {line} {text} {start} (as-met g l b r) nine =
     let m = says-9 (subst (λ (k : ℕ). Means (names line) 0 (drop start text) (r .byte) k) nine (r .means)) in
     has-zero (m .species) (m .wanted)
 
--- each number has its own fault: of one text and at one place at most one number's
+-- a refusal's number, and its place
+abbrev numberOf : Answer Tree → ℕ
+numberOf (parsed t rest q) = 0
+numberOf (refused number place) = number
+
+abbrev placeOf : Answer Tree → ℕ
+placeOf (parsed t rest q) = 0
+placeOf (refused number place) = place
+
 module _ {kind : Kind} {line text : List ℕ} {start : ℕ} where
+  -- the fault that a text has is what is answered
+  pub refusal-of-fault : {number place : ℕ} → TextFault kind line text start number place → answerTo kind line text start ≡ refused number place
+  unfolding answerTo
+  refusal-of-fault (roster-faulty f) = rw f refl
+  refusal-of-fault (too-long good long) = rw (good, lt-leb (length text) textMost long) refl
+  refusal-of-fault (beyond good short out) = rw (good, le-leb (length text) textMost short, lt-leb start (length text) out) refl
+  refusal-of-fault (as-met good short inside r) =
+      rw (good, le-leb (length text) textMost short, le-leb start (length text) inside)
+      (means-refusal (names line) (needed kind (length (names line))) (drop start text) start r)
+
+  -- a text has one fault at the most, by number and place
   pub fault-one :
-      {number number′ place place′ : ℕ} → TextFault kind line text start number place → TextFault kind line text start number′ place′ → place ≡ place′ → number ≡ number′
-  fault-one (roster-faulty f) (roster-faulty f′) e = refl
-  fault-one (roster-faulty f) (too-long g l) e = absurd (never-both (faulty speciesMost line) f g)
-  fault-one (roster-faulty f) (beyond g l b) e = absurd (never-both (faulty speciesMost line) f g)
-  fault-one (roster-faulty f) (as-met g l b r) e = absurd (never-both (faulty speciesMost line) f g)
-  fault-one (too-long g l) (roster-faulty f) e = absurd (never-both (faulty speciesMost line) f g)
-  fault-one (too-long g l) (too-long g′ l′) e = refl
-  fault-one (too-long g l) (beyond g′ l′ b) e = absurd (omega arith)
-  fault-one (too-long g l) (as-met g′ l′ b r) e = absurd (omega arith)
-  fault-one (beyond g l b) (roster-faulty f) e = absurd (never-both (faulty speciesMost line) f g)
-  fault-one (beyond g l b) (too-long g′ l′) e = absurd (omega arith)
-  fault-one (beyond g l b) (beyond g′ l′ b′) e = refl
-  fault-one (beyond g l b) (as-met g′ l′ b′ r) e = absurd (omega arith)
-  fault-one (as-met g l b r) (roster-faulty f) e = absurd (never-both (faulty speciesMost line) f g)
-  fault-one (as-met g l b r) (too-long g′ l′) e = absurd (omega arith)
-  fault-one (as-met g l b r) (beyond g′ l′ b′) e = absurd (omega arith)
-  fault-one {number′ = number′} (as-met g l b r) (as-met g′ l′ b′ r′) e =
-      let same : r′ .byte ≡ r .byte = omega (arith, r .place, r′ .place) in
-      means-one (r .means)
-      (subst (λ (d : ℕ). Means (names line) (needed kind (length (names line))) (drop start text) d number′) same (r′ .means))
+      {number number′ place place′ : ℕ} → TextFault kind line text start number place → TextFault kind line text start number′ place′
+      → (number ≡ number′) × (place ≡ place′)
+  fault-one f f′ =
+      let e = sym (refusal-of-fault f) ∙ refusal-of-fault f′ in
+      (ap numberOf e, ap placeOf e)
+
+  -- and one that is read has none
+  pub read-has-none :
+      {number place : ℕ} {t : Tree} {rest : List ℕ} {q : ℕ} → answerTo kind line text start ≡ parsed t rest q → TextFault kind line text start number place → ⊥
+  read-has-none h f = refused-parsed (sym (refusal-of-fault f) ∙ h)

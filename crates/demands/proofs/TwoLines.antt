@@ -15,7 +15,7 @@ use Rattle.roster.specs.Roster.{faulty, faultAt}
 use Rattle.roster.specs.Judged.{speciesMost}
 use Rattle.trees.proofs.Booleans.{never-both}
 use Rattle.roster.proofs.Faults.{no-fault}
-use Rattle.roster.proofs.Places.{stray-other, fault-stray}
+use Rattle.roster.proofs.Places.{stray-unprintable, fault-stray}
 use Rattle.report.specs.Input.{lineLength, firstLine, behindLine, endsInFeed, modePlace, treesPlace, allWord, genesWord}
 use Rattle.report.proofs.Bytewise.{line-within}
 
@@ -91,7 +91,7 @@ good-line line good = go (leb (length line) (lineLength line)) refl
         let p = lineLength line in
         let h : p < length line = leb-false (length line) p e in
         let feed = feed-byte line h in
-        let stray = stray-other line p h (rw feed refl) (λ k. omega (arith, k, feed)) in
+        let stray = stray-unprintable line p h (rw feed refl) in
         absurd (never-both (faultAt speciesMost line p) (fault-stray line p speciesMost stray) (no-fault speciesMost line good p (omega arith)))
 
 pub mode-line : (mode : List ℕ) → (mode ≡ allWord) ⊎ (mode ≡ genesWord) → OneLine mode

@@ -12,3 +12,4 @@ pub mod InOrder
 pub mod ProgramFaults
 pub mod Deciding
 pub mod Lots
+pub mod Letters

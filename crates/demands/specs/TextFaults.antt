@@ -8,7 +8,7 @@ use Rattle.roster.specs.Roster.{names, faulty, firstFault}
 use Rattle.roster.specs.Judged.{speciesMost}
 use Rattle.reader.specs.Promise.{textMost, needed}
 use Rattle.reader.specs.declared.Kind.{Kind}
-use Rattle.nodes.specs.Meaning.{Refusal}
+use Rattle.meanings.specs.Meaning.{Refusal}
 
 -- the fault of a text that is read from start on as a tree of the kind, by the number and the place that are given for it
 pub data TextFault (kind : Kind) (line text : List ℕ) (start : ℕ) : ℕ → ℕ → Type 0 where

@@ -18,14 +18,14 @@ use Rattle.tokens.specs.Answers.{Answer}
 use Rattle.tokens.specs.Answers.Answer.{parsed, refused as refusedAt}
 use Rattle.tokens.specs.Tokens.{blanks}
 use Rattle.nodes.specs.Reading.{readTree}
-use Rattle.nodes.specs.Meaning.{Means}
+use Rattle.meanings.specs.Meaning.{Means}
 use Rattle.reader.specs.Promise.{textMost, answerTo, readingOf}
 use Rattle.reader.specs.declared.Kind.the-variants.{Gene}
 use Rattle.reader.proofs.Accepts.{accepted-derives}
 use Rattle.reader.proofs.Replies.{refusal-some, draws-gene}
 use Rattle.reader.proofs.ByKind.{gene-never-nine}
-use Rattle.nodes.proofs.Meaning.{refusal-means}
-use Rattle.nodes.proofs.Refusals.{refusal-inside, refusal-numbers, says-10}
+use Rattle.meanings.proofs.Meaning.{refusal-said}
+use Rattle.meanings.proofs.Refusals.{refusal-inside, refusal-numbers, says-10}
 use Rattle.gather.specs.GeneTrees.{Gathered, gatherOn, gatherAt, gatherMore, gatherTo, gather}
 use Rattle.gather.specs.GeneTrees.Gathered.{gathered, stopped}
 
@@ -108,7 +108,7 @@ module _ (line trees : List ℕ) (good : faulty speciesMost line ≡ false) wher
       let read : readTree (names line) 0 (drop p trees) p ≡ refusedAt number q =
       rw (good, le-leb (length trees) textMost short, le-leb p (length trees) (omega arith)) at e
       in
-      let r = refusal-means (names line) 0 (drop p trees) p read in
+      let r = refusal-said (names line) 0 (drop p trees) p read in
       let d = byte-within (r .means) (decLe number 9) in
       (refusal-numbers (r .means) .0, omega (arith, r .place, length-drop p trees))
 

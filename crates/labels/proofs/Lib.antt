@@ -1,5 +1,19 @@
 -- The mathematics behind the proofs of this crate, and the laws that other crates cite.
 pub mod ByteKinds
+pub mod Bytewise
+pub mod FirstBytes
 pub mod Runs
+pub mod RunRules
+pub mod Letters
+pub mod QuotedLetters
+pub mod Telling
+pub mod Quotes
 pub mod Words
 pub mod Scans
+pub mod Spelled
+pub mod LabelFronts
+pub mod Unquoted
+pub mod FaultyLabels
+pub mod Cut
+pub mod OpenLabels
+pub mod Written

@@ -1,27 +1,45 @@
--- Words in sixteen bytes: copying one byte by byte, and that what stands behind it is zeros.
-use Prim.Native.Nat.{ℕ, suc, _+_, _-_, _≤_, _<_}
+-- Names in sixteen bytes, filled byte by byte.
+use Prim.Native.Nat.{ℕ, suc, _+_, _-_, _<_}
 use native.Mathlib.Omega.{arith}
 use native.Mathlib.Numerals.{add-one}
-use mathlib.Core.Path.{_≡_, sym, ap, _∙_}
-use mathlib.Core.List.{List, [], _∷_, _++_}
-use lib.ListN.{length, getD, set, take, drop, replicate, length-drop}
+use mathlib.Core.Path.{_≡_, refl, sym, ap, _∙_}
+use mathlib.Core.List.{List, [], _∷_, _++_, map, map-append}
+use lib.ListN.{length, getD, set, take, drop, replicate, length-append, length-drop, length-map}
 use lib.Seq.{take-suc, length-take-le, set-at, append-snoc, getD-drop}
-use Rattle.labels.specs.Labels.{padded}
+use Rattle.labels.specs.Bytes.{isBare, run}
+use Rattle.labels.specs.Spelling.{unwritten}
+use Rattle.labels.specs.Labels.{bareLetters, padded}
 
--- a word of n bytes, zeros behind it, to sixteen
-pub padded-take : (n : ℕ) (s : List ℕ) → n ≤ length s → padded (take n s) ≡ take n s ++ replicate (16 - n) 0
+-- at first there is nothing but zeros
+pub nothing-written : replicate 16 0 ≡ padded []
 unfolding padded
-padded-take n s h = rw (length-take-le n s h)
+nothing-written = refl
 
--- one more byte copied
-pub copied-more : (name text : List ℕ) (at i : ℕ) → i < 16 → at + i < length text → name ≡ take i (drop at text) ++ replicate (16 - i) 0
-    → set name i (getD text (at + i) 0) ≡ take (i + 1) (drop at text) ++ replicate (16 - (i + 1)) 0
-copied-more name text at i h k e =
-    let s = drop at text in
-    let l : i < length s = simp length-drop (omega arith) in
-    let n : 16 - i ≡ suc (16 - (i + 1)) = omega arith in
-    ap (λ (m : List ℕ). set m i (getD text (at + i) 0)) (e ∙ ap (λ (k : ℕ). take i s ++ replicate k 0) n)
-    ∙ set-at (take i s) 0 (replicate (16 - (i + 1)) 0) (getD text (at + i) 0) i (length-take-le i s (omega arith))
-    ∙ sym (append-snoc (take i s) (getD text (at + i) 0) (replicate (16 - (i + 1)) 0))
-    ∙ ap (λ (w : List ℕ). w ++ replicate (16 - (i + 1)) 0)
-    (ap (λ (b : ℕ). take i s ++ (b ∷ [])) (sym (getD-drop at text i 0)) ∙ sym (take-suc s i 0 l) ∙ ap (λ (k : ℕ). take k s) (sym (add-one i)))
+-- one more byte written behind a name
+pub written-more : (w : List ℕ) (b n : ℕ) → length w ≡ n → n < 16 → set (padded w) n b ≡ padded (w ++ (b ∷ []))
+unfolding padded
+written-more w b n e h =
+    let more : 16 - length w ≡ suc (16 - length (w ++ (b ∷ []))) = rw (length-append w (b ∷ [])) (omega arith) in
+    ap (λ (k : ℕ). set (w ++ replicate k 0) n b) more
+    ∙ set-at w 0 (replicate (16 - length (w ++ (b ∷ []))) 0) b n e
+    ∙ sym (append-snoc w b (replicate (16 - length (w ++ (b ∷ []))) 0))
+
+-- the bytes of a bare label as they are decoded
+module _ (text : List ℕ) (at i : ℕ) where
+  abbrev pub decoded : List ℕ
+  decoded = map unwritten (take i (drop at text))
+
+  pub decoded-more : (name : List ℕ) (b : ℕ) → i < 16 → at + i < length text → b ≡ unwritten (getD text (at + i) 0) → name ≡ padded decoded
+      → set name i b ≡ padded (map unwritten (take (i + 1) (drop at text)))
+  decoded-more name b h k byte e =
+      let s = drop at text in
+      let l : i < length s = simp length-drop (omega arith) in
+      let n : length (map unwritten (take i s)) ≡ i = length-map (take i s) unwritten ∙ length-take-le i s (omega arith) in
+      ap (λ (m : List ℕ). set m i b) e ∙ written-more (map unwritten (take i s)) b i n h
+      ∙ ap (λ (c : ℕ). padded (map unwritten (take i s) ++ (c ∷ []))) (byte ∙ ap unwritten (sym (getD-drop at text i 0)))
+      ∙ ap padded (sym (map-append unwritten (take i s) (getD s i 0 ∷ [])))
+      ∙ ap (λ (v : List ℕ). padded (map unwritten v)) (sym (take-suc s i 0 l) ∙ ap (λ (k : ℕ). take k s) (sym (add-one i)))
+
+  pub decoded-all : (name : List ℕ) → i ≡ run isBare (drop at text) → name ≡ padded decoded → name ≡ padded (bareLetters (drop at text))
+  unfolding bareLetters
+  decoded-all name e is = rw e at is

@@ -9,8 +9,10 @@ use lib.Dec.{ltb}
 use borrow.Author.Tests.{lt-ltb}
 use Rattle.clusters.specs.Sets.{Within, Apart, single, union}
 use Rattle.clusters.proofs.Sets.{within-union-left, within-union-right, apart-sym, apart-within, apart-union, apart-zero, true-apart, true-within}
-use Rattle.labels.specs.Bytes.{isName}
+use Rattle.labels.specs.Bytes.{nextIs, nextLabel}
+use Rattle.labels.specs.Spelling.{Spells}
 use Rattle.labels.specs.Labels.{labelBytes}
+use Rattle.labels.proofs.Spelled.{spells-first}
 use Rattle.trees.specs.Lists.{NoneTwice}
 use Rattle.trees.specs.Tree.{Tree, Forest, leaves, leavesOf, cluster, clusterOf}
 use Rattle.trees.specs.Tree.Tree.{leaf, node}
@@ -20,26 +22,27 @@ use Rattle.trees.proofs.Nodes.{children-apart}
 use Rattle.roster.specs.Roster.{position}
 use Rattle.tokens.specs.Answers.{andThen}
 use Rattle.tokens.specs.Answers.Answer.{parsed}
-use Rattle.tokens.specs.Tokens.{nextIs, nextName, blanks, skip, numbers, name, innerName}
-use Rattle.nodes.specs.Reading.{openMost, leafKnown, leafAt, closing, afterFirst, afterChild, readNode, readForest, ended, readTreeTo, readTree}
-use Rattle.nodes.specs.Grammar.{strict, Blanks, Run, Numbers, Inner, Node, Text}
+use Rattle.tokens.specs.Tokens.{blanks, skip, numbers, name, innerName}
+use Rattle.nodes.specs.Reading.{openMost, leafKnown, leafAt, closing, afterFirst, afterChild, readNode, readForest, ended, readTreeTo, readTree, closingBy, leafBy, readForestBy, readNodeBy, readTreeBy, readTreeToBy}
+use Rattle.nodes.specs.Grammar.{strict, Blanks, Numbers, Inner, Node, Text}
 use Rattle.nodes.specs.Grammar.Blanks.{none, blank}
 use Rattle.nodes.specs.Grammar.Text.{text}
 use Rattle.nodes.proofs.Rests.{moves-length, advances-shorter, readNode-advances, readTree-advances}
 use Rattle.nodes.proofs.Derivations.{two-wanted, Steps, over-node}
-use Rattle.nodes.proofs.Exact.{Gives, gives, gives-then, Follows, comma-follows, closing-follows, semicolon-follows, blanks-skip, skip-to, skip-is, next-not, run-first, name-no-blank, stopped-name, numbers-gives, numbers-stopped, name-gives, innerName-gives}
+use Rattle.nodes.proofs.Exact.{Gives, gives, gives-then, Follows, comma-follows, closing-follows, semicolon-follows, blanks-skip, skip-to, skip-is, next-not}
+use Rattle.nodes.proofs.Exact.{label-no-blank, stopped-label, numbers-gives, numbers-stopped, name-gives, innerName-gives}
 
 -- ---- a leaf, and what closes an inner node
 
 leafAt-gives :
     (names : List (List ℕ)) (seen i : ℕ) {w d b m mid rest : List ℕ}
-    → Run isName w m mid → (length w ≤ labelBytes) × (position w names ≡ i) × (i < length names) → Numbers (strict names) d b mid rest
+    → Spells w m mid → (length w ≤ labelBytes) × (position w names ≡ i) × (i < length names) → Numbers (strict names) d b mid rest
     → Follows rest → Apart (single i) seen → (p : ℕ)
     → Gives (leafAt names seen m p) (leaf i (record { name = []; distance = d; support = b })) rest
-unfolding leafAt
+unfolding leafBy
 leafAt-gives names seen i {w} {d} {b} {m} {mid} {rest} r known behind follows new p =
     gives-then (name m p) (λ w rest q. leafKnown (ltb (position w names) (length names)) (position w names) seen p rest q)
-    (name-gives r (stopped-name (numbers-stopped behind follows)) (known .0) p)
+    (name-gives r (stopped-label (numbers-stopped behind follows)) (known .0) p)
     (λ q.
     rw (known .1, lt-ltb i (length names) (known .2), true-apart (single i) seen new)
     (gives-then (numbers [] mid q) (λ b s p. parsed (leaf i b) s p) (numbers-gives names [] behind follows q)
@@ -49,7 +52,7 @@ closing-gives :
     (names : List (List ℕ)) (t : Tree) (f : Forest) {w d b s m rest : List ℕ}
     → Inner (strict names) w s m → Numbers (strict names) d b m rest → Follows rest → (p : ℕ)
     → Gives (closing t f s p) (node t f (record { name = w; distance = d; support = b })) rest
-unfolding closing
+unfolding closingBy
 closing-gives names t f {w} {d} {b} {s} {m} {rest} inner behind follows p =
     gives-then (innerName s p) (λ w s p. andThen (numbers w s p) (λ b s p. parsed (node t f b) s p))
     (innerName-gives names inner (numbers-stopped behind follows) p)
@@ -82,13 +85,13 @@ ForestGiven names room s f rest =
 
 leaf-given :
     (names : List (List ℕ)) (room i : ℕ) (w d b s s₁ s₂ rest : List ℕ)
-    → Blanks s s₁ → Run isName w s₁ s₂ → (length w ≤ labelBytes) × (position w names ≡ i) × (i < length names)
+    → Blanks s s₁ → Spells w s₁ s₂ → (length w ≤ labelBytes) × (position w names ≡ i) × (i < length names)
     → Numbers (strict names) d b s₂ rest → NodeGiven names room s (leaf i (record { name = []; distance = d; support = b })) rest
-unfolding readNode cluster
+unfolding readNodeBy cluster
 leaf-given names room i w d b s s₁ s₂ rest gap r known behind follows zero seen p l once new = absurd (omega arith)
 leaf-given names room i w d b s s₁ s₂ rest gap r known behind follows (suc k) seen p l once new =
-    let e : skip s ≡ s₁ = blanks-skip gap (name-no-blank s₁ (run-first r)) in
-    let is : nextName (skip s) ≡ true = rw e (run-first r) in
+    let e : skip s ≡ s₁ = blanks-skip gap (label-no-blank s₁ (spells-first r)) in
+    let is : nextLabel (skip s) ≡ true = rw e (spells-first r) in
     rw (is, e) (leafAt-gives names seen i r known behind follows new (p + blanks s))
 
 -- the parts of a node, apart from what was seen and from one another
@@ -126,11 +129,11 @@ inner-given :
     (names : List (List ℕ)) (room : ℕ) (t : Tree) (f : Forest) (w d b s s₁ s₂ s₃ s₄ s₅ rest : List ℕ)
     → Blanks s (40 ∷ s₁) → NodeGiven names room s₁ t s₂ → Blanks s₂ (44 ∷ s₃) → ForestGiven names room s₃ f s₄ → Inner (strict names) w s₄ s₅
     → Numbers (strict names) d b s₅ rest → NodeGiven names (suc room) s (node t f (record { name = w; distance = d; support = b })) rest
-unfolding readNode leaves cluster nextName
+unfolding readNodeBy leaves cluster nextLabel
 inner-given names room t f w d b s s₁ s₂ s₃ s₄ s₅ rest bl first comma others inner behind follows zero seen p l once new = absurd (omega arith)
 inner-given names room t f w d b s s₁ s₂ s₃ s₄ s₅ rest bl first comma others inner behind follows (suc k) seen p l once new =
     let e : skip s ≡ 40 ∷ s₁ = skip-to 40 refl bl in
-    let no-leaf : nextName (skip s) ≡ false = rw e refl in
+    let no-leaf : nextLabel (skip s) ≡ false = rw e refl in
     let parted = parts seen t f once new in
     let q = p + blanks s + 1 in
     let l₁ = blanks-length bl in
@@ -145,7 +148,7 @@ inner-given names room t f w d b s s₁ s₂ s₃ s₄ s₅ rest bl first comma 
 last-given :
     (names : List (List ℕ)) (room : ℕ) (t : Tree) (s s₁ rest : List ℕ)
     → NodeGiven names room s t s₁ → Blanks s₁ (41 ∷ rest) → ForestGiven names room s (last t) rest
-unfolding readForest leavesOf clusterOf
+unfolding readForestBy leavesOf clusterOf
 last-given names room t s s₁ rest only closes zero seen p l once new = absurd (omega arith)
 last-given names room t s s₁ rest only closes (suc k) seen p l once new =
     let e : skip s₁ ≡ 41 ∷ rest = skip-to 41 refl closes in
@@ -158,7 +161,7 @@ last-given names room t s s₁ rest only closes (suc k) seen p l once new =
 more-given :
     (names : List (List ℕ)) (room : ℕ) (t : Tree) (f : Forest) (s s₁ s₂ rest : List ℕ)
     → NodeGiven names room s t s₁ → Blanks s₁ (44 ∷ s₂) → ForestGiven names room s₂ f rest → ForestGiven names room s (more t f) rest
-unfolding readForest leavesOf clusterOf
+unfolding readForestBy leavesOf clusterOf
 more-given names room t f s s₁ s₂ rest first comma others zero seen p l once new = absurd (omega arith)
 more-given names room t f s s₁ s₂ rest first comma others (suc k) seen p l once new =
     let parted = parts seen t f once new in
@@ -193,7 +196,7 @@ node-complete names d = over-node (strict names) (NodeGiven names) (ForestGiven 
 tree-given :
     (names : List (List ℕ)) (needed : ℕ) {s rest : List ℕ} {t : Tree}
     → Text (strict names) openMost s t rest → NoneTwice (leaves t) → Within needed (cluster t) → (p : ℕ) → Gives (readTree names needed s p) t rest
-unfolding readTree readTreeTo
+unfolding readTreeBy readTreeToBy
 tree-given names needed {s} {rest} {t} (text {s₁ = m} d ends) once all p =
     let k = 2 * length s + 1 in
     gives-then (readNode k names openMost 0 s p) (λ t s p. ended (nextIs 59 (skip s)) needed t (skip s) (p + blanks s))

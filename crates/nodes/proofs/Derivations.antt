@@ -4,11 +4,11 @@ use mathlib.Core.Path.{_≡_, refl}
 use mathlib.Core.Logic.{_⊎_, inl, inr}
 use mathlib.Core.List.{List, [], _∷_}
 use native.Mathlib.Omega.{arith}
-use Rattle.labels.specs.Bytes.{isName}
+use Rattle.labels.specs.Spelling.{Spells}
 use Rattle.trees.specs.Tree.{Tree, Forest}
 use Rattle.trees.specs.Tree.Tree.{leaf, node}
 use Rattle.trees.specs.Tree.Forest.{last, more}
-use Rattle.nodes.specs.Grammar.{Rules, Blanks, Run, Numbers, Inner, Node, Children}
+use Rattle.nodes.specs.Grammar.{Rules, Blanks, Numbers, Inner, Node, Children}
 use Rattle.nodes.specs.Grammar.Node.{a-leaf, an-inner, a-single}
 use Rattle.nodes.specs.Grammar.Children.{the-last, one-more}
 
@@ -20,7 +20,7 @@ two-wanted l = omega arith
 pub record Steps (R : Rules) (P : ℕ → List ℕ → Tree → List ℕ → Type 0) (Q : ℕ → List ℕ → Forest → List ℕ → Type 0) : Type 0 where
   pub at-leaf :
       (k i : ℕ) (w d b s s₁ s₂ rest : List ℕ)
-      → Blanks s s₁ → Run isName w s₁ s₂ → R .leafName w i → Numbers R d b s₂ rest
+      → Blanks s s₁ → Spells w s₁ s₂ → R .leafName w i s₁ s₂ → Numbers R d b s₂ rest
       → P k s (leaf i (record { name = []; distance = d; support = b })) rest
   pub at-inner :
       (k : ℕ) (t : Tree) (f : Forest) (w d b s s₁ s₂ s₃ s₄ s₅ rest : List ℕ)
@@ -77,8 +77,8 @@ pub record LeafForm (R : Rules) (s : List ℕ) (t : Tree) (rest : List ℕ) : Ty
   pub s₁ : List ℕ
   pub s₂ : List ℕ
   pub gap : Blanks s s₁
-  pub named : Run isName w s₁ s₂
-  pub known : R .leafName w i
+  pub named : Spells w s₁ s₂
+  pub known : R .leafName w i s₁ s₂
   pub behind : Numbers R d b s₂ rest
   pub is : t ≡ leaf i (record { name = []; distance = d; support = b })
 

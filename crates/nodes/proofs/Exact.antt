@@ -8,15 +8,18 @@ use lib.ListN.{length, drop, length-append}
 use lib.Seq.{take-append-seam, drop-append-seam}
 use lib.Dec.{eqb}
 use borrow.Author.Tests.{eqb-true, eq-eqb, le-leb}
-use Rattle.labels.specs.Bytes.{isDigit, isName, isBlank, run}
-use Rattle.labels.specs.Labels.{labelBytes, word}
+use Rattle.labels.specs.Bytes.{isDigit, isBlank, isLabel, run, nextIs, nextLabel}
+use Rattle.labels.specs.Spelling.{Run, Spells}
+use Rattle.labels.specs.Spelling.Run.{one, next}
+use Rattle.labels.specs.Labels.{labelBytes}
+use Rattle.labels.proofs.RunRules.{run-some, run-splits, run-exact}
+use Rattle.labels.proofs.Spelled.{no-label-over, whole-exact, spells-first}
 use Rattle.trees.specs.Tree.{Behind}
 use Rattle.tokens.specs.Answers.{Answer, andThen}
 use Rattle.tokens.specs.Answers.Answer.{parsed}
-use Rattle.tokens.specs.Tokens.{numberBytes, nextIs, nextName, blanks, skip, numeral, pointed, digits, number, numberBehind, secondNumber, numbersBy, numbers, name, innerName}
-use Rattle.nodes.specs.Grammar.{Rules, strict, Blanks, Run, Number, ColonNumber, Numbers, Inner}
+use Rattle.tokens.specs.Tokens.{numberBytes, blanks, skip, numeral, pointed, digits, number, numberBehind, secondNumber, numbersBy, numbers, name, innerName}
+use Rattle.nodes.specs.Grammar.{Rules, strict, Blanks, Number, ColonNumber, Numbers, Inner}
 use Rattle.nodes.specs.Grammar.Blanks.{none, blank}
-use Rattle.nodes.specs.Grammar.Run.{one, next}
 use Rattle.nodes.specs.Grammar.Number.{whole, decimal}
 use Rattle.nodes.specs.Grammar.ColonNumber.{colon}
 use Rattle.nodes.specs.Grammar.Numbers.{nothing, distance, both, support}
@@ -75,25 +78,25 @@ blank-all P a b d e c is = first (eqb c 32) refl is
     first true h is = rw (eqb-true c 32 h) a
     first false h is = second (eqb c 9) refl is
 
-pub digit-name : (c : ℕ) → isDigit c ≡ true → isName c ≡ true
-digit-name c is = rw is
+pub digit-label : (c : ℕ) → isDigit c ≡ true → isLabel c ≡ true
+digit-label c is = rw is
 
-pub name-solid : (c : ℕ) → isName c ≡ true → isBlank c ≡ false
-name-solid c is = not-true (isBlank c) (λ h. falsehood (sym is ∙ blank-all (λ (x : ℕ). isName x ≡ false) refl refl refl refl c h))
+pub label-solid : (c : ℕ) → isLabel c ≡ true → isBlank c ≡ false
+label-solid c is = not-true (isBlank c) (λ h. falsehood (sym is ∙ blank-all (λ (x : ℕ). isLabel x ≡ false) refl refl refl refl c h))
 
--- a byte of a name is no byte that is none
-pub name-other : (b c : ℕ) → isName b ≡ false → isName c ≡ true → eqb c b ≡ false
-name-other b c non is = not-true (eqb c b) (λ h. falsehood (sym is ∙ (ap isName (eqb-true c b h) ∙ non)))
+-- a byte with which a label begins is no byte with which none does
+pub label-other : (b c : ℕ) → isLabel b ≡ false → isLabel c ≡ true → eqb c b ≡ false
+label-other b c non is = not-true (eqb c b) (λ h. falsehood (sym is ∙ (ap isLabel (eqb-true c b h) ∙ non)))
 
-no-digit : (c : ℕ) → isName c ≡ false → isDigit c ≡ false
-no-digit c non = not-true (isDigit c) (λ h. falsehood (sym (digit-name c h) ∙ non))
+no-digit : (c : ℕ) → isLabel c ≡ false → isDigit c ≡ false
+no-digit c non = not-true (isDigit c) (λ h. falsehood (sym (digit-label c h) ∙ non))
 
 -- ---- what stops a run
 
 -- a byte that stands behind a node, its name or its number, blanks before it
 pub record Stop (b : ℕ) : Type 0 where
   pub solid : isBlank b ≡ false
-  pub no-name : isName b ≡ false
+  pub no-label : isLabel b ≡ false
   pub no-point : eqb b 46 ≡ false
 
 pub record Stopped (s : List ℕ) : Type 0 where
@@ -109,18 +112,18 @@ pub record Follows (s : List ℕ) : Type 0 where
 
 pub comma-follows : {s m : List ℕ} → Blanks s (44 ∷ m) → Follows s
 comma-follows {s} {m} h =
-    record { stopped = record { byte = 44; behind = m; gap = h; stop = record { solid = refl; no-name = refl; no-point = refl } }; no-colon = refl }
+    record { stopped = record { byte = 44; behind = m; gap = h; stop = record { solid = refl; no-label = refl; no-point = refl } }; no-colon = refl }
 
 pub closing-follows : {s m : List ℕ} → Blanks s (41 ∷ m) → Follows s
 closing-follows {s} {m} h =
-    record { stopped = record { byte = 41; behind = m; gap = h; stop = record { solid = refl; no-name = refl; no-point = refl } }; no-colon = refl }
+    record { stopped = record { byte = 41; behind = m; gap = h; stop = record { solid = refl; no-label = refl; no-point = refl } }; no-colon = refl }
 
 pub semicolon-follows : {s m : List ℕ} → Blanks s (59 ∷ m) → Follows s
 semicolon-follows {s} {m} h =
-    record { stopped = record { byte = 59; behind = m; gap = h; stop = record { solid = refl; no-name = refl; no-point = refl } }; no-colon = refl }
+    record { stopped = record { byte = 59; behind = m; gap = h; stop = record { solid = refl; no-label = refl; no-point = refl } }; no-colon = refl }
 
 pub colon-stops : {s m : List ℕ} → Blanks s (58 ∷ m) → Stopped s
-colon-stops {s} {m} h = record { byte = 58; behind = m; gap = h; stop = record { solid = refl; no-name = refl; no-point = refl } }
+colon-stops {s} {m} h = record { byte = 58; behind = m; gap = h; stop = record { solid = refl; no-label = refl; no-point = refl } }
 
 -- ---- blanks and runs of the grammar are those of the reader
 
@@ -142,11 +145,11 @@ first-of : (P : List ℕ → Type 0) {s m : List ℕ} → ((c : ℕ) (l : List �
 first-of P each none h = h
 first-of P each (blank {b = b} {s = s} is d) h = each b s is
 
-pub stopped-name : {s : List ℕ} → Stopped s → nextName s ≡ false
-unfolding nextName
-stopped-name {s} h =
-    first-of (λ (l : List ℕ). nextName l ≡ false) (λ c l is. blank-all (λ (x : ℕ). isName x ≡ false) refl refl refl refl c is) (h .gap)
-    (h .stop .no-name)
+pub stopped-label : {s : List ℕ} → Stopped s → nextLabel s ≡ false
+unfolding nextLabel
+stopped-label {s} h =
+    first-of (λ (l : List ℕ). nextLabel l ≡ false) (λ c l is. blank-all (λ (x : ℕ). isLabel x ≡ false) refl refl refl refl c is) (h .gap)
+    (h .stop .no-label)
 
 pub stopped-point : {s : List ℕ} → Stopped s → nextIs 46 s ≡ false
 unfolding nextIs
@@ -154,49 +157,26 @@ stopped-point {s} h =
     first-of (λ (l : List ℕ). nextIs 46 l ≡ false) (λ c l is. blank-all (λ (x : ℕ). eqb x 46 ≡ false) refl refl refl refl c is) (h .gap)
     (h .stop .no-point)
 
-pub no-name-run : (s : List ℕ) → nextName s ≡ false → run isName s ≡ 0
-unfolding nextName run
-no-name-run [] non = refl
-no-name-run (b ∷ s) non = rw non
-
-pub no-digit-run : (s : List ℕ) → nextName s ≡ false → run isDigit s ≡ 0
-unfolding nextName run
+pub no-digit-run : (s : List ℕ) → nextLabel s ≡ false → run isDigit s ≡ 0
+unfolding nextLabel run
 no-digit-run [] non = refl
 no-digit-run (b ∷ s) non = rw (no-digit b non)
 
-pub run-some : {test : ℕ → Bool} {w s rest : List ℕ} → Run test w s rest → 0 < length w
-run-some (one is) = omega arith
-run-some (next is h) = omega arith
+-- a digit is a byte with which a label may begin
+digits-label : {w s rest : List ℕ} → Run isDigit w s rest → nextLabel s ≡ true
+unfolding nextLabel
+digits-label (one {b = b} is) = digit-label b is
+digits-label (next {b = b} is h) = digit-label b is
 
-pub run-splits : {test : ℕ → Bool} {w s rest : List ℕ} → Run test w s rest → s ≡ w ++ rest
-run-splits (one is) = refl
-run-splits (next {b = b} is h) = ap (λ (l : List ℕ). b ∷ l) (run-splits h)
+pub label-no-blank : (s : List ℕ) → nextLabel s ≡ true → run isBlank s ≡ 0
+unfolding nextLabel run
+label-no-blank [] is = refl
+label-no-blank (b ∷ s) is = rw (label-solid b is)
 
-pub run-exact : {test : ℕ → Bool} {w s rest : List ℕ} → Run test w s rest → run test rest ≡ 0 → run test s ≡ length w
-unfolding run
-run-exact (one is) e = rw (is, e)
-run-exact (next is h) e = rw (is, run-exact h e)
-
-pub run-first : {w s rest : List ℕ} → Run isName w s rest → nextName s ≡ true
-unfolding nextName
-run-first (one is) = is
-run-first (next is h) = is
-
--- digits are a name's bytes
-digits-name : {w s rest : List ℕ} → Run isDigit w s rest → nextName s ≡ true
-unfolding nextName
-digits-name (one {b = b} is) = digit-name b is
-digits-name (next {b = b} is h) = digit-name b is
-
-pub name-no-blank : (s : List ℕ) → nextName s ≡ true → run isBlank s ≡ 0
-unfolding nextName run
-name-no-blank [] is = refl
-name-no-blank (b ∷ s) is = rw (name-solid b is)
-
-pub name-no-byte : (b : ℕ) (s : List ℕ) → isName b ≡ false → nextName s ≡ true → nextIs b s ≡ false
-unfolding nextName nextIs
-name-no-byte b [] non is = refl
-name-no-byte b (c ∷ s) non is = name-other b c non is
+pub label-no-byte : (b : ℕ) (s : List ℕ) → isLabel b ≡ false → nextLabel s ≡ true → nextIs b s ≡ false
+unfolding nextLabel nextIs
+label-no-byte b [] non is = refl
+label-no-byte b (c ∷ s) non is = label-other b c non is
 
 pub next-is : (b : ℕ) (s : List ℕ) → nextIs b (b ∷ s) ≡ true
 unfolding nextIs
@@ -209,9 +189,9 @@ next-not b c s non = non
 pub stopped-skip : {s : List ℕ} (h : Stopped s) → skip s ≡ h .byte ∷ h .behind
 stopped-skip h = skip-to (h .byte) (h .stop .solid) (h .gap)
 
-pub stopped-skip-name : {s : List ℕ} → Stopped s → nextName (skip s) ≡ false
-unfolding nextName
-stopped-skip-name h = rw (stopped-skip h) (h .stop .no-name)
+pub stopped-skip-label : {s : List ℕ} → Stopped s → nextLabel (skip s) ≡ false
+unfolding nextLabel
+stopped-skip-label h = rw (stopped-skip h) (h .stop .no-label)
 
 pub follows-no-colon : {s : List ℕ} → Follows s → nextIs 58 (skip s) ≡ false
 follows-no-colon h = rw (stopped-skip (h .stopped)) (next-not 58 (h .stopped .byte) (h .stopped .behind) (h .no-colon))
@@ -222,9 +202,9 @@ skip-is {s} {m} b solid h = rw (skip-to b solid h) (next-is b m)
 
 -- ---- numbers
 
-pub number-first : {w s rest : List ℕ} → Number w s rest → nextName s ≡ true
-number-first (whole r) = digits-name r
-number-first (decimal r u) = digits-name r
+pub number-first : {w s rest : List ℕ} → Number w s rest → nextLabel s ≡ true
+number-first (whole r) = digits-label r
+number-first (decimal r u) = digits-label r
 
 numeral-gives :
     (c : ℕ) (s : List ℕ) (p : ℕ) (x rest : List ℕ) → s ≡ x ++ rest → c ≡ length x → length x ≤ numberBytes → Gives (numeral c s p) x rest
@@ -264,16 +244,16 @@ pub number-gives :
     {w s rest : List ℕ} → Number w s rest → Stopped rest → length w ≤ numberBytes → (p : ℕ) → Gives (number s p) w rest
 unfolding number
 number-gives {s = s} {rest = rest} (whole {w = w} r) stop short p =
-    digits-whole (run isDigit s) s p w rest (run-splits r) (run-exact r (no-digit-run rest (stopped-name stop))) (run-some r) (stopped-point stop) short
+    digits-whole (run isDigit s) s p w rest (run-splits r) (run-exact r (no-digit-run rest (stopped-label stop))) (run-some r) (stopped-point stop) short
 number-gives {s = s} {rest = rest} (decimal {v = v} {w = w} {mid = mid} r u) stop short p =
     digits-decimal (run isDigit s) s p v w mid rest (run-splits r) (run-exact r (point-no-digit mid)) (run-some r) (run-splits u)
-    (run-exact u (no-digit-run rest (stopped-name stop))) (run-some u) short
+    (run-exact u (no-digit-run rest (stopped-label stop))) (run-some u) short
 
 pub numberBehind-gives :
     {w s m rest : List ℕ} → Blanks s m → Number w m rest → Stopped rest → length w ≤ numberBytes → (p : ℕ) → Gives (numberBehind s p) w rest
 unfolding numberBehind
 numberBehind-gives {s = s} {m = m} gap n stop short p =
-    rw (blanks-skip gap (name-no-blank m (number-first n))) (number-gives n stop short (p + blanks s))
+    rw (blanks-skip gap (label-no-blank m (number-first n))) (number-gives n stop short (p + blanks s))
 
 -- a number written behind w, and what stands behind it
 second-gives :
@@ -294,8 +274,8 @@ first-gives :
     → ColonNumber (strict names) d s mid → Stopped mid → ((q : ℕ) → Gives (secondNumber (nextIs 58 (skip mid)) w d mid q) x rest) → (p : ℕ)
     → Gives (numbersBy (nextIs 58 (skip s)) w s p) x rest
 first-gives names w {d} {s} {mid} x rest (colon {s₁ = s₁} {s₂ = s₂} bl gap n short) stop more p =
-    let e : skip s₁ ≡ s₂ = blanks-skip gap (name-no-blank s₂ (number-first n)) in
-    rw (skip-is 58 refl bl, skip-to 58 refl bl, e, name-no-byte 58 s₂ refl (number-first n))
+    let e : skip s₁ ≡ s₂ = blanks-skip gap (label-no-blank s₂ (number-first n)) in
+    rw (skip-is 58 refl bl, skip-to 58 refl bl, e, label-no-byte 58 s₂ refl (number-first n))
     (gives-then (numberBehind s₁ (p + blanks s + 1)) (λ d s p. secondNumber (nextIs 58 (skip s)) w d s p)
     (numberBehind-gives gap n stop short (p + blanks s + 1)) more)
 
@@ -333,19 +313,18 @@ numbers-stopped (support bl c) follows = colon-stops bl
 
 -- ---- names
 
-pub name-gives : {w s rest : List ℕ} → Run isName w s rest → nextName rest ≡ false → length w ≤ labelBytes → (p : ℕ) → Gives (name s p) w rest
-unfolding name word
+pub name-gives : {w s rest : List ℕ} → Spells w s rest → nextLabel rest ≡ false → length w ≤ labelBytes → (p : ℕ) → Gives (name s p) w rest
+unfolding name
 name-gives {w} {s} {rest} r stops short p =
-    let e = run-exact r (no-name-run rest stops) in
-    rw (le-leb (run isName s) labelBytes (omega arith), e, run-splits r, take-append-seam w rest, drop-append-seam w rest)
-    (gives w rest (p + length w))
+    let e = whole-exact (record { spelled = r; over = no-label-over s rest stops }) in
+    rw (e .short short, e .name, e .left) (gives w rest (p + e .width))
 
 pub innerName-gives :
     (names : List (List ℕ)) {w s rest : List ℕ} → Inner (strict names) w s rest → Stopped rest → (p : ℕ) → Gives (innerName s p) w rest
 unfolding innerName
 innerName-gives names {rest = rest} nameless stop p =
-    rw (stopped-skip-name stop) (gives [] rest p)
+    rw (stopped-skip-label stop) (gives [] rest p)
 innerName-gives names {s = s} (named {mid = mid} gap r short) stop p =
-    let e = blanks-skip gap (name-no-blank mid (run-first r)) in
-    let is : nextName (skip s) ≡ true = rw e (run-first r) in
-    rw (is, e) (name-gives r (stopped-name stop) short (p + blanks s))
+    let e = blanks-skip gap (label-no-blank mid (spells-first r)) in
+    let is : nextLabel (skip s) ≡ true = rw e (spells-first r) in
+    rw (is, e) (name-gives r (stopped-label stop) short (p + blanks s))

@@ -1,15 +1,15 @@
 -- What a derivation uses up is a front of the text, and it is one before any other rest; and limits and roster can be lifted.
 use Prim.Native.Nat.{ℕ, suc, _≤_}
-use mathlib.Core.Path.{_≡_, refl, sym, ap, _∙_}
-use mathlib.Core.Bool.{Bool}
-use mathlib.Core.List.{List, [], _∷_, _++_, append-assoc, append-cancel-right}
-use Rattle.labels.specs.Bytes.{isDigit, isName}
+use mathlib.Core.Path.{refl, sym, ap, _∙_}
+use mathlib.Core.List.{List, [], _∷_, _++_, append-assoc}
+use Rattle.labels.specs.Bytes.{isDigit}
+use Rattle.labels.specs.Spelling.{Run, Spells}
+use Rattle.labels.proofs.LabelFronts.{Front, front-as, front-elsewhere, run-front, spells-front}
 use Rattle.trees.specs.Tree.{Tree, Forest}
 use Rattle.trees.specs.Tree.Tree.{leaf, node}
 use Rattle.trees.specs.Tree.Forest.{last, more}
-use Rattle.nodes.specs.Grammar.{Rules, strict, liftedTo, lifted, Blanks, Run, Number, ColonNumber, Numbers, Inner, Node, Children, Text}
+use Rattle.nodes.specs.Grammar.{Rules, strict, liftedTo, lifted, Blanks, Number, ColonNumber, Numbers, Inner, Node, Children, Text}
 use Rattle.nodes.specs.Grammar.Blanks.{none, blank}
-use Rattle.nodes.specs.Grammar.Run.{one, next}
 use Rattle.nodes.specs.Grammar.Number.{whole, decimal}
 use Rattle.nodes.specs.Grammar.ColonNumber.{colon}
 use Rattle.nodes.specs.Grammar.Numbers.{nothing, distance, both, support}
@@ -19,11 +19,17 @@ use Rattle.nodes.specs.Grammar.Children.{the-last, one-more}
 use Rattle.nodes.specs.Grammar.Text.{text}
 use Rattle.nodes.proofs.Derivations.{two-wanted, Steps, over-node, over-children}
 
--- s begins with an X, its bytes, which is one whatever is left behind it
-pub record Front (X : List ℕ → List ℕ → Type 0) (s rest : List ℕ) : Type 0 where
-  pub bytes : List ℕ
-  pub split : s ≡ bytes ++ rest
-  pub anywhere : (behind : List ℕ) → X (bytes ++ behind) behind
+-- rules that look at names and numbers alone, and not at where they stand
+pub record Placeless (R : Rules) : Type 0 where
+  pub leafNames : {w : List ℕ} {i : ℕ} {s rest : List ℕ} → R .leafName w i s rest → (s′ rest′ : List ℕ) → R .leafName w i s′ rest′
+  pub innerNames : {w s rest : List ℕ} → R .innerName w s rest → (s′ rest′ : List ℕ) → R .innerName w s′ rest′
+  pub numbers : {w s rest : List ℕ} → R .number w s rest → (s′ rest′ : List ℕ) → R .number w s′ rest′
+
+pub strict-placeless : (names : List (List ℕ)) → Placeless (strict names)
+strict-placeless names = record { leafNames = λ h s rest. h; innerNames = λ h s rest. h; numbers = λ h s rest. h }
+
+pub lifted-placeless : (least : ℕ) → Placeless (liftedTo least)
+lifted-placeless least = record { leafNames = λ h s rest. h; innerNames = λ h s rest. h; numbers = λ h s rest. h }
 
 -- ---- one piece behind another
 
@@ -43,10 +49,6 @@ front-then X Y {s} {m} {rest} a b =
           record { mid = v ++ behind; first = rw append-assoc (a .anywhere (v ++ behind)); second = b .anywhere behind };
     }
 
-pub front-as :
-    (X Y : List ℕ → List ℕ → Type 0) {s rest : List ℕ} → ((s rest : List ℕ) → X s rest → Y s rest) → Front X s rest → Front Y s rest
-front-as X Y f a = record { bytes = a .bytes; split = a .split; anywhere = λ behind. f (a .bytes ++ behind) behind (a .anywhere behind) }
-
 pub front-none : (X : List ℕ → List ℕ → Type 0) (s : List ℕ) → ((s : List ℕ) → X s s) → Front X s s
 front-none X s f = record { bytes = []; split = refl; anywhere = f }
 
@@ -59,10 +61,6 @@ front-byte X b {s} {rest} a =
       split = a .split ∙ sym (append-assoc u (b ∷ []) rest);
       anywhere = λ behind. rw append-assoc (a .anywhere (b ∷ behind));
     }
-
--- the bytes of a front are what stands before the rest
-pub front-elsewhere : (X : List ℕ → List ℕ → Type 0) (u rest behind : List ℕ) → Front X (u ++ rest) rest → X (u ++ behind) behind
-front-elsewhere X u rest behind a = rw (append-cancel-right u (a .bytes) rest (a .split)) (a .anywhere behind)
 
 -- ---- tokens
 
@@ -79,12 +77,6 @@ BlanksAnd b s rest = Blanks s (b ∷ rest)
 pub byte-front : (b : ℕ) {s rest : List ℕ} → Blanks s (b ∷ rest) → Front (BlanksAnd b) s rest
 byte-front b d = front-byte Blanks b (blanks-front d)
 
-pub run-front : {test : ℕ → Bool} {w s rest : List ℕ} → Run test w s rest → Front (Run test w) s rest
-run-front (one {b = b} is) = record { bytes = b ∷ []; split = refl; anywhere = λ behind. one is }
-run-front (next {b = b} is d) =
-    let f = run-front d in
-    record { bytes = b ∷ f .bytes; split = ap (λ (l : List ℕ). b ∷ l) (f .split); anywhere = λ behind. next is (f .anywhere behind) }
-
 pub number-front : {w s rest : List ℕ} → Number w s rest → Front (Number w) s rest
 number-front {w} (whole r) = front-as (Run isDigit w) (Number w) (λ s rest r. whole r) (run-front r)
 number-front (decimal {v = v} {w = w} r u) =
@@ -92,11 +84,11 @@ number-front (decimal {v = v} {w = w} r u) =
     front-as (Then Digits (Run isDigit w)) (Number (v ++ 46 ∷ w)) (λ s rest h. decimal (h .first) (h .second))
     (front-then Digits (Run isDigit w) (front-byte (Run isDigit v) 46 (run-front r)) (run-front u))
 
-module _ (R : Rules) where
+module _ (R : Rules) (placeless : Placeless R) where
   pub colon-front : {w s rest : List ℕ} → ColonNumber R w s rest → Front (ColonNumber R w) s rest
   colon-front (colon {w = w} bl gap n short) =
       front-as (Then (BlanksAnd 58) (Then Blanks (Number w))) (ColonNumber R w)
-      (λ s rest h. colon (h .first) (h .second .first) (h .second .second) short)
+      (λ s rest h. colon (h .first) (h .second .first) (h .second .second) (placeless .numbers short (h .second .mid) rest))
       (front-then (BlanksAnd 58) (Then Blanks (Number w)) (byte-front 58 bl) (front-then Blanks (Number w) (blanks-front gap) (number-front n)))
 
   pub numbers-front : {d b s rest : List ℕ} → Numbers R d b s rest → Front (Numbers R d b) s rest
@@ -112,8 +104,8 @@ module _ (R : Rules) where
   pub inner-front : {w s rest : List ℕ} → Inner R w s rest → Front (Inner R w) s rest
   inner-front {s = s} nameless = front-none (Inner R []) s (λ s. nameless)
   inner-front (named {w = w} gap r short) =
-      front-as (Then Blanks (Run isName w)) (Inner R w) (λ s rest h. named (h .first) (h .second) short)
-      (front-then Blanks (Run isName w) (blanks-front gap) (run-front r))
+      front-as (Then Blanks (Spells w)) (Inner R w) (λ s rest h. named (h .first) (h .second) (placeless .innerNames short (h .mid) rest))
+      (front-then Blanks (Spells w) (blanks-front gap) (spells-front r))
 
   -- ---- nodes
 
@@ -124,13 +116,13 @@ module _ (R : Rules) where
   ChildrenFront k s f rest = Front (λ s rest. Children R k s f rest) s rest
 
   leaf-front :
-      (k i : ℕ) (w d b s s₁ s₂ rest : List ℕ) → Blanks s s₁ → Run isName w s₁ s₂ → R .leafName w i → Numbers R d b s₂ rest
+      (k i : ℕ) (w d b s s₁ s₂ rest : List ℕ) → Blanks s s₁ → Spells w s₁ s₂ → R .leafName w i s₁ s₂ → Numbers R d b s₂ rest
       → NodeFront k s (leaf i (record { name = []; distance = d; support = b })) rest
   leaf-front k i w d b s s₁ s₂ rest gap r known behind =
-      front-as (Then Blanks (Then (Run isName w) (Numbers R d b))) (λ s rest. Node R k s (leaf i (record { name = []; distance = d; support = b })) rest)
-      (λ s rest h. a-leaf (h .first) (h .second .first) known (h .second .second))
-      (front-then Blanks (Then (Run isName w) (Numbers R d b)) (blanks-front gap)
-      (front-then (Run isName w) (Numbers R d b) (run-front r) (numbers-front behind)))
+      front-as (Then Blanks (Then (Spells w) (Numbers R d b))) (λ s rest. Node R k s (leaf i (record { name = []; distance = d; support = b })) rest)
+      (λ s rest h. a-leaf (h .first) (h .second .first) (placeless .leafNames known (h .mid) (h .second .mid)) (h .second .second))
+      (front-then Blanks (Then (Spells w) (Numbers R d b)) (blanks-front gap)
+      (front-then (Spells w) (Numbers R d b) (spells-front r) (numbers-front behind)))
 
   -- a comma and children
   more-front :
@@ -213,18 +205,18 @@ module _ (R : Rules) where
 -- ---- rules that allow more
 
 pub record Allows (R R′ : Rules) : Type 0 where
-  pub leafNames : (w : List ℕ) (i : ℕ) → R .leafName w i → R′ .leafName w i
-  pub innerNames : (w : List ℕ) → R .innerName w → R′ .innerName w
-  pub numbers : (w : List ℕ) → R .number w → R′ .number w
+  pub leafNames : (w : List ℕ) (i : ℕ) (s rest : List ℕ) → R .leafName w i s rest → R′ .leafName w i s rest
+  pub innerNames : (w s rest : List ℕ) → R .innerName w s rest → R′ .innerName w s rest
+  pub numbers : (w s rest : List ℕ) → R .number w s rest → R′ .number w s rest
   pub singles : R .fewest ≤ 1 → R′ .fewest ≤ 1
 
 -- where two nodes are wanted, limits and roster are lifted for any number of nodes
 pub lifted-allows : (R : Rules) (least : ℕ) → (R .fewest ≤ 1 → ⊥) → Allows R (liftedTo least)
-lifted-allows R least two = record { leafNames = λ w i h. tt; innerNames = λ w h. tt; numbers = λ w h. tt; singles = λ enough. absurd (two enough) }
+lifted-allows R least two = record { leafNames = λ w i s rest h. tt; innerNames = λ w s rest h. tt; numbers = λ w s rest h. tt; singles = λ enough. absurd (two enough) }
 
 module _ (R R′ : Rules) (allows : Allows R R′) where
   pub colon-allowed : {w s rest : List ℕ} → ColonNumber R w s rest → ColonNumber R′ w s rest
-  colon-allowed (colon {w = w} bl gap n short) = colon bl gap n (allows .numbers w short)
+  colon-allowed (colon {w = w} {s₂ = s₂} {rest = rest} bl gap n short) = colon bl gap n (allows .numbers w s₂ rest short)
 
   pub numbers-allowed : {d b s rest : List ℕ} → Numbers R d b s rest → Numbers R′ d b s rest
   numbers-allowed nothing = nothing
@@ -234,12 +226,12 @@ module _ (R R′ : Rules) (allows : Allows R R′) where
 
   pub inner-allowed : {w s rest : List ℕ} → Inner R w s rest → Inner R′ w s rest
   inner-allowed nameless = nameless
-  inner-allowed (named {w = w} gap r short) = named gap r (allows .innerNames w short)
+  inner-allowed (named {w = w} {mid = mid} {rest = rest} gap r short) = named gap r (allows .innerNames w mid rest short)
 
   allowed-steps : Steps R (Node R′) (Children R′)
   allowed-steps =
       record {
-        at-leaf = λ k i w d b s s₁ s₂ rest gap r known behind. a-leaf gap r (allows .leafNames w i known) (numbers-allowed behind);
+        at-leaf = λ k i w d b s s₁ s₂ rest gap r known behind. a-leaf gap r (allows .leafNames w i s₁ s₂ known) (numbers-allowed behind);
         at-inner = λ k t f w d b s s₁ s₂ s₃ s₄ s₅ rest bl first p comma others q inner behind.
             an-inner bl p comma q (inner-allowed inner) (numbers-allowed behind);
         at-single = λ k t w d b s s₁ s₂ s₃ s₄ rest enough bl only p closes inner behind.

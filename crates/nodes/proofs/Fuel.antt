@@ -6,12 +6,13 @@ use mathlib.Core.List.{List, tail}
 use native.Mathlib.Omega.{arith}
 use lib.ListN.{length}
 use Rattle.clusters.specs.Sets.{union}
+use Rattle.labels.specs.Bytes.{nextIs, nextLabel}
 use Rattle.trees.specs.Tree.{Tree, Forest, cluster}
 use Rattle.trees.specs.Tree.Forest.{more}
 use Rattle.tokens.specs.Answers.{Answer, andThen}
 use Rattle.tokens.specs.Answers.Answer.{parsed, refused}
-use Rattle.tokens.specs.Tokens.{nextIs, nextName, blanks, skip}
-use Rattle.nodes.specs.Reading.{openMost, closing, afterFirst, opened, nodeBy, afterChild, readNode, readForest, ended, readTreeTo, readTree}
+use Rattle.tokens.specs.Tokens.{blanks, skip}
+use Rattle.nodes.specs.Reading.{openMost, closing, afterFirst, opened, nodeBy, afterChild, readNode, readForest, ended, readTreeTo, readTree, readForestBy, readNodeBy, readTreeBy, readTreeToBy}
 use Rattle.nodes.proofs.Rests.{Reader, AllAdvance, moves-length, advances-shorter, skip-moves, nextIs-tail, readNode-advances}
 
 -- two pieces of reading answer the same on every text of fewer than n bytes
@@ -24,10 +25,10 @@ andThen-same :
 andThen-same (parsed x s p) f g same = same x s p refl
 andThen-same (refused n q) f g same = refl
 
-skip-shorter : (s : List ℕ) → length (skip s) ≤ length s
+pub skip-shorter : (s : List ℕ) → length (skip s) ≤ length s
 skip-shorter s = let m = skip-moves s 0 in omega (arith, moves-length m, m .place)
 
-tail-shorter : (b : ℕ) (s : List ℕ) → nextIs b s ≡ true → length (tail s) < length s
+pub tail-shorter : (b : ℕ) (s : List ℕ) → nextIs b s ≡ true → length (tail s) < length s
 tail-shorter b s is = advances-shorter (nextIs-tail b s 0 is)
 
 afterFirst-same :
@@ -93,7 +94,7 @@ forest-same first first′ others others′ seen s p one same alike =
     ∙ ap (λ (a : Answer Tree). andThen a (next others′)) same
 
 mutual
-  unfolding readNode readForest
+  unfolding readNodeBy readForestBy
 
   pub node-fuel :
       (k k′ : ℕ) (names : List (List ℕ)) (room seen : ℕ) (s : List ℕ) (p : ℕ)
@@ -101,7 +102,7 @@ mutual
   node-fuel zero k′ names room seen s p l l′ = absurd (omega arith)
   node-fuel (suc k) zero names room seen s p l l′ = absurd (omega arith)
   node-fuel (suc k) (suc k′) names room seen s p l l′ =
-      nodeBy-same (nextName (skip s)) (nextIs 40 (skip s)) names (λ r e s p. readNode k names r e s p) (λ r e s p. readNode k′ names r e s p)
+      nodeBy-same (nextLabel (skip s)) (nextIs 40 (skip s)) names (λ r e s p. readNode k names r e s p) (λ r e s p. readNode k′ names r e s p)
       (λ r e s p. readForest k names r e s p) (λ r e s p. readForest k′ names r e s p) room seen (skip s) (p + blanks s)
       (λ r e s p x rest q h. readNode-advances k names r e s p x rest q h)
       (λ r e m q d. node-fuel k k′ names r e m q (omega (arith, skip-shorter s)) (omega (arith, skip-shorter s)))
@@ -124,7 +125,7 @@ mutual
 pub never-out :
     (k : ℕ) (names : List (List ℕ)) (needed : ℕ) (s : List ℕ) (p : ℕ)
     → 2 * length s < k → readTreeTo k names needed s p ≡ readTree names needed s p
-unfolding readTreeTo readTree
+unfolding readTreeToBy readTreeBy
 never-out k names needed s p l =
     ap (λ (a : Answer Tree). andThen a (λ t s p. ended (nextIs 59 (skip s)) needed t (skip s) (p + blanks s)))
     (node-fuel k (2 * length s + 1) names openMost 0 s p l (omega arith))

@@ -12,14 +12,15 @@ use borrow.Author.Tests.{ltb-true}
 use Rattle.clusters.specs.Sets.{Apart, single, union, apart, size}
 use Rattle.clusters.proofs.Sets.{single-below, union-below, apart-true, apart-sym, union-apart, apart-within, within-union-left, within-union-right}
 use Rattle.clusters.proofs.Sizes.{size-apart, size-single}
+use Rattle.labels.specs.Bytes.{nextIs, nextLabel}
 use Rattle.trees.specs.Tree.{Tree, Forest, cluster, clusterOf, clusters, clustersOf}
 use Rattle.trees.specs.Tree.Tree.{leaf, node}
 use Rattle.trees.specs.Tree.Forest.{last, more}
 use Rattle.roster.specs.Roster.{position}
 use Rattle.tokens.specs.Answers.{Answer, andThen}
 use Rattle.tokens.specs.Answers.Answer.{parsed}
-use Rattle.tokens.specs.Tokens.{nextIs, nextName, blanks, skip, numbers, name, innerName}
-use Rattle.nodes.specs.Reading.{leafNew, leafKnown, leafAt, closing, afterFirst, opened, nodeBy, afterChild, readNode, readForest}
+use Rattle.tokens.specs.Tokens.{blanks, skip, numbers, name, innerName}
+use Rattle.nodes.specs.Reading.{leafNew, leafKnown, leafAt, closing, afterFirst, opened, nodeBy, afterChild, readNode, readForest, closingBy, leafBy, readForestBy, readNodeBy}
 use Rattle.nodes.proofs.Answers.{refused-parsed, andThen-parsed, unexpected-parsed}
 
 -- a set of n species at most, none of them met before, and the clusters within it: fewer than twice its size
@@ -109,7 +110,7 @@ leafKnown-fresh n seen true i begun s p k e = leafNew-fresh n seen (apart (singl
 leafAt-fresh :
     (names : List (List ℕ)) (seen : ℕ) (s : List ℕ) (p : ℕ) {x : Tree} {rest : List ℕ} {q : ℕ}
     → leafAt names seen s p ≡ parsed x rest q → FreshTree (length names) seen x
-unfolding leafAt
+unfolding leafBy
 leafAt-fresh names seen s p e =
     let r = andThen-parsed (name s p) (λ w rest q. leafKnown (ltb (position w names) (length names)) (position w names) seen p rest q) e in
     let i = position (r .value) names in
@@ -119,7 +120,7 @@ closing-node :
     (t : Tree) (f : Forest) (s : List ℕ) (p : ℕ) {x : Tree} {rest : List ℕ} {q : ℕ}
     → closing t f s p ≡ parsed x rest q
     → (cluster x ≡ union (cluster t) (clusterOf f)) × (clusters x ≡ clusters t ++ clustersOf f ++ (union (cluster t) (clusterOf f) ∷ []))
-unfolding closing cluster clusters
+unfolding closingBy cluster clusters
 closing-node t f s p {x} e =
     let r = andThen-parsed (innerName s p) (λ w s p. andThen (numbers w s p) (λ b s p. parsed (node t f b) s p)) e in
     let n = andThen-parsed (numbers (r .value) (r .left) (r .place)) (λ b s p. parsed (node t f b) s p) (r .after) in
@@ -193,14 +194,14 @@ forest-fresh n first others seen s p one on e =
     (one seen s p (r .value) m (r .place) (r .first)) (r .after)
 
 mutual
-  unfolding readNode readForest
+  unfolding readNodeBy readForestBy
 
   pub readNode-fresh :
       (k : ℕ) (names : List (List ℕ)) (room seen : ℕ) (s : List ℕ) (p : ℕ) (x : Tree) (rest : List ℕ) (q : ℕ)
       → readNode k names room seen s p ≡ parsed x rest q → FreshTree (length names) seen x
   readNode-fresh zero names room seen s p x rest q e = absurd (refused-parsed e)
   readNode-fresh (suc k) names room seen s p x rest q e =
-      nodeBy-fresh (nextName (skip s)) (nextIs 40 (skip s)) names (λ r e s p. readNode k names r e s p) (λ r e s p. readForest k names r e s p)
+      nodeBy-fresh (nextLabel (skip s)) (nextIs 40 (skip s)) names (λ r e s p. readNode k names r e s p) (λ r e s p. readForest k names r e s p)
       room seen (skip s) (p + blanks s)
       (λ r e s p x rest q h. readNode-fresh k names r e s p x rest q h) (λ r e s p x rest q h. readForest-fresh k names r e s p x rest q h) e
 

@@ -2,18 +2,19 @@
 use Prim.Native.Nat.{ℕ, _≤_, _<_}
 use native.Mathlib.Omega.{arith}
 use mathlib.Core.Path.{_≡_, refl, sym, _∙_}
-use mathlib.Core.Bool.{Bool, true, false}
+use mathlib.Core.Bool.{true, false}
 use mathlib.Core.List.{List, []}
 use lib.ListN.{length, drop}
-use lib.Dec.{leb, ltb}
-use borrow.Author.Tests.{leb-true, lt-ltb, le-ltb}
+use lib.Dec.{ltb}
+use borrow.Author.Tests.{lt-ltb, le-ltb}
 use Rattle.clusters.specs.Sets.{single, union, apart}
 use Rattle.clusters.proofs.Sets.{single-below, union-below, apart-true, apart-sym}
 use Rattle.clusters.proofs.Sizes.{size-apart, size-single, size-le}
-use Rattle.labels.specs.Bytes.{isName, run}
-use Rattle.labels.specs.Labels.{labelBytes, word, padded, scannedBy, scannedAt}
+use Rattle.labels.specs.Labels.{labelBytes, letters, padded, Told, told, scannedBy, scannedAt}
+use Rattle.labels.specs.Labels.Told.{ended, faulty}
 use Rattle.labels.specs.declared.Scanned.{Scanned}
-use Rattle.labels.specs.declared.Label.the-variants.{Ended, TooLong}
+use Rattle.labels.specs.declared.Label.the-variants.{Ended, Faulty}
+use Rattle.labels.proofs.Telling.{ended-short}
 use Rattle.trees.specs.Tree.{Tree, cluster, clusters}
 use Rattle.trees.specs.Tree.Tree.{leaf}
 use Rattle.roster.specs.Roster.{position}
@@ -24,7 +25,7 @@ use Rattle.tokens.specs.Tokens.{name, numbers}
 use Rattle.tokens.specs.Says.{refusal, nameSays, nameFault, behindSays}
 use Rattle.tokens.specs.declared.answer.Refusal.{Refusal}
 use Rattle.tokens.specs.declared.answer.BehindRead.{BehindRead}
-use Rattle.nodes.specs.Reading.{leafKnown, leafAt}
+use Rattle.nodes.specs.Reading.{leafKnown, leafAt, leafBy}
 use Rattle.nodes.specs.Core.{endedAs, keptAs, Holds, Given, NodeReads}
 use Rattle.nodes.specs.declared.answer.NodeRead.{NodeRead}
 use Rattle.tokens.proofs.Pieces.{name-refused, name-read}
@@ -33,46 +34,45 @@ use Rattle.nodes.proofs.NodeAnswers.{node-ended}
 
 -- a label that ends is short enough, and its bytes are the name
 pub record Short (text : List ℕ) (at : ℕ) (name : List ℕ) : Type 0 where
-  pub short : run isName (drop at text) ≤ labelBytes
-  pub bytes : name ≡ padded (word (drop at text))
+  pub short : length (letters (drop at text)) ≤ labelBytes
+  pub bytes : name ≡ padded (letters (drop at text))
 
 pub scan-ended : (text : List ℕ) (at next : ℕ) → scannedAt text at .label ≡ Ended next → Short text at (scannedAt text at .name)
 unfolding scannedAt
-scan-ended text at next told = by-length (leb (run isName (drop at text)) labelBytes) refl told
+scan-ended text at next ends = by-end (told (drop at text)) refl ends
   where
-    by-length :
-        (t : Bool) → leb (run isName (drop at text)) labelBytes ≡ t → scannedBy t (drop at text) at .label ≡ Ended next
-        → Short text at (scannedBy t (drop at text) at .name)
-    by-length true l e = record { short = leb-true (run isName (drop at text)) labelBytes l; bytes = refl }
-    by-length false l e = absurd (let z : _≡_ {A = ℕ} 0 1 = cc in omega arith)
+    by-end :
+        (t : Told) → told (drop at text) ≡ t → scannedBy t (drop at text) at .label ≡ Ended next → Short text at (scannedBy t (drop at text) at .name)
+    by-end (ended n) is e = record { short = ended-short (drop at text) n is; bytes = refl }
+    by-end (faulty number d) is e = absurd (let z : _≡_ {A = ℕ} 0 1 = cc in omega arith)
 
 module _ (text : List ℕ) (at : ℕ) (scanned : Scanned) (is : scanned ≡ scannedAt text at) (names : List (List ℕ)) (seen : ℕ) where
-  says : nameSays text (word (drop at text)) (scanned .label) ≡ name (drop at text) at
+  says : nameSays text (letters (drop at text)) (scanned .label) ≡ name (drop at text) at
   says = rw is (scanned-name text at)
 
   judged : List ℕ → List ℕ → ℕ → Answer Tree
   judged w rest q = leafKnown (ltb (position w names) (length names)) (position w names) seen at rest q
 
-  pub leaf-too-long :
-      (p : ℕ) (e : Refusal) → scanned .label ≡ TooLong p → e ≡ nameFault (scanned .label) → refusal e ≡ leafAt names seen (drop at text) at
-  unfolding leafAt judged
-  leaf-too-long p e told fault = name-refused text (word (drop at text)) (scanned .label) (name (drop at text) at) says judged p e told fault
+  pub leaf-faulty :
+      (n p : ℕ) (e : Refusal) → scanned .label ≡ Faulty n p → e ≡ nameFault (scanned .label) → refusal e ≡ leafAt names seen (drop at text) at
+  unfolding leafBy judged
+  leaf-faulty n p e told fault = name-refused text (letters (drop at text)) (scanned .label) (name (drop at text) at) says judged n p e told fault
 
   -- the name ends at `next`, and is found at i
   module _
       (count : ℕ) (table : List ℕ) (holds : Holds names count table) (next i : ℕ) (ends : scanned .label ≡ Ended next)
       (found : i ≡ position (scanned .name) (slots count table))
     where
-      place-is : position (word (drop at text)) names ≡ i
+      place-is : position (letters (drop at text)) names ≡ i
       place-is =
           let told : scannedAt text at .label ≡ Ended next = rw is at ends in
           let s = scan-ended text at next told in
-          let bytes : scanned .name ≡ padded (word (drop at text)) = rw is (s .bytes) in
+          let bytes : scanned .name ≡ padded (letters (drop at text)) = rw is (s .bytes) in
           sym (found ∙ (rw bytes (holds .finds (drop at text) (s .short))))
 
       judged-is : leafKnown (ltb i count) i seen at (drop next text) next ≡ leafAt names seen (drop at text) at
-      unfolding leafAt judged
-      judged-is = rw (← place-is, ← holds .counted) (name-read text (word (drop at text)) (scanned .label) (name (drop at text) at) says judged next ends)
+      unfolding leafBy judged
+      judged-is = rw (← place-is, ← holds .counted) (name-read text (letters (drop at text)) (scanned .label) (name (drop at text) at) says judged next ends)
 
       pub leaf-unknown : count ≤ i → refused 5 at ≡ leafAt names seen (drop at text) at
       leaf-unknown h = rw (le-ltb i count h) at judged-is

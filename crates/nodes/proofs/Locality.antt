@@ -1,47 +1,145 @@
--- A refusal is decided by the bytes up to its place: reading two texts that agree so far answers the same.
+-- A refusal is decided by the bytes up to its border: reading two texts that agree so far answers the same; where the refusal asks for it, they go on alike with a label there.
 use Prim.Native.Nat.{ℕ, zero, suc, _+_, _-_, _*_, _≤_, _<_, min}
 use mathlib.Core.Path.{_≡_, refl, sym, ap, _∙_}
-use mathlib.Core.Bool.{Bool, true, false}
+use mathlib.Core.Bool.{Bool, true, false, _&&_, _||_, false≢true}
 use mathlib.Core.List.{List, [], _∷_, _++_, tail, append-cancel-left}
 use native.Mathlib.Nat.{add-zero, add-assoc, add-sub-cancel-left}
-use native.Mathlib.Decide.{decLe}
+use native.Mathlib.Decide.{decLe, decLt}
+use native.Mathlib.Numerals.{add-one}
 use native.Mathlib.Omega.{arith}
 use borrow.Author.Tests.{le-leb}
-use lib.ListN.{length, take, drop}
-use lib.Seq.{drop-drop, take-add}
-use lib.Dec.{ltb}
+use lib.ListN.{length, getD, take, drop}
+use lib.Seq.{drop-drop, take-add, getD-drop}
+use lib.Dec.{eqb, ltb}
 use Rattle.clusters.specs.Sets.{single, union, apart, within}
-use Rattle.labels.specs.Bytes.{isDigit, isName, isBlank, run}
-use Rattle.labels.specs.Labels.{word}
+use Rattle.labels.specs.Bytes.{isDigit, isBare, isBlank, run, nextIs, nextBare, nextLabel}
+use Rattle.labels.specs.Spelling.{goesOnBy}
+use Rattle.labels.specs.Labels.{letters, Told, told}
+use Rattle.labels.specs.Labels.Told.{ended as endsAt, faulty}
+use Rattle.labels.proofs.RunRules.{run-take}
+use Rattle.labels.proofs.FirstBytes.{FirstByte, nextIs-first, nextBare-first, nextLabel-first, agree-less}
+use Rattle.labels.proofs.Spelled.{told-sound, told-none, letters-none, label-last}
+use Rattle.labels.proofs.FaultyLabels.{Fault, told-fault, letterEnd, three-again, four-again, ended-again}
+use Rattle.labels.proofs.FaultyLabels.Fault.{long as too-long, stray, empty, unclosed}
 use Rattle.trees.specs.Tree.{Tree, Forest, cluster}
 use Rattle.trees.specs.Tree.Tree.{leaf, node}
 use Rattle.trees.specs.Tree.Forest.{last, more}
-use Rattle.roster.specs.Roster.{position}
+use Rattle.roster.specs.Roster.{position, byteBefore}
 use Rattle.tokens.specs.Answers.{Answer, andThen, unexpected}
 use Rattle.tokens.specs.Answers.Answer.{parsed, refused}
-use Rattle.tokens.specs.Tokens.{nextIs, nextName, blanks, skip, numeral, number, numberBehind, secondNumber, firstNumber, numbersBy, numbers, name, innerNameBy, innerName}
-use Rattle.nodes.specs.Reading.{openMost, leafNew, leafKnown, leafAt, closing, afterFirst, opened, nodeBy, afterChild, readNode, readForest, complete, ended, readTreeTo, readTree}
-use Rattle.nodes.specs.Meaning.{judgedAtEnd, extra, reach}
-use Rattle.nodes.proofs.Answers.{refused-parsed}
-use Rattle.nodes.proofs.Rests.{tail-drop, skip-drop}
+use Rattle.tokens.specs.Tokens.{blanks, skip, numeral, number, numberBehind, secondNumber, firstNumber, numbersBy, numbers, name, innerNameBy, innerName}
+use Rattle.nodes.specs.Reading.{openMost, leafNew, leafKnown, leafAt, closing, afterFirst, opened, nodeBy, afterChild, readNode, readForest, complete, ended, readTreeTo, readTree, closingBy, readForestBy, readNodeBy, readTreeToBy}
+use Rattle.nodes.specs.Deciding.{bytesOf, borderBy, border, asksBehind, GoesOnAlike}
+use Rattle.nodes.proofs.Answers.{refused-parsed, andThen-parsed, unexpected-parsed}
+use Rattle.nodes.proofs.Rests.{Moves, tail-drop, skip-drop, number-advances, name-moves, leafAt-advances}
 use Rattle.nodes.proofs.Fuel.{never-out}
-use Rattle.nodes.proofs.Spans.{run-take, FirstByte, nextIs-first, nextName-first, unexpected-first, agree-less, numberWith, spanWith, number-with, spanOf, run-le-span, number-long, name-short, name-long, leaf-short, leaf-long}
+use Rattle.nodes.proofs.Spans.{unexpected-first, numberWith, spanWith, number-with, spanOf, run-le-span, number-long, name-ended, name-faulty, leaf-ended, leaf-faulty}
 
--- ---- two texts that agree before the place e; runAt q is the run of letters and digits at the place q of the first
+-- how many bytes, from the one at fault on, decide a refusal by this number; t begins with that byte
+abbrev pub decidingBy : Bool → Bool → List ℕ → ℕ
+decidingBy true twice t = bytesOf (told t)
+decidingBy false true t = 2
+decidingBy false false t = 1
 
-module _ (e : ℕ) (runAt : ℕ → ℕ) where
+abbrev pub deciding : ℕ → List ℕ → ℕ
+deciding number t = decidingBy (eqb number 5 || eqb number 6) (eqb number 4 && nextIs 39 t) t
+
+pub border-deciding : (number : ℕ) (s : List ℕ) (d : ℕ) → border number s d ≡ d + deciding number (drop d s)
+unfolding border
+border-deciding number s d = by (eqb number 5 || eqb number 6) (eqb number 4 && nextIs 39 (drop d s))
+  where
+    by : (name twice : Bool) → borderBy name twice d s ≡ d + decidingBy name twice (drop d s)
+    by true twice = refl
+    by false true = omega arith
+    by false false = omega arith
+
+pub deciding-some : (number : ℕ) (t : List ℕ) → (eqb number 5 || eqb number 6) ≡ false → 1 ≤ deciding number t
+deciding-some number t non = rw non (by (eqb number 4 && nextIs 39 t))
+  where
+    by : (twice : Bool) → 1 ≤ decidingBy false twice t
+    by true = omega arith
+    by false = omega arith
+
+-- a label at fault is decided by a byte at the least
+fault-some : {s : List ℕ} {number d : ℕ} → Fault s number d → (t : List ℕ) → 1 ≤ deciding number t
+fault-some (too-long l) t = deciding-some 4 t refl
+fault-some (stray w b rest split all short non) t = omega arith
+fault-some (empty rest split over) t = omega arith
+fault-some (unclosed w split all short) t = omega arith
+
+-- the byte at the front, by two tests
+front-quote : (t : List ℕ) → nextIs 39 t ≡ true → eqb (getD t 0 0) 39 ≡ true
+unfolding nextIs
+front-quote [] e = absurd (false≢true e)
+front-quote (b ∷ t) e = e
+
+front-bare : (t : List ℕ) → nextBare t ≡ true → isBare (getD t 0 0) ≡ true
+unfolding nextBare
+front-bare [] e = absurd (false≢true e)
+front-bare (b ∷ t) e = e
+
+front-drop : (m : ℕ) (s : List ℕ) → getD (drop m s) 0 0 ≡ getD s m 0
+front-drop m s = getD-drop m s 0 0 ∙ ap (λ (n : ℕ). getD s n 0) (add-zero m)
+
+-- texts that agree so far agree behind their first n bytes
+pub agree-behind : (n m : ℕ) (s s′ : List ℕ) → take (n + m) s ≡ take (n + m) s′ → take m (drop n s) ≡ take m (drop n s′)
+agree-behind n m s s′ h =
+    append-cancel-left (take n s) (take m (drop n s)) (take m (drop n s′))
+    (sym (take-add n m s)
+    ∙ (h ∙ (take-add n m s′ ∙ ap (λ (x : List ℕ). x ++ take m (drop n s′)) (sym (agree-less n (n + m) s s′ (omega arith) h)))))
+
+-- texts that agree in one byte more go on alike
+pub further-alike : (before n : ℕ) (s s′ : List ℕ) → take (suc n) s′ ≡ take (suc n) s → GoesOnAlike before (drop n s′) (drop n s)
+further-alike before n s s′ agree =
+    let first = agree-behind n 1 s s′ (rw add-one (sym agree)) in
+    record {
+      bare = λ is on. nextBare-first (drop n s) (drop n s′) first ∙ on;
+      quote = λ is on. nextIs-first 39 (drop n s) (drop n s′) first ∙ on;
+    }
+
+-- what follows a label in the second text does not go on with it, as it does not in the first
+still-over :
+    (t : Bool) (m : ℕ) (s s′ : List ℕ) → GoesOnAlike (getD s m 0) (drop (suc m) s′) (drop (suc m) s) → goesOnBy t (drop m s) ≡ true
+    → goesOnBy t (drop (suc m) s) ≡ false → goesOnBy t (drop (suc m) s′) ≡ false
+still-over t m s s′ alike final over = by t (goesOnBy t (drop (suc m) s′)) refl final over
+  where
+    by : (t b : Bool) → goesOnBy t (drop (suc m) s′) ≡ b → goesOnBy t (drop m s) ≡ true → goesOnBy t (drop (suc m) s) ≡ false → b ≡ false
+    by t false on final over = refl
+    by true true on final over =
+        absurd (false≢true (sym over ∙ alike .quote (ap (λ (b : ℕ). eqb b 39) (sym (front-drop m s)) ∙ front-quote (drop m s) final) on))
+    by false true on final over = absurd (false≢true (sym over ∙ alike .bare (ap isBare (sym (front-drop m s)) ∙ front-bare (drop m s) final) on))
+
+-- a label that ends is the same in a second text that has its bytes and goes on alike behind them
+pub label-again :
+    (n : ℕ) (s s′ : List ℕ) → nextLabel s ≡ true → told s ≡ endsAt n → take n s′ ≡ take n s → GoesOnAlike (byteBefore s n) (drop n s′) (drop n s)
+    → (told s′ ≡ endsAt n) × (letters s′ ≡ letters s)
+label-again zero s s′ begins is agree alike = absurd (omega (arith, told-sound s 0 begins is .some))
+label-again (suc m) s s′ begins is agree alike =
+    ended-again s s′ (suc m) begins is agree (still-over (nextIs 39 s) m s s′ alike (label-last s m is) (told-sound s (suc m) begins is .whole .over))
+
+-- ---- two texts that agree before the place e: textAt q is the first from the place q on, before the byte before e in it; behind is the second from e on,
+-- and goes on alike with a label there, where that is asked
+
+module _ (e : ℕ) (textAt : ℕ → List ℕ) (before : ℕ) (behind : List ℕ) (Asked : Type 0) (alike : Asked → GoesOnAlike before behind (textAt e)) where
   -- s stands at place p of the first text
-  abbrev At : ℕ → List ℕ → Type 0
-  At p s = (n : ℕ) → runAt (p + n) ≡ run isName (drop n s)
+  record At (p : ℕ) (s : List ℕ) : Type 0 where
+    text : (n : ℕ) → textAt (p + n) ≡ drop n s
+    final : (m : ℕ) → p + suc m ≡ e → getD s m 0 ≡ before
 
   -- s and s′, both at place p, agree before the place e
-  abbrev Agree : ℕ → List ℕ → List ℕ → Type 0
-  Agree p s s′ = (m : ℕ) → p + m ≤ e → take m s ≡ take m s′
+  record Agree (p : ℕ) (s s′ : List ℕ) : Type 0 where
+    front : (m : ℕ) → p + m ≤ e → take m s ≡ take m s′
+    rest : (m : ℕ) → p + m ≡ e → drop m s′ ≡ behind
 
-  -- an answer that is decided before the place e: after a reading, the next byte that is no blank stands before it
+  -- an answer that is decided before the place e: after a reading, the next byte that is no blank stands before it;
+  -- of a refusal, the bytes that decide it do, and what it asks behind them is asked
   abbrev Early : {A : Type 0} → Answer A → Type 0
   Early (parsed a s q) = q + blanks s < e
-  Early (refused k q) = (q + extra (judgedAtEnd k) (runAt q) < e) × (3 ≤ k) × (k ≤ 9)
+  Early (refused k q) = (q + deciding k (textAt q) ≤ e) × (3 ≤ k) × (k ≤ 9) × (asksBehind k (textAt q) ≡ true → Asked)
+
+  -- a label that ends at q has ended: before the place e, or there where that is asked
+  abbrev Over : ℕ → Type 0
+  Over q = (q ≤ e) × (q ≡ e → Asked)
 
   -- the same answer on both texts
   data Same {A : Type 0} : Answer A → Answer A → Type 0 where
@@ -49,75 +147,85 @@ module _ (e : ℕ) (runAt : ℕ → ℕ) where
     stays : {k q : ℕ} → Same (refused k q) (refused k q)
 
   at-drop : (n p : ℕ) (s : List ℕ) → At p s → At (p + n) (drop n s)
-  at-drop n p s h m = rw add-assoc (h (n + m) ∙ ap (run isName) (sym (drop-drop m n s)))
+  at-drop n p s h = record {
+    text = λ m. rw add-assoc (h .text (n + m) ∙ sym (drop-drop m n s));
+    final = λ m l. getD-drop n s m 0 ∙ h .final (n + m) (omega arith);
+  }
 
   agree-drop : (n p : ℕ) (s s′ : List ℕ) → Agree p s s′ → Agree (p + n) (drop n s) (drop n s′)
-  agree-drop n p s s′ h m l =
-      append-cancel-left (take n s) (take m (drop n s)) (take m (drop n s′))
-      (sym (take-add n m s) ∙ (h (n + m) (omega arith) ∙ (take-add n m s′ ∙ ap (λ (x : List ℕ). x ++ take m (drop n s′)) (sym (h n (omega arith))))))
+  agree-drop n p s s′ h = record {
+    front = λ m l. agree-behind n m s s′ (h .front (n + m) (omega arith));
+    rest = λ m l. drop-drop m n s′ ∙ h .rest (n + m) (omega arith);
+  }
 
   agree-run : (test : ℕ → Bool) (m p : ℕ) (s s′ : List ℕ) → Agree p s s′ → p + m ≤ e → min m (run test s) ≡ min m (run test s′)
-  agree-run test m p s s′ h l = sym (run-take test m s) ∙ (ap (run test) (h m l) ∙ run-take test m s′)
+  agree-run test m p s s′ h l = sym (run-take test m s) ∙ (ap (run test) (h .front m l) ∙ run-take test m s′)
 
   same-run : (test : ℕ → Bool) (p : ℕ) (s s′ : List ℕ) → Agree p s s′ → p + run test s < e → run test s′ ≡ run test s
   same-run test p s s′ h l = omega (arith, agree-run test (suc (run test s)) p s s′ h (omega arith))
 
-  same-word : (p : ℕ) (s s′ : List ℕ) → Agree p s s′ → p + run isName s < e → word s′ ≡ word s
-  unfolding word
-  same-word p s s′ h l = rw (same-run isName p s s′ h l, ← h (run isName s) (omega arith)) refl
-
   -- a piece of reading whose answer is never decided before the byte at hand, or before the next that is no blank
   abbrev Here : {A : Type 0} → (List ℕ → ℕ → Answer A) → Type 0
-  Here f = (s : List ℕ) (p : ℕ) → Early (f s p) → p < e
+  Here f = (s : List ℕ) (p : ℕ) → At p s → Early (f s p) → p < e
 
   abbrev Past : {A : Type 0} → (List ℕ → ℕ → Answer A) → Type 0
-  Past f = (s : List ℕ) (p : ℕ) → Early (f s p) → p + blanks s < e
+  Past f = (s : List ℕ) (p : ℕ) → At p s → Early (f s p) → p + blanks s < e
 
-  -- and that answers the same on both texts, once it is decided
+  -- that answers the same on both texts, once it is decided
   abbrev Steady : {A : Type 0} → (List ℕ → ℕ → Answer A) → Type 0
   Steady f = (s s′ : List ℕ) (p : ℕ) → At p s → Agree p s s′ → Early (f s p) → Same (f s p) (f s′ p)
+
+  -- and that leaves what stands at its place
+  abbrev Keeps : {A : Type 0} → (List ℕ → ℕ → Answer A) → Type 0
+  Keeps {A} f = (s : List ℕ) (p : ℕ) → At p s → (x : A) (t : List ℕ) (q : ℕ) → f s p ≡ parsed x t q → At q t
 
   record Ready {A : Type 0} (f : List ℕ → ℕ → Answer A) : Type 0 where
     here : Here f
     steady : Steady f
+    keeps : Keeps f
 
   record Local {A : Type 0} (f : List ℕ → ℕ → Answer A) : Type 0 where
     past : Past f
     steady : Steady f
+    keeps : Keeps f
+
+  keeps-moved : {s t : List ℕ} {p q : ℕ} → Moves s p t q → At p s → At q t
+  keeps-moved {s} {t} {p} {q} m at = rw (m .left, m .place) (at-drop (m .count) p s at)
 
   local-parsed : {A : Type 0} (a : A) → Local (λ s p. parsed a s p)
-  local-parsed a = record { past = λ s p l. l; steady = λ s s′ p at agree l. read at agree }
-
-  then-past : {A B : Type 0} (f : List ℕ → ℕ → Answer A) (next : A → List ℕ → ℕ → Answer B) → Past f → ((a : A) → Local (next a)) → Past (λ s p. andThen (f s p) next)
-  then-past {A} f next pf ln s p h = pf s p (go (f s p) h)
-    where
-      go : (r : Answer A) → Early (andThen r next) → Early r
-      go (parsed a t q) h = ln a .past t q h
-      go (refused k q) h = h
-
-  then-same : {A B : Type 0} (next : A → List ℕ → ℕ → Answer B) → ((a : A) → Local (next a)) → (r r′ : Answer A) → (Early r → Same r r′)
-      → Early (andThen r next) → Same (andThen r next) (andThen r′ next)
-  then-same {A} next ln (parsed a t q) r′ same h = go (same (ln a .past t q h)) h
-    where
-      go : {r′ : Answer A} → Same (parsed a t q) r′ → Early (next a t q) → Same (next a t q) (andThen r′ next)
-      go (read {s = s} {s′ = s′} at agree) h = ln a .steady s s′ q at agree h
-  then-same {A} next ln (refused k q) r′ same h = go (same h)
-    where
-      go : {r′ : Answer A} → Same (refused k q) r′ → Same (refused k q) (andThen r′ next)
-      go stays = stays
-
-  local-then : {A B : Type 0} (f : List ℕ → ℕ → Answer A) (next : A → List ℕ → ℕ → Answer B) → Local f → ((a : A) → Local (next a)) → Local (λ s p. andThen (f s p) next)
-  local-then f next lf ln = record {
-    past = then-past f next (lf .past) ln;
-    steady = λ s s′ p at agree h. then-same next ln (f s p) (f s′ p) (lf .steady s s′ p at agree) h;
+  local-parsed a = record {
+    past = λ s p at l. l;
+    steady = λ s s′ p at agree l. read at agree;
+    keeps = λ s p at x t q h. let f : s ≡ t = cc in let g : p ≡ q = cc in rw (← f, ← g) at;
   }
 
+  module _ {A B : Type 0} (f : List ℕ → ℕ → Answer A) (next : A → List ℕ → ℕ → Answer B) (lf : Local f) (ln : (a : A) → Local (next a)) where
+    then-early : (s : List ℕ) (p : ℕ) → At p s → (r : Answer A) → f s p ≡ r → Early (andThen r next) → Early r
+    then-early s p at (parsed a t q) is h = ln a .past t q (lf .keeps s p at a t q is) h
+    then-early s p at (refused k q) is h = h
+
+    then-same : (r r′ : Answer A) → Same r r′ → Early (andThen r next) → Same (andThen r next) (andThen r′ next)
+    then-same r r′ (read {a = a} {s = s} {s′ = s′} {q = q} at agree) h = ln a .steady s s′ q at agree h
+    then-same r r′ stays h = stays
+
+    local-then : Local (λ s p. andThen (f s p) next)
+    local-then = record {
+      past = λ s p at h. lf .past s p at (then-early s p at (f s p) refl h);
+      steady = λ s s′ p at agree h. then-same (f s p) (f s′ p) (lf .steady s s′ p at agree (then-early s p at (f s p) refl h)) h;
+      keeps = λ s p at x t q h.
+          let r = andThen-parsed (f s p) next h in
+          ln (r .value) .keeps (r .left) (r .place) (lf .keeps s p at (r .value) (r .left) (r .place) (r .first)) x t q (r .after);
+    }
+
   -- one byte further, behind blanks, or both
+  at-tail : (p : ℕ) (s : List ℕ) → At p s → At (p + 1) (tail s)
+  at-tail p s at = rw (tail-drop 0 s) (at-drop 1 p s at)
+
   ready-tail : {A : Type 0} (f : List ℕ → ℕ → Answer A) → Local f → Ready (λ s p. f (tail s) (p + 1))
   ready-tail f lf = record {
-    here = λ s p h. omega (arith, lf .past (tail s) (p + 1) h);
-    steady = λ s s′ p at agree h. lf .steady (tail s) (tail s′) (p + 1)
-        (rw (tail-drop 0 s) (at-drop 1 p s at)) (rw (tail-drop 0 s, tail-drop 0 s′) (agree-drop 1 p s s′ agree)) h;
+    here = λ s p at h. omega (arith, lf .past (tail s) (p + 1) (at-tail p s at) h);
+    steady = λ s s′ p at agree h. lf .steady (tail s) (tail s′) (p + 1) (at-tail p s at) (rw (tail-drop 0 s, tail-drop 0 s′) (agree-drop 1 p s s′ agree)) h;
+    keeps = λ s p at x t q h. lf .keeps (tail s) (p + 1) (at-tail p s at) x t q h;
   }
 
   same-blanks : (p : ℕ) (s s′ : List ℕ) → Agree p s s′ → p + blanks s < e → blanks s′ ≡ blanks s
@@ -135,37 +243,61 @@ module _ (e : ℕ) (runAt : ℕ → ℕ) where
 
   local-skip : {A : Type 0} (f : List ℕ → ℕ → Answer A) → Ready f → Local (λ s p. f (skip s) (p + blanks s))
   local-skip f rf = record {
-    past = λ s p h. rf .here (skip s) (p + blanks s) h;
+    past = λ s p at h. rf .here (skip s) (p + blanks s) (at-skip p s at) h;
     steady = λ s s′ p at agree h.
-        let l = rf .here (skip s) (p + blanks s) h in
+        let l = rf .here (skip s) (p + blanks s) (at-skip p s at) h in
         let b = same-blanks p s s′ agree l in
         rw b (rf .steady (skip s) (skip s′) (p + blanks s) (at-skip p s at) (agree-skip p s s′ agree l) h);
+    keeps = λ s p at x t q h. rf .keeps (skip s) (p + blanks s) (at-skip p s at) x t q h;
   }
 
   local-behind : {A : Type 0} (f : List ℕ → ℕ → Answer A) → Local f → Local (λ s p. f (tail (skip s)) (p + blanks s + 1))
   local-behind f lf = local-skip (λ s p. f (tail s) (p + 1)) (ready-tail f lf)
 
-  -- by the byte at hand, or the next that is no blank
-  ready-by : {A : Type 0} (test : List ℕ → Bool) (f : Bool → List ℕ → ℕ → Answer A) → FirstByte test → ((b : Bool) → Ready (f b)) → Ready (λ s p. f (test s) s p)
-  ready-by test f first rf = record {
-    here = λ s p h. rf (test s) .here s p h;
-    steady = λ s s′ p at agree h.
-        let l = rf (test s) .here s p h in
-        let t : test s ≡ test s′ = first s s′ (agree 1 (omega arith)) in
-        rw (← t) (rf (test s) .steady s s′ p at agree h);
+  -- by the byte at hand, of which a piece of reading may know what the test says, or by the next that is no blank
+  record ReadyWhere {A : Type 0} (test : List ℕ → Bool) (b : Bool) (f : List ℕ → ℕ → Answer A) : Type 0 where
+    here : (s : List ℕ) (p : ℕ) → test s ≡ b → At p s → Early (f s p) → p < e
+    steady : (s s′ : List ℕ) (p : ℕ) → test s ≡ b → At p s → Agree p s s′ → Early (f s p) → Same (f s p) (f s′ p)
+    keeps : (s : List ℕ) (p : ℕ) → test s ≡ b → At p s → (x : A) (t : List ℕ) (q : ℕ) → f s p ≡ parsed x t q → At q t
+
+  anyway : {A : Type 0} (test : List ℕ → Bool) (b : Bool) (f : List ℕ → ℕ → Answer A) → Ready f → ReadyWhere test b f
+  anyway test b f rf = record {
+    here = λ s p is at h. rf .here s p at h;
+    steady = λ s s′ p is at agree h. rf .steady s s′ p at agree h;
+    keeps = λ s p is at x t q h. rf .keeps s p at x t q h;
   }
+
+  ready-where : {A : Type 0} (test : List ℕ → Bool) (f : Bool → List ℕ → ℕ → Answer A) → FirstByte test → ((b : Bool) → ReadyWhere test b (f b))
+      → Ready (λ s p. f (test s) s p)
+  ready-where test f first rf = record {
+    here = λ s p at h. rf (test s) .here s p refl at h;
+    steady = λ s s′ p at agree h.
+        let l = rf (test s) .here s p refl at h in
+        let t : test s ≡ test s′ = first s s′ (agree .front 1 (omega arith)) in
+        rw (← t) (rf (test s) .steady s s′ p refl at agree h);
+    keeps = λ s p at x t q h. rf (test s) .keeps s p refl at x t q h;
+  }
+
+  ready-by : {A : Type 0} (test : List ℕ → Bool) (f : Bool → List ℕ → ℕ → Answer A) → FirstByte test → ((b : Bool) → Ready (f b)) → Ready (λ s p. f (test s) s p)
+  ready-by test f first rf = ready-where test f first (λ b. anyway test b (f b) (rf b))
 
   local-by : {A : Type 0} (test : List ℕ → Bool) (f : Bool → List ℕ → ℕ → Answer A) → FirstByte test → ((b : Bool) → Local (f b)) → Local (λ s p. f (test (skip s)) s p)
   local-by test f first lf = record {
-    past = λ s p h. lf (test (skip s)) .past s p h;
+    past = λ s p at h. lf (test (skip s)) .past s p at h;
     steady = λ s s′ p at agree h.
-        let l = lf (test (skip s)) .past s p h in
-        let t : test (skip s) ≡ test (skip s′) = first (skip s) (skip s′) (agree-skip p s s′ agree l 1 (omega arith)) in
+        let l = lf (test (skip s)) .past s p at h in
+        let t : test (skip s) ≡ test (skip s′) = first (skip s) (skip s′) (agree-skip p s s′ agree l .front 1 (omega arith)) in
         rw (← t) (lf (test (skip s)) .steady s s′ p at agree h);
+    keeps = λ s p at x t q h. lf (test (skip s)) .keeps s p at x t q h;
   }
 
-  ready-refused : {A : Type 0} (k : ℕ) → Ready {A = A} (λ s p. refused k p)
-  ready-refused k = record { here = λ s p h. omega arith; steady = λ s s′ p at agree h. stays }
+  -- a refusal that the byte at hand decides
+  ready-refused : {A : Type 0} (k : ℕ) → (eqb k 5 || eqb k 6) ≡ false → Ready {A = A} (λ s p. refused k p)
+  ready-refused k non = record {
+    here = λ s p at h. omega (arith, deciding-some k (textAt p) non);
+    steady = λ s s′ p at agree h. stays;
+    keeps = λ s p at x t q h. absurd (refused-parsed h);
+  }
 
   unexpected-here : (A : Type 0) (s : List ℕ) (p : ℕ) → Early {A = A} (unexpected s p) → p < e
   unexpected-here A [] p h = omega arith
@@ -176,12 +308,13 @@ module _ (e : ℕ) (runAt : ℕ → ℕ) where
   same-refl (b ∷ s) p = stays
 
   unexpected-same : {A : Type 0} (s s′ : List ℕ) (p : ℕ) → Agree p s s′ → p < e → Same {A = A} (unexpected s p) (unexpected s′ p)
-  unexpected-same {A} s s′ p agree l = rw (← unexpected-first {A = A} s s′ p (agree 1 (omega arith))) (same-refl s p)
+  unexpected-same {A} s s′ p agree l = rw (← unexpected-first {A = A} s s′ p (agree .front 1 (omega arith))) (same-refl s p)
 
   ready-unexpected : {A : Type 0} → Ready {A = A} (λ s p. unexpected s p)
   ready-unexpected {A} = record {
-    here = λ s p h. unexpected-here A s p h;
+    here = λ s p at h. unexpected-here A s p h;
     steady = λ s s′ p at agree h. unexpected-same s s′ p agree (unexpected-here A s p h);
+    keeps = λ s p at x t q h. absurd (unexpected-parsed s p h);
   }
 
   -- ---- numbers
@@ -191,7 +324,7 @@ module _ (e : ℕ) (runAt : ℕ → ℕ) where
 
   numeral-same : (c : ℕ) (s s′ : List ℕ) (p : ℕ) → At p s → Agree p s s′ → p + c < e → c ≤ 12 → Same (numeral c s p) (numeral c s′ p)
   numeral-same c s s′ p at agree l fits =
-      rw (le-leb c 12 fits, ← agree c (omega arith)) (read (at-drop c p s at) (agree-drop c p s s′ agree))
+      rw (le-leb c 12 fits, ← agree .front c (omega arith)) (read (at-drop c p s at) (agree-drop c p s s′ agree))
 
   with-late : (d : ℕ) (b : Bool) (f : ℕ) (s : List ℕ) (p : ℕ) → spanWith d b f ≤ 12 → Early (numberWith d b f s p) → p + spanWith d b f < e
   unfolding numberWith spanWith
@@ -213,7 +346,7 @@ module _ (e : ℕ) (runAt : ℕ → ℕ) where
   with-same (suc d) true (suc f) s s′ p fits l at agree = numeral-same (suc d + 1 + suc f) s s′ p at agree l fits
 
   point-same : (d p : ℕ) (s s′ : List ℕ) → Agree p s s′ → p + d < e → nextIs 46 (drop d s) ≡ nextIs 46 (drop d s′)
-  point-same d p s s′ agree l = nextIs-first 46 (drop d s) (drop d s′) (agree-drop d p s s′ agree 1 (omega arith))
+  point-same d p s s′ agree l = nextIs-first 46 (drop d s) (drop d s′) (agree-drop d p s s′ agree .front 1 (omega arith))
 
   -- the counts of a number that ends before the place e are the same in both texts
   fraction-again : (d : ℕ) (b : Bool) (s s′ : List ℕ) (p : ℕ) → Agree p s s′ → p + spanWith d b (run isDigit (drop (d + 1) s)) < e
@@ -262,12 +395,15 @@ module _ (e : ℕ) (runAt : ℕ → ℕ) where
       (with-same (run isDigit s) (nextIs 46 (drop (run isDigit s) s)) (run isDigit (drop (run isDigit s + 1) s)) s s′ p fits l at agree)
 
   long-late : (s : List ℕ) (p : ℕ) → 12 < spanOf s → Early (number s p) → p + 12 < e
-  long-late s p long h = let k : Early {A = List ℕ} (refused 4 (p + 12)) = rw (number-long s p long) at h in omega arith
+  long-late s p long h =
+      let k : Early {A = List ℕ} (refused 4 (p + 12)) = rw (number-long s p long) at h in
+      omega (arith, k .0, deciding-some 4 (textAt (p + 12)) refl)
 
   ready-number : Ready number
   ready-number = record {
-    here = λ s p h. here s p h (decLe (spanOf s) 12);
+    here = λ s p at h. here s p h (decLe (spanOf s) 12);
     steady = λ s s′ p at agree h. steady s s′ p at agree h (decLe (spanOf s) 12);
+    keeps = λ s p at x t q h. keeps-moved (number-advances s p h .moves) at;
   }
     where
       here : (s : List ℕ) (p : ℕ) → Early (number s p) → Dec (spanOf s ≤ 12) → p < e
@@ -312,40 +448,86 @@ module _ (e : ℕ) (runAt : ℕ → ℕ) where
 
   -- ---- names
 
-  name-late : (s : List ℕ) (p : ℕ) → 15 < run isName s → Early (name s p) → p + 15 < e
-  name-late s p long h = let k : Early {A = List ℕ} (refused 4 (p + 15)) = rw (name-long s p long) at h in omega arith
+  -- behind a byte before the place e, or there where that is asked, the second text goes on alike
+  alike-behind : (m p : ℕ) (s s′ : List ℕ) → At p s → Agree p s s′ → Over (p + suc m) → GoesOnAlike (getD s m 0) (drop (suc m) s′) (drop (suc m) s)
+  alike-behind m p s s′ at agree over = by (decLt (p + suc m) e)
+    where
+      by : Dec (p + suc m < e) → GoesOnAlike (getD s m 0) (drop (suc m) s′) (drop (suc m) s)
+      by (yes k) = further-alike (getD s m 0) (suc m) s s′ (sym (agree .front (suc (suc m)) (omega arith)))
+      by (no k) =
+          let l : p + suc m ≡ e = omega (arith, over .0) in
+          let there : textAt e ≡ drop (suc m) s = ap textAt (sym l) ∙ at .text (suc m) in
+          rw (at .final m l, agree .rest (suc m) l, ← there) (alike (over .1 l))
 
-  name-here : (s : List ℕ) (p : ℕ) → run isName s ≤ 15 → Early (name s p) → p + run isName s < e
-  name-here s p fits h =
-      let k : Early (parsed (word s) (drop (run isName s) s) (p + run isName s)) = rw (name-short s p fits) at h in
-      omega arith
+  -- a label that has ended is the same in both
+  label-same : (n p : ℕ) (s s′ : List ℕ) → At p s → Agree p s s′ → nextLabel s ≡ true → told s ≡ endsAt n → Over (p + n)
+      → (told s′ ≡ endsAt n) × (letters s′ ≡ letters s)
+  label-same zero p s s′ at agree begins is over = absurd (omega (arith, told-sound s 0 begins is .some))
+  label-same (suc m) p s s′ at agree begins is over =
+      label-again (suc m) s s′ begins is (sym (agree .front (suc m) (over .0))) (alike-behind m p s s′ at agree over)
 
-  name-same : (s s′ : List ℕ) (p : ℕ) → At p s → Agree p s s′ → run isName s ≤ 15 → p + run isName s < e → Same (name s p) (name s′ p)
-  unfolding word
-  name-same s s′ p at agree fits l =
-      let r = same-run isName p s s′ agree l in
-      let short : run isName s′ ≤ 15 = omega arith in
-      rw (name-short s p fits, name-short s′ p short, r, ← agree (run isName s) (omega arith))
-      (read (at-drop (run isName s) p s at) (agree-drop (run isName s) p s s′ agree))
+  -- and where none begins, none does
+  none-same : (n p : ℕ) (s s′ : List ℕ) → Agree p s s′ → nextLabel s ≡ false → told s ≡ endsAt n → p < e → (told s′ ≡ endsAt n) × (letters s′ ≡ letters s)
+  none-same n p s s′ agree non is l =
+      let non′ : nextLabel s′ ≡ false = nextLabel-first s′ s (sym (agree .front 1 (omega arith))) ∙ non in
+      (told-none s′ non′ ∙ (sym (told-none s non) ∙ is), letters-none s′ non′ ∙ sym (letters-none s non))
 
-  long-same : (s s′ : List ℕ) (p : ℕ) → Agree p s s′ → 15 < run isName s → p + 15 < e → Same (name s p) (name s′ p)
-  long-same s s′ p agree long l =
-      let far : 15 < run isName s′ = omega (arith, agree-run isName 16 p s s′ agree (omega arith)) in
-      rw (name-long s p long, name-long s′ p far) stays
+  -- a label at fault that is decided before the place e is at fault alike in the second text
+  three-same : (d p : ℕ) (s s′ : List ℕ) → At p s → Agree p s s′ → told s ≡ faulty 3 d → p + suc d ≤ e
+      → (asksBehind 3 (textAt (p + d)) ≡ true → Asked) → told s′ ≡ faulty 3 d
+  three-same d p s s′ at agree is l asked =
+      three-again s s′ d is (sym (agree .front (suc d) l))
+      (λ quote on. alike-behind d p s s′ at agree (l, λ there. asked (ap (nextIs 39) (at .text d) ∙ quote))
+      .quote (ap (λ (b : ℕ). eqb b 39) (sym (front-drop d s)) ∙ front-quote (drop d s) quote) on)
+
+  four-same : (d p : ℕ) (s s′ : List ℕ) → At p s → Agree p s s′ → told s ≡ faulty 4 d → p + d + deciding 4 (textAt (p + d)) ≤ e → told s′ ≡ faulty 4 d
+  four-same d p s s′ at agree is l = four-again s s′ d is (sym (agree .front (letterEnd (nextIs 39 (drop d s)) d) (by (nextIs 39 (drop d s)) (rw (at .text d) at l))))
+    where
+      by : (t : Bool) → p + d + decidingBy false t (drop d s) ≤ e → p + letterEnd t d ≤ e
+      by true l = omega arith
+      by false l = omega arith
+
+  fault-same : (number d p : ℕ) (s s′ : List ℕ) → At p s → Agree p s s′ → told s ≡ faulty number d → Early {A = List ℕ} (refused number (p + d))
+      → told s′ ≡ faulty number d
+  fault-same number d p s s′ at agree is h = by (told-fault s number d is) is h
+    where
+      by : {number d : ℕ} → Fault s number d → told s ≡ faulty number d → Early {A = List ℕ} (refused number (p + d)) → told s′ ≡ faulty number d
+      by (too-long l) is h = four-same _ p s s′ at agree is (h .0)
+      by (stray w b rest split all short non) is h = three-same _ p s s′ at agree is (omega arith) (h .3)
+      by (empty rest split over) is h = three-same _ p s s′ at agree is (omega arith) (h .3)
+      by (unclosed w split all short) is h = absurd (omega arith)
+
+  fault-here : (number d p : ℕ) (s : List ℕ) → told s ≡ faulty number d → Early {A = List ℕ} (refused number (p + d)) → p < e
+  fault-here number d p s is h = omega (arith, h .0, fault-some (told-fault s number d is) (textAt (p + d)))
+
+  ended-same : (n p : ℕ) (s s′ : List ℕ) → At p s → Agree p s s′ → told s ≡ endsAt n → p + n < e → (told s′ ≡ endsAt n) × (letters s′ ≡ letters s)
+  ended-same n p s s′ at agree is l = by (nextLabel s) refl
+    where
+      by : (t : Bool) → nextLabel s ≡ t → (told s′ ≡ endsAt n) × (letters s′ ≡ letters s)
+      by true begins = label-same n p s s′ at agree begins is (omega arith, λ there. absurd (omega arith))
+      by false non = none-same n p s s′ agree non is (omega arith)
 
   ready-name : Ready name
   ready-name = record {
-    here = λ s p h. here s p h (decLe (run isName s) 15);
-    steady = λ s s′ p at agree h. steady s s′ p at agree h (decLe (run isName s) 15);
+    here = λ s p at h. here s p (told s) refl h;
+    steady = λ s s′ p at agree h. steady s s′ p at agree (told s) refl h;
+    keeps = λ s p at x t q h. keeps-moved (name-moves s p h) at;
   }
     where
-      here : (s : List ℕ) (p : ℕ) → Early (name s p) → Dec (run isName s ≤ 15) → p < e
-      here s p h (yes fits) = omega (arith, name-here s p fits h)
-      here s p h (no long) = omega (arith, name-late s p (omega arith) h)
+      ended-here : (s : List ℕ) (p n : ℕ) → told s ≡ endsAt n → Early (name s p) → p + n < e
+      ended-here s p n is h = let k : Early (parsed (letters s) (drop n s) (p + n)) = rw (name-ended s p n is) at h in omega arith
 
-      steady : (s s′ : List ℕ) (p : ℕ) → At p s → Agree p s s′ → Early (name s p) → Dec (run isName s ≤ 15) → Same (name s p) (name s′ p)
-      steady s s′ p at agree h (yes fits) = name-same s s′ p at agree fits (name-here s p fits h)
-      steady s s′ p at agree h (no long) = long-same s s′ p agree (omega arith) (name-late s p (omega arith) h)
+      here : (s : List ℕ) (p : ℕ) (t : Told) → told s ≡ t → Early (name s p) → p < e
+      here s p (endsAt n) is h = omega (arith, ended-here s p n is h)
+      here s p (faulty number d) is h = fault-here number d p s is (rw (name-faulty s p number d is) at h)
+
+      steady : (s s′ : List ℕ) (p : ℕ) → At p s → Agree p s s′ → (t : Told) → told s ≡ t → Early (name s p) → Same (name s p) (name s′ p)
+      steady s s′ p at agree (endsAt n) is h =
+          let same = ended-same n p s s′ at agree is (ended-here s p n is h) in
+          rw (name-ended s p n is, name-ended s′ p n (same .0), same .1) (read (at-drop n p s at) (agree-drop n p s s′ agree))
+      steady s s′ p at agree (faulty number d) is h =
+          let same = fault-same number d p s s′ at agree is (rw (name-faulty s p number d is) at h) in
+          rw (name-faulty s p number d is, name-faulty s′ p number d same) stays
 
   local-innerNameBy : (b : Bool) → Local (λ s p. innerNameBy b s p)
   local-innerNameBy false = local-parsed []
@@ -353,10 +535,10 @@ module _ (e : ℕ) (runAt : ℕ → ℕ) where
 
   local-innerName : Local innerName
   unfolding innerName
-  local-innerName = local-by nextName (λ b s p. innerNameBy b s p) nextName-first local-innerNameBy
+  local-innerName = local-by nextLabel (λ b s p. innerNameBy b s p) nextLabel-first local-innerNameBy
 
   local-closing : (t : Tree) (f : Forest) → Local (closing t f)
-  unfolding closing
+  unfolding closingBy
   local-closing t f =
       local-then innerName (λ w s p. andThen (numbers w s p) (λ b s p. parsed (node t f b) s p)) local-innerName
       (λ w. local-then (numbers w) (λ b s p. parsed (node t f b) s p) (local-numbers w) (λ b. local-parsed (node t f b)))
@@ -366,22 +548,15 @@ module _ (e : ℕ) (runAt : ℕ → ℕ) where
   local-leaf : (i : ℕ) → Local (λ s p. andThen (numbers [] s p) (λ b s p. parsed (leaf i b) s p))
   local-leaf i = local-then (numbers []) (λ b s p. parsed (leaf i b) s p) (local-numbers []) (λ b. local-parsed (leaf i b))
 
-  -- begun is the place of a run that ends before q
-  known-late : (b : Bool) (i seen begun : ℕ) (s : List ℕ) (q : ℕ) → begun + runAt begun ≡ q → Early (leafKnown b i seen begun s q) → q < e
-  known-late false i seen begun s q ends h = omega arith
-  known-late true i seen begun s q ends h = go (apart (single i) seen) h
+  -- begun is the place of a label of n bytes that ends at q
+  known-over : (b : Bool) (i seen begun n : ℕ) (s : List ℕ) (q : ℕ) → bytesOf (told (textAt begun)) ≡ n → begun + n ≡ q → At q s
+      → Early (leafKnown b i seen begun s q) → Over q
+  known-over false i seen begun n s q width ends at h = (omega arith, λ there. h .3 refl)
+  known-over true i seen begun n s q width ends at h = go (apart (single i) seen) h
     where
-      go : (b : Bool) → Early (leafNew b i begun s q) → q < e
-      go false h = omega arith
-      go true h = omega (arith, local-leaf i .past s q h)
-
-  known-here : (b : Bool) (i seen begun : ℕ) (s : List ℕ) (q : ℕ) → begun ≤ q → Early (leafKnown b i seen begun s q) → begun < e
-  known-here false i seen begun s q after h = omega arith
-  known-here true i seen begun s q after h = go (apart (single i) seen) h
-    where
-      go : (b : Bool) → Early (leafNew b i begun s q) → begun < e
-      go false h = omega arith
-      go true h = omega (arith, local-leaf i .past s q h)
+      go : (b : Bool) → Early (leafNew b i begun s q) → Over q
+      go false h = (omega arith, λ there. h .3 refl)
+      go true h = let l = local-leaf i .past s q at h in (omega arith, λ there. absurd (omega arith))
 
   known-same : (b : Bool) (i seen begun : ℕ) (s s′ : List ℕ) (q : ℕ) → At q s → Agree q s s′
       → Early (leafKnown b i seen begun s q) → Same (leafKnown b i seen begun s q) (leafKnown b i seen begun s′ q)
@@ -393,46 +568,36 @@ module _ (e : ℕ) (runAt : ℕ → ℕ) where
       go true h = local-leaf i .steady s s′ q at agree h
 
   module _ (names : List (List ℕ)) where
-    leaf-late : (seen : ℕ) (s : List ℕ) (p : ℕ) → At p s → run isName s ≤ 15 → Early (leafAt names seen s p) → p + run isName s < e
-    leaf-late seen s p at fits h =
-        let r : runAt p ≡ run isName s = rw add-zero at (at 0) in
-        known-late (ltb (position (word s) names) (length names)) (position (word s) names) seen p (drop (run isName s) s) (p + run isName s) (ap (λ (x : ℕ). p + x) r)
-        (rw (leaf-short names seen s p fits) at h)
+    leaf-over : (seen : ℕ) (s : List ℕ) (p n : ℕ) → At p s → told s ≡ endsAt n → Early (leafAt names seen s p) → Over (p + n)
+    leaf-over seen s p n at is h =
+        let text : textAt p ≡ s = rw add-zero at (at .text 0) in
+        known-over (ltb (position (letters s) names) (length names)) (position (letters s) names) seen p n (drop n s) (p + n)
+        (ap (λ (l : List ℕ). bytesOf (told l)) text ∙ ap bytesOf is) refl (at-drop n p s at) (rw (leaf-ended s p names seen n is) at h)
 
-    leaf-same : (seen : ℕ) (s s′ : List ℕ) (p : ℕ) → At p s → Agree p s s′ → run isName s ≤ 15 → Early (leafAt names seen s p)
+    leaf-same : (seen : ℕ) (s s′ : List ℕ) (p n : ℕ) → At p s → Agree p s s′ → nextLabel s ≡ true → told s ≡ endsAt n → Early (leafAt names seen s p)
         → Same (leafAt names seen s p) (leafAt names seen s′ p)
-    leaf-same seen s s′ p at agree fits h =
-        let l = leaf-late seen s p at fits h in
-        let r : run isName s′ ≡ run isName s = same-run isName p s s′ agree l in
-        let short : run isName s′ ≤ 15 = omega arith in
-        let w : word s′ ≡ word s = same-word p s s′ agree l in
-        rw (leaf-short names seen s p fits, leaf-short names seen s′ p short, r, w)
-        (known-same (ltb (position (word s) names) (length names)) (position (word s) names) seen p (drop (run isName s) s) (drop (run isName s) s′)
-        (p + run isName s) (at-drop (run isName s) p s at) (agree-drop (run isName s) p s s′ agree) (rw (leaf-short names seen s p fits) at h))
+    leaf-same seen s s′ p n at agree begins is h =
+        let same = label-same n p s s′ at agree begins is (leaf-over seen s p n at is h) in
+        rw (leaf-ended s p names seen n is, leaf-ended s′ p names seen n (same .0), same .1)
+        (known-same (ltb (position (letters s) names) (length names)) (position (letters s) names) seen p (drop n s) (drop n s′) (p + n)
+        (at-drop n p s at) (agree-drop n p s s′ agree) (rw (leaf-ended s p names seen n is) at h))
 
-    leaf-far : (seen : ℕ) (s : List ℕ) (p : ℕ) → 15 < run isName s → Early (leafAt names seen s p) → p + 15 < e
-    leaf-far seen s p long h = let k : Early {A = Tree} (refused 4 (p + 15)) = rw (leaf-long names seen s p long) at h in omega arith
-
-    ready-leaf : (seen : ℕ) → Ready (leafAt names seen)
-    ready-leaf seen = record {
-      here = λ s p h. here s p h (decLe (run isName s) 15);
-      steady = λ s s′ p at agree h. steady s s′ p at agree h (decLe (run isName s) 15);
-    }
+    leaf-here : (seen : ℕ) (s : List ℕ) (p : ℕ) → At p s → nextLabel s ≡ true → Early (leafAt names seen s p) → p < e
+    leaf-here seen s p at begins h = by (told s) refl
       where
-        here : (s : List ℕ) (p : ℕ) → Early (leafAt names seen s p) → Dec (run isName s ≤ 15) → p < e
-        here s p h (yes fits) =
-            known-here (ltb (position (word s) names) (length names)) (position (word s) names) seen p (drop (run isName s) s) (p + run isName s) (omega arith)
-            (rw (leaf-short names seen s p fits) at h)
-        here s p h (no long) = omega (arith, leaf-far seen s p (omega arith) h)
+        by : (t : Told) → told s ≡ t → p < e
+        by (endsAt n) is = omega (arith, leaf-over seen s p n at is h .0, told-sound s n begins is .some)
+        by (faulty number d) is = fault-here number d p s is (rw (leaf-faulty s p names seen number d is) at h)
 
-        steady : (s s′ : List ℕ) (p : ℕ) → At p s → Agree p s s′ → Early (leafAt names seen s p) → Dec (run isName s ≤ 15)
-            → Same (leafAt names seen s p) (leafAt names seen s′ p)
-        steady s s′ p at agree h (yes fits) = leaf-same seen s s′ p at agree fits h
-        steady s s′ p at agree h (no long) =
-            let far : 15 < run isName s = omega arith in
-            let l = leaf-far seen s p far h in
-            let far′ : 15 < run isName s′ = omega (arith, agree-run isName 16 p s s′ agree (omega arith)) in
-            rw (leaf-long names seen s p far, leaf-long names seen s′ p far′) stays
+    leaf-steady : (seen : ℕ) (s s′ : List ℕ) (p : ℕ) → At p s → Agree p s s′ → nextLabel s ≡ true → Early (leafAt names seen s p)
+        → Same (leafAt names seen s p) (leafAt names seen s′ p)
+    leaf-steady seen s s′ p at agree begins h = by (told s) refl
+      where
+        by : (t : Told) → told s ≡ t → Same (leafAt names seen s p) (leafAt names seen s′ p)
+        by (endsAt n) is = leaf-same seen s s′ p n at agree begins is h
+        by (faulty number d) is =
+            let same = fault-same number d p s s′ at agree is (rw (leaf-faulty s p names seen number d is) at h) in
+            rw (leaf-faulty s p names seen number d is, leaf-faulty s′ p names seen number d same) stays
 
     -- ---- nodes
 
@@ -441,7 +606,7 @@ module _ (e : ℕ) (runAt : ℕ → ℕ) where
     ready-afterFirst true c others seen t lo =
         ready-tail (λ s p. andThen (others (union seen (cluster t)) s p) (λ f s p. closing t f s p))
         (local-then (others (union seen (cluster t))) (λ f s p. closing t f s p) (lo (union seen (cluster t))) (λ f. local-closing t f))
-    ready-afterFirst false true others seen t lo = ready-refused 7
+    ready-afterFirst false true others seen t lo = ready-refused 7 refl
     ready-afterFirst false false others seen t lo = ready-unexpected
 
     local-first : (others : ℕ → List ℕ → ℕ → Answer Forest) (seen : ℕ) (t : Tree) → ((x : ℕ) → Local (others x))
@@ -453,7 +618,7 @@ module _ (e : ℕ) (runAt : ℕ → ℕ) where
 
     ready-opened : (first : ℕ → ℕ → List ℕ → ℕ → Answer Tree) (others : ℕ → ℕ → List ℕ → ℕ → Answer Forest) (room seen : ℕ)
         → ((r x : ℕ) → Local (first r x)) → ((r x : ℕ) → Local (others r x)) → Ready (λ s p. opened first others room seen s p)
-    ready-opened first others zero seen lf lo = ready-refused 8
+    ready-opened first others zero seen lf lo = ready-refused 8 refl
     ready-opened first others (suc room) seen lf lo =
         ready-tail
         (λ s p. andThen (first room seen s p)
@@ -462,20 +627,35 @@ module _ (e : ℕ) (runAt : ℕ → ℕ) where
         (λ t s p. afterFirst (nextIs 44 (skip s)) (nextIs 41 (skip s)) (λ x s p. others room x s p) seen t (skip s) (p + blanks s))
         (lf room seen) (λ t. local-first (λ x s p. others room x s p) seen t (λ x. lo room x)))
 
-    ready-nodeBy : (b c : Bool) (first : ℕ → ℕ → List ℕ → ℕ → Answer Tree) (others : ℕ → ℕ → List ℕ → ℕ → Answer Forest) (room seen : ℕ)
-        → ((r x : ℕ) → Local (first r x)) → ((r x : ℕ) → Local (others r x)) → Ready (λ s p. nodeBy b c names first others room seen s p)
-    ready-nodeBy true c first others room seen lf lo = ready-leaf seen
-    ready-nodeBy false true first others room seen lf lo = ready-opened first others room seen lf lo
-    ready-nodeBy false false first others room seen lf lo = ready-unexpected
+    leaf-ready : (seen : ℕ) → ReadyWhere nextLabel true (leafAt names seen)
+    leaf-ready seen = record {
+      here = λ s p begins at h. leaf-here seen s p at begins h;
+      steady = λ s s′ p begins at agree h. leaf-steady seen s s′ p at agree begins h;
+      keeps = λ s p begins at x t q h. keeps-moved (leafAt-advances names seen s p begins h .moves) at;
+    }
+
+    -- a node that begins with no label
+    ready-inner : (c : Bool) (first : ℕ → ℕ → List ℕ → ℕ → Answer Tree) (others : ℕ → ℕ → List ℕ → ℕ → Answer Forest) (room seen : ℕ)
+        → ((r x : ℕ) → Local (first r x)) → ((r x : ℕ) → Local (others r x)) → Ready (λ s p. nodeBy false c names first others room seen s p)
+    ready-inner true first others room seen lf lo = ready-opened first others room seen lf lo
+    ready-inner false first others room seen lf lo = ready-unexpected
+
+    ready-nodeBy : (b : Bool) (first : ℕ → ℕ → List ℕ → ℕ → Answer Tree) (others : ℕ → ℕ → List ℕ → ℕ → Answer Forest) (room seen : ℕ)
+        → ((r x : ℕ) → Local (first r x)) → ((r x : ℕ) → Local (others r x))
+        → ReadyWhere nextLabel b (λ s p. nodeBy b (nextIs 40 s) names first others room seen s p)
+    ready-nodeBy true first others room seen lf lo = leaf-ready seen
+    ready-nodeBy false first others room seen lf lo =
+        anyway nextLabel false (λ s p. nodeBy false (nextIs 40 s) names first others room seen s p)
+        (ready-by (nextIs 40) (λ c s p. nodeBy false c names first others room seen s p) (nextIs-first 40)
+        (λ c. ready-inner c first others room seen lf lo))
 
     local-node : (first : ℕ → ℕ → List ℕ → ℕ → Answer Tree) (others : ℕ → ℕ → List ℕ → ℕ → Answer Forest) (room seen : ℕ)
         → ((r x : ℕ) → Local (first r x)) → ((r x : ℕ) → Local (others r x))
-        → Local (λ s p. nodeBy (nextName (skip s)) (nextIs 40 (skip s)) names first others room seen (skip s) (p + blanks s))
+        → Local (λ s p. nodeBy (nextLabel (skip s)) (nextIs 40 (skip s)) names first others room seen (skip s) (p + blanks s))
     local-node first others room seen lf lo =
-        local-skip (λ s p. nodeBy (nextName s) (nextIs 40 s) names first others room seen s p)
-        (ready-by nextName (λ b s p. nodeBy b (nextIs 40 s) names first others room seen s p) nextName-first
-        (λ b. ready-by (nextIs 40) (λ c s p. nodeBy b c names first others room seen s p) (nextIs-first 40)
-        (λ c. ready-nodeBy b c first others room seen lf lo)))
+        local-skip (λ s p. nodeBy (nextLabel s) (nextIs 40 s) names first others room seen s p)
+        (ready-where nextLabel (λ b s p. nodeBy b (nextIs 40 s) names first others room seen s p) nextLabel-first
+        (λ b. ready-nodeBy b first others room seen lf lo))
 
     ready-afterChild : (b c : Bool) (others : ℕ → List ℕ → ℕ → Answer Forest) (seen : ℕ) (t : Tree) → ((x : ℕ) → Local (others x))
         → Ready (λ s p. afterChild b c others seen t s p)
@@ -493,10 +673,14 @@ module _ (e : ℕ) (runAt : ℕ → ℕ) where
         (λ b. ready-by (nextIs 41) (λ c s p. afterChild b c others seen t s p) (nextIs-first 41) (λ c. ready-afterChild b c others seen t lo)))
 
     local-zero : {A : Type 0} → Local {A = A} (λ s p. refused 0 0)
-    local-zero = record { past = λ s p h. absurd (omega arith); steady = λ s s′ p at agree h. stays }
+    local-zero = record {
+      past = λ s p at h. absurd (omega arith);
+      steady = λ s s′ p at agree h. stays;
+      keeps = λ s p at x t q h. absurd (refused-parsed h);
+    }
 
     mutual
-      unfolding readNode readForest
+      unfolding readNodeBy readForestBy
 
       local-readNode : (k room seen : ℕ) → Local (readNode k names room seen)
       local-readNode zero room seen = local-zero
@@ -514,55 +698,79 @@ module _ (e : ℕ) (runAt : ℕ → ℕ) where
 
     ready-complete : (b : Bool) (t : Tree) → Ready (λ s p. complete b t s p)
     ready-complete true t = ready-tail (λ s p. parsed t s p) (local-parsed t)
-    ready-complete false t = ready-refused 9
+    ready-complete false t = ready-refused 9 refl
 
     ready-ended : (b : Bool) (needed : ℕ) (t : Tree) → Ready (λ s p. ended b needed t s p)
     ready-ended true needed t = ready-complete (within needed (cluster t)) t
     ready-ended false needed t = ready-unexpected
 
     local-readTreeTo : (k needed : ℕ) → Local (readTreeTo k names needed)
-    unfolding readTreeTo
+    unfolding readTreeToBy
     local-readTreeTo k needed =
         local-then (readNode k names openMost 0) (λ t s p. ended (nextIs 59 (skip s)) needed t (skip s) (p + blanks s)) (local-readNode k openMost 0)
         (λ t. local-skip (λ s p. ended (nextIs 59 s) needed t s p)
         (ready-by (nextIs 59) (λ b s p. ended b needed t s p) (nextIs-first 59) (λ b. ready-ended b needed t)))
 
-same-refused : {A : Type 0} (e : ℕ) (runAt : ℕ → ℕ) {k q : ℕ} {r : Answer A} → Same e runAt (refused k q) r → r ≡ refused k q
-same-refused e runAt stays = refl
+module _ (e : ℕ) (textAt : ℕ → List ℕ) (before : ℕ) (behind : List ℕ) (Asked : Type 0) (alike : Asked → GoesOnAlike before behind (textAt e)) where
+  same-refused : {A : Type 0} {k q : ℕ} {r : Answer A} → Same e textAt before behind Asked alike (refused k q) r → r ≡ refused k q
+  same-refused stays = refl
 
--- "Reading goes from the left and stops at the first fault met": whatever follows the bytes that decide a refusal, it stays
+-- texts that agree in the n bytes that decide a refusal of the first, and go on alike behind them where that is asked
+module _
+    (names : List (List ℕ)) (needed : ℕ) (s s′ : List ℕ) (p n : ℕ) (agree : take n s ≡ take n s′) (Asked : Type 0)
+    (alike : Asked → GoesOnAlike (byteBefore s n) (drop n s′) (drop n s))
+  where
+    abbrev textFrom : ℕ → List ℕ
+    textFrom q = drop (q - p) s
+
+    alike-there : Asked → GoesOnAlike (byteBefore s n) (drop n s′) (textFrom (p + n))
+    alike-there asked = rw (add-sub-cancel-left p n) (alike asked)
+
+    at-start : At (p + n) textFrom (byteBefore s n) (drop n s′) Asked alike-there p s
+    at-start = record {
+      text = λ m. rw (add-sub-cancel-left p m) refl;
+      final = λ m l. let k : n ≡ suc m = omega arith in rw k refl;
+    }
+
+    agree-start : Agree (p + n) textFrom (byteBefore s n) (drop n s′) Asked alike-there p s s′
+    agree-start = record {
+      front = λ m l. agree-less m n s s′ (omega arith) agree;
+      rest = λ m l. let k : n ≡ m = omega arith in rw k refl;
+    }
+
+    decided-alike :
+        (d number : ℕ) → readTree names needed s p ≡ refused number (p + d) → 3 ≤ number → number ≤ 9 → d + deciding number (drop d s) ≤ n
+        → (asksBehind number (drop d s) ≡ true → Asked) → readTree names needed s′ p ≡ refused number (p + d)
+    decided-alike d number h low high decided asked =
+        let k = 2 * length s + 2 * length s′ + 1 in
+        let h′ : readTreeTo k names needed s p ≡ refused number (p + d) = never-out k names needed s p (omega arith) ∙ h in
+        let from = add-sub-cancel-left p d in
+        sym (never-out k names needed s′ p (omega arith))
+        ∙ same-refused (p + n) textFrom (byteBefore s n) (drop n s′) Asked alike-there
+        (rw h′ at (local-readTreeTo (p + n) textFrom (byteBefore s n) (drop n s′) Asked alike-there names k needed .steady s s′ p at-start agree-start
+        (rw h′ ((rw from (omega arith)), low, high, (rw from asked)))))
+
+-- "Reading goes from the left and stops at the first fault met": whatever follows the bytes that decide a refusal, it stays,
+-- where it goes on with a label only if the text did, for those that ask for it
 pub locality :
     (names : List (List ℕ)) (needed : ℕ) (s s′ : List ℕ) (p d number : ℕ)
     → readTree names needed s p ≡ refused number (p + d) → 3 ≤ number → number ≤ 9
-    → take (reach number s d) s′ ≡ take (reach number s d) s → readTree names needed s′ p ≡ refused number (p + d)
-unfolding reach
-locality names needed s s′ p d number h low high agree =
-    let k = 2 * length s + 2 * length s′ + 1 in
-    let runAt : ℕ → ℕ = λ q. run isName (drop (q - p) s) in
-    let e = p + reach number s d in
-    let h′ : readTreeTo k names needed s p ≡ refused number (p + d) = never-out k names needed s p (omega arith) ∙ h in
-    sym (never-out k names needed s′ p (omega arith))
-    ∙ same-refused e runAt
-    (rw h′ at (local-readTreeTo e runAt names k needed .steady s s′ p
-    (λ n. rw add-sub-cancel-left refl) (λ m l. agree-less m (reach number s d) s s′ (omega arith) (sym agree)) (rw h′ ((rw add-sub-cancel-left (omega arith)), low, high))))
+    → take (border number s d) s′ ≡ take (border number s d) s
+    → (asksBehind number (drop d s) ≡ true → GoesOnAlike (byteBefore s (border number s d)) (drop (border number s d) s′) (drop (border number s d) s))
+    → readTree names needed s′ p ≡ refused number (p + d)
+locality names needed s s′ p d number h low high agree alike =
+    decided-alike names needed s s′ p (border number s d) (sym agree) (asksBehind number (drop d s) ≡ true) alike d number h low high
+    (omega (arith, border-deciding number s d)) (λ asked. asked)
 
--- so no text that agrees with those bytes is read
-pub no-accepted-text :
+pub locality-further :
     (names : List (List ℕ)) (needed : ℕ) (s s′ : List ℕ) (p d number : ℕ)
     → readTree names needed s p ≡ refused number (p + d) → 3 ≤ number → number ≤ 9
-    → take (reach number s d) s′ ≡ take (reach number s d) s
-    → (t : Tree) (rest : List ℕ) (q : ℕ) → readTree names needed s′ p ≡ parsed t rest q → ⊥
-no-accepted-text names needed s s′ p d number h low high agree t rest q accepted =
-    refused-parsed (sym (locality names needed s s′ p d number h low high agree) ∙ accepted)
+    → take (suc (border number s d)) s′ ≡ take (suc (border number s d)) s → readTree names needed s′ p ≡ refused number (p + d)
+locality-further names needed s s′ p d number h low high agree =
+    let n = border number s d in
+    locality names needed s s′ p d number h low high (agree-less n (suc n) s′ s (omega arith) agree) (λ asked. further-alike (byteBefore s n) n s s′ agree)
 
--- the byte refused by 3 is the last that counts
-pub reach-three : (s : List ℕ) (d : ℕ) → reach 3 s d ≡ suc d
-unfolding reach
-reach-three s d = ap suc (add-zero d)
-
-pub no-accepted-stray :
-    (names : List (List ℕ)) (needed : ℕ) (s s′ : List ℕ) (p d : ℕ)
-    → readTree names needed s p ≡ refused 3 (p + d) → take (suc d) s′ ≡ take (suc d) s
-    → (t : Tree) (rest : List ℕ) (q : ℕ) → readTree names needed s′ p ≡ parsed t rest q → ⊥
-no-accepted-stray names needed s s′ p d h agree t rest q accepted =
-    no-accepted-text names needed s s′ p d 3 h (omega arith) (omega arith) (rw (reach-three s d) agree) t rest q accepted
+-- the byte refused by 3 is the last that counts, but for whether a quote follows a closing one
+pub border-three : (s : List ℕ) (d : ℕ) → border 3 s d ≡ suc d
+unfolding border
+border-three s d = refl

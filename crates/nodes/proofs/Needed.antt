@@ -6,15 +6,13 @@ use mathlib.Core.List.{List, [], _∷_, tail}
 use native.Mathlib.Omega.{arith}
 use lib.ListN.{length}
 use Rattle.clusters.specs.Sets.{within}
-use Rattle.clusters.proofs.Members.{has-zero}
 use Rattle.clusters.proofs.Sets.{true-within, zero-within}
+use Rattle.labels.specs.Bytes.{nextIs}
 use Rattle.trees.specs.Tree.{Tree, cluster}
 use Rattle.tokens.specs.Answers.{Answer, andThen, unexpected}
 use Rattle.tokens.specs.Answers.Answer.{parsed, refused}
-use Rattle.tokens.specs.Tokens.{nextIs, blanks, skip}
-use Rattle.nodes.specs.Reading.{openMost, readNode, complete, ended, readTreeTo, readTree}
-use Rattle.nodes.proofs.Meaning.{refusal-means}
-use Rattle.nodes.proofs.Refusals.{says-9}
+use Rattle.tokens.specs.Tokens.{blanks, skip}
+use Rattle.nodes.specs.Reading.{openMost, readNode, complete, ended, readTreeTo, readTree, readTreeBy, readTreeToBy}
 
 -- a tree that was read up to q, by whether it has the needed species: its `;` is the last byte that was read
 abbrev pub unlessLacking : Bool → Tree → List ℕ → ℕ → Answer Tree
@@ -40,7 +38,7 @@ ended-judged false needed t s p = unexpected-judged needed s p
 
 -- reading with needed species is reading without any, and then the judgement
 pub read-then-needed : (names : List (List ℕ)) (needed : ℕ) (s : List ℕ) (p : ℕ) → readTree names needed s p ≡ thenNeeded needed (readTree names 0 s p)
-unfolding readTree readTreeTo
+unfolding readTreeBy readTreeToBy
 read-then-needed names needed s p = go (readNode (2 * length s + 1) names openMost 0 s p)
   where
     go : (a : Answer Tree)
@@ -48,7 +46,3 @@ read-then-needed names needed s p = go (readNode (2 * length s + 1) names openMo
         ≡ thenNeeded needed (andThen a (λ t s p. ended (nextIs 59 (skip s)) 0 t (skip s) (p + blanks s)))
     go (parsed t m q) = ended-judged (nextIs 59 (skip m)) needed t (skip m) (q + blanks m)
     go (refused n q) = refl
-
--- where no species is needed, no tree is refused by 9
-pub none-needed-never-nine : (names : List (List ℕ)) (s : List ℕ) (p : ℕ) {q : ℕ} → readTree names 0 s p ≡ refused 9 q → ⊥
-none-needed-never-nine names s p h = let m = says-9 (refusal-means names 0 s p h .means) in has-zero (m .species) (m .wanted)

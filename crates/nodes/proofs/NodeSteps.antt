@@ -5,13 +5,14 @@ use mathlib.Core.Bool.{Bool, true, false}
 use mathlib.Core.List.{List}
 use lib.ListN.{drop}
 use Rattle.clusters.specs.Sets.{union, within}
+use Rattle.labels.specs.Bytes.{nextIs, nextLabel}
 use Rattle.trees.specs.Tree.{Tree, Forest, cluster}
 use Rattle.trees.specs.Tree.Forest.{last, more}
 use Rattle.tokens.specs.Answers.{Answer, andThen}
 use Rattle.tokens.specs.Answers.Answer.{parsed, refused}
-use Rattle.tokens.specs.Tokens.{nextIs, nextName, blanks, skip}
+use Rattle.tokens.specs.Tokens.{blanks, skip}
 use Rattle.tokens.specs.Says.{refusal, strayAt}
-use Rattle.nodes.specs.Reading.{leafAt, closing, afterFirst, afterChild, readNode, readForest, ended}
+use Rattle.nodes.specs.Reading.{leafAt, closing, afterFirst, afterChild, readNode, readForest, ended, readForestBy, readNodeBy}
 use Rattle.nodes.specs.Core.{noCommaAt, noCommaBy}
 use Rattle.tokens.proofs.Places.{skip-to, tail-at, stray-unexpected}
 
@@ -19,19 +20,19 @@ use Rattle.tokens.proofs.Places.{skip-to, tail-at, stray-unexpected}
 module _ (text : List ℕ) (at here : ℕ) (skipped : here ≡ at + blanks (drop at text)) where
   module _ (names : List (List ℕ)) (k seen : ℕ) where
     pub node-is-leaf :
-        (room : ℕ) → nextName (drop here text) ≡ true → readNode (suc k) names room seen (drop at text) at ≡ leafAt names seen (drop here text) here
-    unfolding readNode
+        (room : ℕ) → nextLabel (drop here text) ≡ true → readNode (suc k) names room seen (drop at text) at ≡ leafAt names seen (drop here text) here
+    unfolding readNodeBy
     node-is-leaf room t = rw (skip-to text at here skipped, t, ← skipped)
 
-    module _ (leafless : nextName (drop here text) ≡ false) where
+    module _ (leafless : nextLabel (drop here text) ≡ false) where
       pub node-stray :
           (room : ℕ) → nextIs 40 (drop here text) ≡ false → refusal (strayAt (drop here text) here) ≡ readNode (suc k) names room seen (drop at text) at
-      unfolding readNode
+      unfolding readNodeBy
       node-stray room t = rw (skip-to text at here skipped, leafless, t, ← skipped) (stray-unexpected (drop here text) here)
 
       module _ (opens : nextIs 40 (drop here text) ≡ true) where
         pub node-full : refused 8 here ≡ readNode (suc k) names 0 seen (drop at text) at
-        unfolding readNode
+        unfolding readNodeBy
         node-full = rw (skip-to text at here skipped, leafless, opens, ← skipped)
 
         pub node-opened :
@@ -39,7 +40,7 @@ module _ (text : List ℕ) (at here : ℕ) (skipped : here ≡ at + blanks (drop
             → readNode (suc k) names (suc room) seen (drop at text) at
             ≡ andThen (readNode k names room seen (drop (here + 1) text) (here + 1))
             (λ t s p. afterFirst (nextIs 44 (skip s)) (nextIs 41 (skip s)) (λ e s p. readForest k names room e s p) seen t (skip s) (p + blanks s))
-        unfolding readNode
+        unfolding readNodeBy
         node-opened room = rw (skip-to text at here skipped, leafless, opens, ← skipped, tail-at text here)
 
   module _ (others : ℕ → List ℕ → ℕ → Answer Forest) (seen : ℕ) (t : Tree) where
@@ -103,5 +104,5 @@ pub list-begins :
     → readForest (suc k) names room seen s p
     ≡ andThen (readNode k names room seen s p)
     (λ t s p. afterChild (nextIs 44 (skip s)) (nextIs 41 (skip s)) (λ e s p. readForest k names room e s p) seen t (skip s) (p + blanks s))
-unfolding readForest
+unfolding readForestBy
 list-begins k names room seen s p = refl

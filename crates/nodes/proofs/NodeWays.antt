@@ -9,16 +9,17 @@ use lib.Seq.{sets, length-sets}
 use Rattle.clusters.specs.Sets.{union, size}
 use Rattle.clusters.proofs.Sets.{union-below, union-assoc, apart-sym}
 use Rattle.clusters.proofs.Sizes.{size-apart, size-le}
+use Rattle.labels.specs.Bytes.{nextIs, nextLabel}
 use Rattle.trees.specs.Tree.{Forest, cluster, clusterOf, clusters, clustersOf}
 use Rattle.trees.specs.Tree.Tree.{node}
 use Rattle.trees.specs.Tree.Forest.{last, more}
 use Rattle.tokens.specs.Answers.{Answer, andThen}
 use Rattle.tokens.specs.Answers.Answer.{parsed, refused}
-use Rattle.tokens.specs.Tokens.{nextIs, nextName, blanks, skip, numbers, innerName}
+use Rattle.tokens.specs.Tokens.{blanks, skip, numbers, innerName}
 use Rattle.tokens.specs.Says.{strayAt, behindSays, innerWord}
 use Rattle.tokens.specs.declared.answer.Refusal.{Refusal}
 use Rattle.tokens.specs.declared.answer.BehindRead.{BehindRead}
-use Rattle.nodes.specs.Reading.{leafAt, closing, afterFirst, afterChild, readNode, readForest}
+use Rattle.nodes.specs.Reading.{leafAt, closing, afterFirst, afterChild, readNode, readForest, closingBy}
 use Rattle.nodes.specs.Core.{noCommaAt, endedAs, keptAs, Holds, Given, NodeReads, ListReads, ReadsLeaf, ReadsNode, ReadsList}
 use Rattle.nodes.specs.declared.answer.Cursor.{Cursor}
 use Rattle.nodes.specs.declared.answer.NodeRead.{NodeRead}
@@ -156,7 +157,7 @@ pub record Followed (text : List ℕ) (result : NodeRead) : Type 0 where
 pub record Opening (a : Asked) : Type 0 where
   pub here : ℕ
   pub skipped : here ≡ a .at + blanks (drop (a .at) (a .text))
-  pub leafless : nextName (drop here (a .text)) ≡ false
+  pub leafless : nextLabel (drop here (a .text)) ≡ false
   pub opens : nextIs 40 (drop here (a .text)) ≡ true
   pub some : a .room ≡ 0 → ⊥
 
@@ -220,14 +221,14 @@ module _ (a : Asked) (names : List (List ℕ)) (holds : Holds names (a .count) (
 
   module _ (here : ℕ) (skipped : here ≡ at + blanks (drop at text)) (k : ℕ) (deep : 2 * (length text - at) < k) where
     pub leaf-way :
-        (m : Cursor) (after : List ℕ) (r : NodeRead) → nextName (drop here text) ≡ true → m ≡ record { at = here; seen = seen; stored = stored }
+        (m : Cursor) (after : List ℕ) (r : NodeRead) → nextLabel (drop here text) ≡ true → m ≡ record { at = here; seen = seen; stored = stored }
         → ReadsLeaf text table count m before after r → NodeReads text seen stored before after (readNode k names room seen (drop at text) at) r
     leaf-way m after r t m-is reads =
         let e : k ≡ suc (k - 1) = omega arith in
         rw (e, node-is-leaf text at here skipped names (k - 1) seen room t) (leaf-told text table count names holds m here seen stored m-is before after r reads)
 
     pub stray-way :
-        (after : List ℕ) (f : Refusal) → nextName (drop here text) ≡ false → nextIs 40 (drop here text) ≡ false → f ≡ strayAt (drop here text) here
+        (after : List ℕ) (f : Refusal) → nextLabel (drop here text) ≡ false → nextIs 40 (drop here text) ≡ false → f ≡ strayAt (drop here text) here
         → NodeReads text seen stored before after (readNode k names room seen (drop at text) at) (NoNode f)
     stray-way after f leafless t is =
         let e : k ≡ suc (k - 1) = omega arith in
@@ -235,7 +236,7 @@ module _ (a : Asked) (names : List (List ℕ)) (holds : Holds names (a .count) (
         (rw (is, e) (node-stray text at here skipped names (k - 1) seen leafless room t))
 
     pub full-way :
-        (after : List ℕ) → nextName (drop here text) ≡ false → nextIs 40 (drop here text) ≡ true → room ≡ 0
+        (after : List ℕ) → nextLabel (drop here text) ≡ false → nextIs 40 (drop here text) ≡ true → room ≡ 0
         → NodeReads text seen stored before after (readNode k names room seen (drop at text) at) (NoNode (record { number = 8; place = here }))
     full-way after leafless opens none =
         let e : k ≡ suc (k - 1) = omega arith in
@@ -366,7 +367,7 @@ module _ (a : Asked) (names : List (List ℕ)) (holds : Holds names (a .count) (
                 closing-is :
                     andThen (andThen (innerName (drop (end .at) text) (end .at)) (λ w s p. numbers w s p)) (λ b s p. parsed (node (first .tree) (others .forest) b) s p)
                     ≡ readNode k names room seen (drop at text) at
-                unfolding closing
+                unfolding closingBy
                 closing-is =
                     rw (behind-comma-is, others .answered)
                     (andThen-assoc (innerName (drop (end .at) text) (end .at)) (λ w s p. numbers w s p) (λ b s p. parsed (node (first .tree) (others .forest) b) s p))

@@ -8,17 +8,20 @@ use lib.ListN.{length, take, drop, length-drop}
 use lib.Seq.{drop-drop}
 use lib.Dec.{leb, ltb}
 use Rattle.clusters.specs.Sets.{single, union, apart, within}
-use Rattle.labels.specs.Bytes.{isDigit, isName, isBlank, run}
-use Rattle.labels.specs.Labels.{labelBytes}
+use Rattle.labels.specs.Bytes.{isDigit, isBlank, run, nextIs, nextLabel}
+use Rattle.labels.specs.Labels.{Told, told}
+use Rattle.labels.specs.Labels.Told.{ended as endsAt, faulty}
 use Rattle.labels.proofs.Runs.{run-within}
+use Rattle.labels.proofs.Spelled.{told-sound, ended-within}
 use Rattle.trees.specs.Tree.{Tree, Forest, Behind, cluster}
 use Rattle.trees.specs.Tree.Tree.{leaf, node}
 use Rattle.trees.specs.Tree.Forest.{more}
 use Rattle.roster.specs.Roster.{position}
 use Rattle.tokens.specs.Answers.{Answer, andThen, unexpected}
 use Rattle.tokens.specs.Answers.Answer.{parsed}
-use Rattle.tokens.specs.Tokens.{numberBytes, nextIs, nextName, blanks, skip, limited, numeral, pointed, fraction, digits, number, numberBehind, secondNumber, firstNumber, numbersBy, numbers, shortName, name, innerNameBy, innerName}
-use Rattle.nodes.specs.Reading.{openMost, leafNew, leafKnown, leafAt, closing, afterFirst, opened, nodeBy, afterChild, readNode, readForest, complete, ended, readTreeTo, readTree}
+use Rattle.tokens.specs.Tokens.{numberBytes, blanks, skip, limited, numeral, pointed, fraction, digits, number, numberBehind}
+use Rattle.tokens.specs.Tokens.{secondNumber, firstNumber, numbersBy, numbers, nameBy, name, innerNameBy, innerName}
+use Rattle.nodes.specs.Reading.{openMost, leafNew, leafKnown, leafAt, closing, afterFirst, opened, nodeBy, afterChild, readNode, readForest, complete, ended, readTreeTo, readTree, closingBy, leafBy, readForestBy, readNodeBy, readTreeBy, readTreeToBy}
 use Rattle.nodes.proofs.Answers.{refused-parsed, andThen-parsed, unexpected-parsed}
 
 -- rest at place q is what count bytes fewer leave of s at place p
@@ -67,10 +70,7 @@ moves-length {s} {rest} m =
 pub advances-shorter : {s rest : List ℕ} {p q : ℕ} → Advances s p rest q → length rest < length s
 advances-shorter a = omega (arith, moves-length (a .moves), a .some, a .moves .place)
 
--- ---- runs, blanks, one byte
-
-pub run-drop : (test : ℕ → Bool) (s : List ℕ) (p : ℕ) → Moves s p (drop (run test s) s) (p + run test s)
-run-drop test s p = record { count = run test s; fits = run-within test s; left = refl; place = refl }
+-- ---- blanks, one byte
 
 pub blanks-le : (s : List ℕ) → blanks s ≤ length s
 unfolding blanks
@@ -98,11 +98,6 @@ nextIs-tail b (c ∷ s) p e = record { moves = record { count = 1; fits = omega 
 -- a byte behind blanks
 pub skip-tail : (b : ℕ) (s : List ℕ) (p : ℕ) → nextIs b (skip s) ≡ true → Advances s p (tail (skip s)) (p + blanks s + 1)
 skip-tail b s p e = on-advances (skip-moves s p) (nextIs-tail b (skip s) (p + blanks s) e)
-
-pub nextName-run : (s : List ℕ) → nextName s ≡ true → 0 < run isName s
-unfolding nextName run
-nextName-run [] e = absurd (let z : _≡_ {A = ℕ} 0 1 = cc in omega arith)
-nextName-run (b ∷ s) e = rw e (omega arith)
 
 -- ---- numbers
 
@@ -192,26 +187,25 @@ numbers-moves w s p h = numbersBy-moves (nextIs 58 (skip s)) w s p refl h
 
 -- ---- names
 
-shortName-moves :
-    (t : Bool) (s : List ℕ) (p : ℕ) {x rest : List ℕ} {q : ℕ} → shortName t s p ≡ parsed x rest q → Moves s p rest q
-shortName-moves true s p h = moves-on (run-drop isName s p) (parsed-stays h)
-shortName-moves false s p h = absurd (refused-parsed h)
+nameBy-moves : (t : Told) (s : List ℕ) (p : ℕ) {x rest : List ℕ} {q : ℕ} → told s ≡ t → nameBy t s p ≡ parsed x rest q → Moves s p rest q
+nameBy-moves (endsAt n) s p is h = moves-on (record { count = n; fits = ended-within s n is; left = refl; place = refl }) (parsed-stays h)
+nameBy-moves (faulty number d) s p is h = absurd (refused-parsed h)
 
 pub name-moves : (s : List ℕ) (p : ℕ) {x rest : List ℕ} {q : ℕ} → name s p ≡ parsed x rest q → Moves s p rest q
 unfolding name
-name-moves s p h = shortName-moves (leb (run isName s) labelBytes) s p h
+name-moves s p h = nameBy-moves (told s) s p refl h
 
-shortName-advances :
-    (t : Bool) (s : List ℕ) (p : ℕ) {x rest : List ℕ} {q : ℕ}
-    → nextName s ≡ true → shortName t s p ≡ parsed x rest q → Advances s p rest q
-shortName-advances true s p is h =
-    let m = run-drop isName s p in
-    advances-on (record { moves = m; some = omega (arith, nextName-run s is, m .place) }) (parsed-stays h)
-shortName-advances false s p is h = absurd (refused-parsed h)
+nameBy-advances :
+    (t : Told) (s : List ℕ) (p : ℕ) {x rest : List ℕ} {q : ℕ}
+    → nextLabel s ≡ true → told s ≡ t → nameBy t s p ≡ parsed x rest q → Advances s p rest q
+nameBy-advances (endsAt n) s p begins is h =
+    let e = told-sound s n begins is in
+    advances-on (record { moves = record { count = n; fits = e .within; left = refl; place = refl }; some = e .some }) (parsed-stays h)
+nameBy-advances (faulty number d) s p begins is h = absurd (refused-parsed h)
 
-pub name-advances : (s : List ℕ) (p : ℕ) {x rest : List ℕ} {q : ℕ} → nextName s ≡ true → name s p ≡ parsed x rest q → Advances s p rest q
+pub name-advances : (s : List ℕ) (p : ℕ) {x rest : List ℕ} {q : ℕ} → nextLabel s ≡ true → name s p ≡ parsed x rest q → Advances s p rest q
 unfolding name
-name-advances s p is h = shortName-advances (leb (run isName s) labelBytes) s p is h
+name-advances s p begins h = nameBy-advances (told s) s p begins refl h
 
 innerNameBy-moves :
     (t : Bool) (s : List ℕ) (p : ℕ) {x rest : List ℕ} {q : ℕ} → innerNameBy t s p ≡ parsed x rest q → Moves s p rest q
@@ -220,7 +214,7 @@ innerNameBy-moves true s p h = moves-on (skip-moves s p) (name-moves (skip s) (p
 
 pub innerName-moves : (s : List ℕ) (p : ℕ) {x rest : List ℕ} {q : ℕ} → innerName s p ≡ parsed x rest q → Moves s p rest q
 unfolding innerName
-innerName-moves s p h = innerNameBy-moves (nextName (skip s)) s p h
+innerName-moves s p h = innerNameBy-moves (nextLabel (skip s)) s p h
 
 -- ---- leaves, and what closes an inner node
 
@@ -240,8 +234,8 @@ leafKnown-moves true i seen begun s p h = leafNew-moves (apart (single i) seen) 
 
 pub leafAt-advances :
     (names : List (List ℕ)) (seen : ℕ) (s : List ℕ) (p : ℕ) {x : Tree} {rest : List ℕ} {q : ℕ}
-    → nextName s ≡ true → leafAt names seen s p ≡ parsed x rest q → Advances s p rest q
-unfolding leafAt
+    → nextLabel s ≡ true → leafAt names seen s p ≡ parsed x rest q → Advances s p rest q
+unfolding leafBy
 leafAt-advances names seen s p is h =
     let r = andThen-parsed (name s p) (λ w rest q. leafKnown (ltb (position w names) (length names)) (position w names) seen p rest q) h in
     let i = position (r .value) names in
@@ -249,7 +243,7 @@ leafAt-advances names seen s p is h =
 
 pub closing-moves :
     (t : Tree) (f : Forest) (s : List ℕ) (p : ℕ) {x : Tree} {rest : List ℕ} {q : ℕ} → closing t f s p ≡ parsed x rest q → Moves s p rest q
-unfolding closing
+unfolding closingBy
 closing-moves t f s p h =
     let r = andThen-parsed (innerName s p) (λ w s p. andThen (numbers w s p) (λ b s p. parsed (node t f b) s p)) h in
     let n = andThen-parsed (numbers (r .value) (r .left) (r .place)) (λ b s p. parsed (node t f b) s p) (r .after) in
@@ -294,7 +288,7 @@ opened-advances first others (suc room) seen s p one on is h =
 nodeBy-advances :
     (t u : Bool) (names : List (List ℕ)) (first : ℕ → Reader Tree) (others : ℕ → Reader Forest) (room seen : ℕ) (s : List ℕ) (p : ℕ)
     {x : Tree} {rest : List ℕ} {q : ℕ}
-    → ((r : ℕ) → AllAdvance (first r)) → ((r : ℕ) → AllAdvance (others r)) → nextName s ≡ t → nextIs 40 s ≡ u
+    → ((r : ℕ) → AllAdvance (first r)) → ((r : ℕ) → AllAdvance (others r)) → nextLabel s ≡ t → nextIs 40 s ≡ u
     → nodeBy t u names first others room seen s p ≡ parsed x rest q → Advances s p rest q
 nodeBy-advances true u names first others room seen s p one on is opens h = leafAt-advances names seen s p is h
 nodeBy-advances false true names first others room seen s p one on is opens h = opened-advances first others room seen s p one on opens h
@@ -323,7 +317,7 @@ forest-step first others seen s p one on h =
     (afterChild-advances (nextIs 44 (skip m)) (nextIs 41 (skip m)) others seen (r .value) (skip m) (r .place + blanks m) on refl refl (r .after) .moves))
 
 mutual
-  unfolding readNode readForest
+  unfolding readNodeBy readForestBy
 
   pub readNode-advances :
       (k : ℕ) (names : List (List ℕ)) (room seen : ℕ) (s : List ℕ) (p : ℕ) (x : Tree) (rest : List ℕ) (q : ℕ)
@@ -331,7 +325,7 @@ mutual
   readNode-advances zero names room seen s p x rest q h = absurd (refused-parsed h)
   readNode-advances (suc k) names room seen s p x rest q h =
       on-advances (skip-moves s p)
-      (nodeBy-advances (nextName (skip s)) (nextIs 40 (skip s)) names (λ r e s p. readNode k names r e s p) (λ r e s p. readForest k names r e s p)
+      (nodeBy-advances (nextLabel (skip s)) (nextIs 40 (skip s)) names (λ r e s p. readNode k names r e s p) (λ r e s p. readForest k names r e s p)
       room seen (skip s) (p + blanks s)
       (λ r e s p x rest q h. readNode-advances k names r e s p x rest q h) (λ r e s p x rest q h. readForest-advances k names r e s p x rest q h)
       refl refl h)
@@ -361,7 +355,7 @@ ended-advances false needed c s p is h = absurd (unexpected-parsed s p h)
 pub readTreeTo-advances :
     (k : ℕ) (names : List (List ℕ)) (needed : ℕ) (s : List ℕ) (p : ℕ) {x : Tree} {rest : List ℕ} {q : ℕ}
     → readTreeTo k names needed s p ≡ parsed x rest q → Advances s p rest q
-unfolding readTreeTo
+unfolding readTreeToBy
 readTreeTo-advances k names needed s p h =
     let r =
     andThen-parsed (readNode k names openMost 0 s p) (λ t s p. ended (nextIs 59 (skip s)) needed t (skip s) (p + blanks s)) h
@@ -373,5 +367,5 @@ readTreeTo-advances k names needed s p h =
 pub readTree-advances :
     (names : List (List ℕ)) (needed : ℕ) (s : List ℕ) (p : ℕ) {x : Tree} {rest : List ℕ} {q : ℕ}
     → readTree names needed s p ≡ parsed x rest q → Advances s p rest q
-unfolding readTree
+unfolding readTreeBy
 readTree-advances names needed s p h = readTreeTo-advances (2 * length s + 1) names needed s p h

@@ -12,8 +12,12 @@ use borrow.Author.Tests.{eqb-true, leb-true, ltb-true}
 use Rattle.clusters.specs.Sets.{Within, Apart, single, union, apart, within}
 use Rattle.clusters.proofs.Members.{has-of-apart}
 use Rattle.clusters.proofs.Sets.{within-union-left, within-union-right, union-apart, apart-sym, apart-within, apart-true, within-true}
-use Rattle.labels.specs.Bytes.{isDigit, isName, isBlank, oneMore, run}
-use Rattle.labels.specs.Labels.{labelBytes, word}
+use Rattle.labels.specs.Bytes.{isDigit, isBlank, oneMore, run, nextIs, nextLabel}
+use Rattle.labels.specs.Spelling.{Run, Spells}
+use Rattle.labels.specs.Labels.{labelBytes, letters, Told, told}
+use Rattle.labels.specs.Labels.Told.{ended as endsAt, faulty}
+use Rattle.labels.proofs.RunRules.{run-derives}
+use Rattle.labels.proofs.Spelled.{told-sound}
 use Rattle.trees.specs.Lists.{Among, NoneTwice}
 use Rattle.trees.specs.Tree.{Tree, Forest, Behind, leaves, leavesOf, cluster, clusterOf}
 use Rattle.trees.specs.Tree.Tree.{leaf, node}
@@ -23,11 +27,11 @@ use Rattle.trees.proofs.Nodes.{leaf-has, leafOf-has}
 use Rattle.roster.specs.Roster.{position}
 use Rattle.tokens.specs.Answers.{Answer, andThen, unexpected}
 use Rattle.tokens.specs.Answers.Answer.{parsed}
-use Rattle.tokens.specs.Tokens.{numberBytes, nextIs, nextName, blanks, skip, limited, numeral, pointed, fraction, digits, number, numberBehind, secondNumber, firstNumber, numbersBy, numbers, shortName, name, innerNameBy, innerName}
-use Rattle.nodes.specs.Reading.{openMost, leafNew, leafKnown, leafAt, closing, afterFirst, opened, nodeBy, afterChild, readNode, readForest, complete, ended, readTreeTo, readTree}
-use Rattle.nodes.specs.Grammar.{strict, Blanks, Run, Number, ColonNumber, Numbers, Inner, Node, Children, Text}
+use Rattle.tokens.specs.Tokens.{numberBytes, blanks, skip, limited, numeral, pointed, fraction, digits, number, numberBehind}
+use Rattle.tokens.specs.Tokens.{secondNumber, firstNumber, numbersBy, numbers, nameBy, name, innerNameBy, innerName}
+use Rattle.nodes.specs.Reading.{openMost, leafNew, leafKnown, leafAt, closing, afterFirst, opened, nodeBy, afterChild, readNode, readForest, complete, ended, readTreeTo, readTree, closingBy, leafBy, readForestBy, readNodeBy, readTreeBy, readTreeToBy}
+use Rattle.nodes.specs.Grammar.{strict, Blanks, Number, ColonNumber, Numbers, Inner, Node, Children, Text}
 use Rattle.nodes.specs.Grammar.Blanks.{none, blank}
-use Rattle.nodes.specs.Grammar.Run.{one, next}
 use Rattle.nodes.specs.Grammar.Number.{whole, decimal}
 use Rattle.nodes.specs.Grammar.ColonNumber.{colon}
 use Rattle.nodes.specs.Grammar.Numbers.{nothing, distance, both, support}
@@ -37,7 +41,7 @@ use Rattle.nodes.specs.Grammar.Children.{the-last, one-more}
 use Rattle.nodes.specs.Grammar.Text.{text}
 use Rattle.nodes.proofs.Answers.{refused-parsed, andThen-parsed, unexpected-parsed}
 use Rattle.nodes.proofs.Derivations.{two-wanted, Steps, over-node}
-use Rattle.nodes.proofs.Rests.{Reader, Advances, nextName-run, tail-drop, readTree-advances}
+use Rattle.nodes.proofs.Rests.{Reader, Advances, tail-drop, readTree-advances}
 
 -- ---- blanks, bytes, runs
 
@@ -58,18 +62,6 @@ nextIs-cons b (c ∷ s) e = ap (λ (x : ℕ). x ∷ s) (eqb-true c b e)
 -- blanks, then this byte
 pub skip-byte : (b : ℕ) (s : List ℕ) → nextIs b (skip s) ≡ true → Blanks s (b ∷ tail (skip s))
 skip-byte b s e = subst (λ (r : List ℕ). Blanks s r) (nextIs-cons b (skip s) e) (skip-blanks s)
-
-pub run-derives : (test : ℕ → Bool) (s : List ℕ) → 0 < run test s → Run test (take (run test s) s) s (drop (run test s) s)
-unfolding run
-run-derives test [] l = absurd (omega arith)
-run-derives test (b ∷ s) l = go (test b) (run test s) refl l (λ m. run-derives test s m)
-  where
-    go :
-        (t : Bool) (n : ℕ) → test b ≡ t → 0 < oneMore t n → (0 < n → Run test (take n s) s (drop n s))
-        → Run test (take (oneMore t n) (b ∷ s)) (b ∷ s) (drop (oneMore t n) (b ∷ s))
-    go true zero is m h = one is
-    go true (suc n) is m h = next is (h (omega arith))
-    go false n is m h = absurd (omega arith)
 
 -- ---- numbers
 
@@ -204,28 +196,27 @@ numbers-read names w s p h = numbersBy-read names (nextIs 58 (skip s)) w s p ref
 -- ---- names
 
 pub record NameRead (w s rest : List ℕ) : Type 0 where
-  pub derives : Run isName w s rest
+  pub derives : Spells w s rest
   pub short : length w ≤ labelBytes
 
-pub name-read : (s : List ℕ) (p : ℕ) {w rest : List ℕ} {q : ℕ} → nextName s ≡ true → name s p ≡ parsed w rest q → NameRead w s rest
-unfolding name word
-name-read s p {w} {rest} {q} is h = go (leb (run isName s) labelBytes) refl h
+pub name-read : (s : List ℕ) (p : ℕ) {w rest : List ℕ} {q : ℕ} → nextLabel s ≡ true → name s p ≡ parsed w rest q → NameRead w s rest
+unfolding name
+name-read s p {w} {rest} {q} is h = go (told s) refl h
   where
-    go : (t : Bool) → leb (run isName s) labelBytes ≡ t → shortName t s p ≡ parsed w rest q → NameRead w s rest
-    go true short h =
-        let n = run isName s in
-        let l = leb-true n labelBytes short in
-        let f : take n s ≡ w = cc in
+    go : (t : Told) → told s ≡ t → nameBy t s p ≡ parsed w rest q → NameRead w s rest
+    go (endsAt n) e h =
+        let k = told-sound s n is e in
+        let f : letters s ≡ w = cc in
         let g : drop n s ≡ rest = cc in
-        record { derives = rw (← f, ← g) (run-derives isName s (nextName-run s is)); short = rw (← f, length-take) (omega arith) }
-    go false short h = absurd (refused-parsed h)
+        rw (← f, ← g) (record { derives = k .whole .spelled; short = k .short })
+    go (faulty number d) e h = absurd (refused-parsed h)
 
 pub innerName-read :
     (names : List (List ℕ)) (s : List ℕ) (p : ℕ) {w rest : List ℕ} {q : ℕ} → innerName s p ≡ parsed w rest q → Inner (strict names) w s rest
 unfolding innerName
-innerName-read names s p {w} {rest} {q} h = go (nextName (skip s)) refl h
+innerName-read names s p {w} {rest} {q} h = go (nextLabel (skip s)) refl h
   where
-    go : (t : Bool) → nextName (skip s) ≡ t → innerNameBy t s p ≡ parsed w rest q → Inner (strict names) w s rest
+    go : (t : Bool) → nextLabel (skip s) ≡ t → innerNameBy t s p ≡ parsed w rest q → Inner (strict names) w s rest
     go false is h =
         let f : [] ≡ w = cc in
         let g : s ≡ rest = cc in
@@ -288,8 +279,8 @@ leafNew-read names room i seen begun w s m mid p {x} {rest} {q} bl n at known h 
 
 leafAt-read :
     (names : List (List ℕ)) (room seen : ℕ) (s m : List ℕ) (p : ℕ) {x : Tree} {rest : List ℕ} {q : ℕ}
-    → Blanks s m → nextName m ≡ true → leafAt names seen m p ≡ parsed x rest q → NodeRead names room seen s x rest
-unfolding leafAt
+    → Blanks s m → nextLabel m ≡ true → leafAt names seen m p ≡ parsed x rest q → NodeRead names room seen s x rest
+unfolding leafBy
 leafAt-read names room seen s m p {x} {rest} {q} bl is h =
     let r = andThen-parsed (name m p) (λ w rest q. leafKnown (ltb (position w names) (length names)) (position w names) seen p rest q) h in
     let i = position (r .value) names in
@@ -316,7 +307,7 @@ closing-read :
     (names : List (List ℕ)) (room seen : ℕ) (t : Tree) (f : Forest) (s s₁ s₂ s₃ s₄ : List ℕ) (p : ℕ) {x : Tree} {rest : List ℕ} {q : ℕ}
     → Blanks s (40 ∷ s₁) → NodeRead names room seen s₁ t s₂ → Blanks s₂ (44 ∷ s₃) → ForestRead names room (union seen (cluster t)) s₃ f s₄
     → closing t f s₄ p ≡ parsed x rest q → NodeRead names (suc room) seen s x rest
-unfolding closing leaves cluster
+unfolding closingBy leaves cluster
 closing-read names room seen t f s s₁ s₂ s₃ s₄ p {x} {rest} bl n comma c h =
     let r = andThen-parsed (innerName s₄ p) (λ w s p. andThen (numbers w s p) (λ b s p. parsed (node t f b) s p)) h in
     let z = andThen-parsed (numbers (r .value) (r .left) (r .place)) (λ b s p. parsed (node t f b) s p) (r .after) in
@@ -365,7 +356,7 @@ opened-read names first others (suc room) seen s m p ns fs bl is h =
 nodeBy-read :
     (t u : Bool) (names : List (List ℕ)) (first : ℕ → Reader Tree) (others : ℕ → Reader Forest) (room seen : ℕ) (s m : List ℕ) (p : ℕ)
     {x : Tree} {rest : List ℕ} {q : ℕ}
-    → Nodes names first → Forests names others → Blanks s m → nextName m ≡ t → nextIs 40 m ≡ u
+    → Nodes names first → Forests names others → Blanks s m → nextLabel m ≡ t → nextIs 40 m ≡ u
     → nodeBy t u names first others room seen m p ≡ parsed x rest q → NodeRead names room seen s x rest
 nodeBy-read true u names first others room seen s m p ns fs bl is opens h = leafAt-read names room seen s m p bl is h
 nodeBy-read false true names first others room seen s m p ns fs bl is opens h = opened-read names first others room seen s m p ns fs bl opens h
@@ -411,14 +402,14 @@ forest-read names first others room seen s p ns fs h =
     (ns room seen s p (r .value) k (r .place) (r .first)) refl refl (r .after)
 
 mutual
-  unfolding readNode readForest
+  unfolding readNodeBy readForestBy
 
   pub readNode-sound :
       (k : ℕ) (names : List (List ℕ)) (room seen : ℕ) (s : List ℕ) (p : ℕ) (t : Tree) (rest : List ℕ) (q : ℕ)
       → readNode k names room seen s p ≡ parsed t rest q → NodeRead names room seen s t rest
   readNode-sound zero names room seen s p t rest q h = absurd (refused-parsed h)
   readNode-sound (suc k) names room seen s p t rest q h =
-      nodeBy-read (nextName (skip s)) (nextIs 40 (skip s)) names (λ r e s p. readNode k names r e s p) (λ r e s p. readForest k names r e s p)
+      nodeBy-read (nextLabel (skip s)) (nextIs 40 (skip s)) names (λ r e s p. readNode k names r e s p) (λ r e s p. readForest k names r e s p)
       room seen s (skip s) (p + blanks s)
       (λ r e s p t rest q h. readNode-sound k names r e s p t rest q h) (λ r e s p f rest q h. readForest-sound k names r e s p f rest q h)
       (skip-blanks s) refl refl h
@@ -486,7 +477,7 @@ ended-read names false needed c s m p n is h = absurd (unexpected-parsed (skip m
 pub readTreeTo-sound :
     (k : ℕ) (names : List (List ℕ)) (needed : ℕ) (s : List ℕ) (p : ℕ) {t : Tree} {rest : List ℕ} {q : ℕ}
     → readTreeTo k names needed s p ≡ parsed t rest q → TreeRead names needed s t rest
-unfolding readTreeTo
+unfolding readTreeToBy
 readTreeTo-sound k names needed s p h =
     let r = andThen-parsed (readNode k names openMost 0 s p) (λ t s p. ended (nextIs 59 (skip s)) needed t (skip s) (p + blanks s)) h in
     let m = r .left in
@@ -504,7 +495,7 @@ pub record TreeSound (names : List (List ℕ)) (needed : ℕ) (s : List ℕ) (p 
 pub read-sound :
     (names : List (List ℕ)) (needed : ℕ) (s : List ℕ) (p : ℕ) {t : Tree} {rest : List ℕ} {q : ℕ}
     → readTree names needed s p ≡ parsed t rest q → TreeSound names needed s p t rest q
-unfolding readTree
+unfolding readTreeBy
 read-sound names needed s p h =
     let r = readTreeTo-sound (2 * length s + 1) names needed s p h in
     record { derives = r .derives; once = r .once; all = r .all; known = text-known names (r .derives); moved = readTree-advances names needed s p h }

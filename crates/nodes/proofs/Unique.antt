@@ -6,28 +6,31 @@ use mathlib.Core.Bool.{true, false}
 use mathlib.Core.List.{List, [], _∷_}
 use native.Mathlib.Omega.{arith}
 use lib.ListN.{length}
-use Rattle.labels.specs.Bytes.{isName, isBlank}
+use Rattle.labels.specs.Bytes.{isBlank, nextLabel}
+use Rattle.labels.specs.Spelling.{Spells}
 use Rattle.labels.specs.Labels.{labelBytes}
+use Rattle.labels.proofs.Spelled.{spells-first}
 use Rattle.trees.specs.Tree.{Tree, Forest, Behind}
 use Rattle.trees.specs.Tree.Tree.{leaf, node}
 use Rattle.trees.specs.Tree.Forest.{last, more}
 use Rattle.roster.specs.Roster.{position}
-use Rattle.tokens.specs.Tokens.{nextName, skip, numbers, name, innerName}
-use Rattle.nodes.specs.Grammar.{strict, Blanks, Run, Numbers, Inner, Node, Children, Text}
+use Rattle.tokens.specs.Tokens.{skip, numbers, name, innerName}
+use Rattle.nodes.specs.Grammar.{strict, Blanks, Numbers, Inner, Node, Children, Text}
 use Rattle.nodes.specs.Grammar.Text.{text}
 use Rattle.nodes.proofs.Derivations.{two-wanted, Steps, over-node, LeafForm, InnerForm, LastForm, MoreForm, node-form, children-form}
-use Rattle.nodes.proofs.Exact.{Gives, gives-one, Same, Follows, comma-follows, closing-follows, semicolon-follows, blanks-skip, skip-to, run-first, name-no-blank, stopped-name, numbers-gives, numbers-stopped, name-gives, innerName-gives}
+use Rattle.nodes.proofs.Exact.{Gives, gives-one, Same, Follows, comma-follows, closing-follows, semicolon-follows, blanks-skip, skip-to}
+use Rattle.nodes.proofs.Exact.{label-no-blank, stopped-label, numbers-gives, numbers-stopped, name-gives, innerName-gives}
 
 module _ (names : List (List ℕ)) where
-  skip-name : {s m : List ℕ} → Blanks s m → nextName m ≡ true → skip s ≡ m
-  skip-name {m = m} gap is = blanks-skip gap (name-no-blank m is)
+  skip-name : {s m : List ℕ} → Blanks s m → nextLabel m ≡ true → skip s ≡ m
+  skip-name {m = m} gap is = blanks-skip gap (label-no-blank m is)
 
   -- a leaf's name, read behind its blanks
   leaf-named :
-      {w d b s s₁ s₂ rest : List ℕ} → Blanks s s₁ → Run isName w s₁ s₂ → length w ≤ labelBytes → Numbers (strict names) d b s₂ rest → Follows rest
+      {w d b s s₁ s₂ rest : List ℕ} → Blanks s s₁ → Spells w s₁ s₂ → length w ≤ labelBytes → Numbers (strict names) d b s₂ rest → Follows rest
       → Gives (name (skip s) 0) w s₂
   leaf-named gap r short behind follows =
-      rw (skip-name gap (run-first r)) (name-gives r (stopped-name (numbers-stopped behind follows)) short 0)
+      rw (skip-name gap (spells-first r)) (name-gives r (stopped-label (numbers-stopped behind follows)) short 0)
 
   -- behind blanks stands one byte
   same-byte : {s m m′ : List ℕ} (b : ℕ) → isBlank b ≡ false → Blanks s (b ∷ m) → Blanks s (b ∷ m′) → m ≡ m′
@@ -52,11 +55,11 @@ module _ (names : List (List ℕ)) where
   ForestOne k s f rest = (k′ : ℕ) (f′ : Forest) (rest′ : List ℕ) → Children (strict names) k′ s f′ rest′ → Same f f′ rest rest′
 
   -- no text begins both with a name and with a parenthesis
-  leaf-no-inner : {A : Type 0} {w s s₁ s₂ s₃ : List ℕ} → Blanks s s₁ → Run isName w s₁ s₂ → Blanks s (40 ∷ s₃) → A
-  unfolding nextName
+  leaf-no-inner : {A : Type 0} {w s s₁ s₂ s₃ : List ℕ} → Blanks s s₁ → Spells w s₁ s₂ → Blanks s (40 ∷ s₃) → A
+  unfolding nextLabel
   leaf-no-inner {s₃ = s₃} gap r opens =
-      let e = sym (skip-name gap (run-first r)) ∙ skip-to 40 refl opens in
-      let is : nextName (40 ∷ s₃) ≡ true = rw e at (run-first r) in
+      let e = sym (skip-name gap (spells-first r)) ∙ skip-to 40 refl opens in
+      let is : nextLabel (40 ∷ s₃) ≡ true = rw e at (spells-first r) in
       absurd (let z : _≡_ {A = ℕ} 0 1 = cc in omega arith)
 
   same-numbers :
@@ -68,7 +71,7 @@ module _ (names : List (List ℕ)) where
 
   leaf-one :
       (k i : ℕ) (w d b s s₁ s₂ rest : List ℕ)
-      → Blanks s s₁ → Run isName w s₁ s₂ → (length w ≤ labelBytes) × (position w names ≡ i) × (i < length names) → Numbers (strict names) d b s₂ rest
+      → Blanks s s₁ → Spells w s₁ s₂ → (length w ≤ labelBytes) × (position w names ≡ i) × (i < length names) → Numbers (strict names) d b s₂ rest
       → NodeOne k s (leaf i (record { name = []; distance = d; support = b })) rest
   leaf-one k i w d b s s₁ s₂ rest gap r known behind follows k′ t′ rest′ d′ follows′ = go (node-form (strict names) two-wanted d′)
     where

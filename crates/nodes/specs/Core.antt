@@ -6,14 +6,13 @@ use mathlib.Core.List.{List}
 use lib.ListN.{length, drop, set}
 use lib.Seq.{sets}
 use Rattle.clusters.specs.Sets.{union, size}
-use Rattle.labels.specs.Bytes.{isName, run}
-use Rattle.labels.specs.Labels.{labelBytes, word, padded}
+use Rattle.labels.specs.Bytes.{nextIs}
+use Rattle.labels.specs.Labels.{labelBytes, letters, padded}
 use Rattle.trees.specs.Tree.{Tree, Forest, cluster, clusterOf, clusters, clustersOf}
 use Rattle.roster.specs.Roster.{position}
 use Rattle.roster.specs.Table.{slots}
 use Rattle.tokens.specs.Answers.{Answer, andThen}
 use Rattle.tokens.specs.Answers.Answer.{parsed}
-use Rattle.tokens.specs.Tokens.{nextIs}
 use Rattle.tokens.specs.Says.{refusal, noFault, strayAt}
 use Rattle.tokens.specs.declared.answer.Refusal.{Refusal}
 use Rattle.tokens.specs.declared.answer.BehindRead.{BehindRead}
@@ -70,7 +69,7 @@ keptAs mask stored found (NotExtended e) = found
 -- the table has these names, as many as are counted: a name is found where it stands among them
 pub record Holds (names : List (List ℕ)) (count : ℕ) (table : List ℕ) : Type 0 where
   pub counted : length names ≡ count
-  pub finds : (s : List ℕ) → run isName s ≤ labelBytes → position (padded (word s)) (slots count table) ≡ position (word s) names
+  pub finds : (s : List ℕ) → length (letters s) ≤ labelBytes → position (padded (letters s)) (slots count table) ≡ position (letters s) names
 
 -- what the reader of a node is handed: a table of at most 32 names, and room for two clusters for each
 pub record Given (count : ℕ) (table found : List ℕ) (seen stored : ℕ) : Type 0 where

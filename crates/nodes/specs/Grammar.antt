@@ -1,10 +1,11 @@
 -- Which texts draw which tree (01, "Tree text"), as rules: `X .. s rest` says that s begins with an X and that rest is what follows it.
 use Prim.Native.Nat.{ℕ, suc, _≤_, _<_}
 use mathlib.Core.Path.{_≡_}
-use mathlib.Core.Bool.{Bool, true}
+use mathlib.Core.Bool.{true}
 use mathlib.Core.List.{List, [], _∷_, _++_}
 use lib.ListN.{length}
-use Rattle.labels.specs.Bytes.{isDigit, isName, isBlank}
+use Rattle.labels.specs.Bytes.{isDigit, isBlank}
+use Rattle.labels.specs.Spelling.{Run, Spells}
 use Rattle.labels.specs.Labels.{labelBytes}
 use Rattle.trees.specs.Tree.{Tree, Forest}
 use Rattle.trees.specs.Tree.Tree.{leaf, node}
@@ -12,25 +13,26 @@ use Rattle.trees.specs.Tree.Forest.{last, more}
 use Rattle.roster.specs.Roster.{position}
 use Rattle.tokens.specs.Tokens.{numberBytes}
 
--- which names and numbers a grammar takes, by the roster and the limits, and how many nodes it wants in a parenthesis
+-- which names and numbers a grammar takes, by the roster and the limits, and how many nodes it wants in a parenthesis.
+-- It is told a name or a number, for a leaf's name its species, the text from its first raw byte on, and the text behind it
 pub record Rules : Type 1 where
-  pub leafName : List ℕ → ℕ → Type 0
-  pub innerName : List ℕ → Type 0
-  pub number : List ℕ → Type 0
+  pub leafName : List ℕ → ℕ → List ℕ → List ℕ → Type 0
+  pub innerName : List ℕ → List ℕ → List ℕ → Type 0
+  pub number : List ℕ → List ℕ → List ℕ → Type 0
   pub fewest : ℕ
 
 -- 01's: a leaf's name is on the roster, at its species; names and numbers keep their limits; "a parenthesis of two or more nodes"
 abbrev pub strict : List (List ℕ) → Rules
 strict names = record {
-  leafName = λ w i. (length w ≤ labelBytes) × (position w names ≡ i) × (i < length names);
-  innerName = λ w. length w ≤ labelBytes;
-  number = λ w. length w ≤ numberBytes;
+  leafName = λ w i s rest. (length w ≤ labelBytes) × (position w names ≡ i) × (i < length names);
+  innerName = λ w s rest. length w ≤ labelBytes;
+  number = λ w s rest. length w ≤ numberBytes;
   fewest = 2;
 }
 
 -- limits and roster lifted: any name may be any species
 abbrev pub liftedTo : ℕ → Rules
-liftedTo least = record { leafName = λ w i. Unit {0}; innerName = λ w. Unit {0}; number = λ w. Unit {0}; fewest = least }
+liftedTo least = record { leafName = λ w i s rest. Unit {0}; innerName = λ w s rest. Unit {0}; number = λ w s rest. Unit {0}; fewest = least }
 
 -- still with two or more nodes in a parenthesis
 abbrev pub lifted : Rules
@@ -45,11 +47,6 @@ pub data Blanks : List ℕ → List ℕ → Type 0 where
   none : {s : List ℕ} → Blanks s s
   blank : {b : ℕ} {s rest : List ℕ} → isBlank b ≡ true → Blanks s rest → Blanks (b ∷ s) rest
 
--- one or more bytes w that pass the test
-pub data Run (test : ℕ → Bool) : List ℕ → List ℕ → List ℕ → Type 0 where
-  one : {b : ℕ} {rest : List ℕ} → test b ≡ true → Run test (b ∷ []) (b ∷ rest) rest
-  next : {b : ℕ} {w s rest : List ℕ} → test b ≡ true → Run test w s rest → Run test (b ∷ w) (b ∷ s) rest
-
 -- "A number is digits, or digits, a point and digits"
 pub data Number : List ℕ → List ℕ → List ℕ → Type 0 where
   whole : {w s rest : List ℕ} → Run isDigit w s rest → Number w s rest
@@ -57,7 +54,7 @@ pub data Number : List ℕ → List ℕ → List ℕ → Type 0 where
 
 -- a colon and a number, blanks before each
 pub data ColonNumber (R : Rules) : List ℕ → List ℕ → List ℕ → Type 0 where
-  colon : {w s s₁ s₂ rest : List ℕ} → Blanks s (58 ∷ s₁) → Blanks s₁ s₂ → Number w s₂ rest → R .number w → ColonNumber R w s rest
+  colon : {w s s₁ s₂ rest : List ℕ} → Blanks s (58 ∷ s₁) → Blanks s₁ s₂ → Number w s₂ rest → R .number w s₂ rest → ColonNumber R w s rest
 
 -- "after either may follow `:d`, `:d:b` or `::b`": d and b, empty where they are not written
 pub data Numbers (R : Rules) : List ℕ → List ℕ → List ℕ → List ℕ → Type 0 where
@@ -69,7 +66,7 @@ pub data Numbers (R : Rules) : List ℕ → List ℕ → List ℕ → List ℕ �
 -- "then an optional name"
 pub data Inner (R : Rules) : List ℕ → List ℕ → List ℕ → Type 0 where
   nameless : {s : List ℕ} → Inner R [] s s
-  named : {w s mid rest : List ℕ} → Blanks s mid → Run isName w mid rest → R .innerName w → Inner R w s rest
+  named : {w s mid rest : List ℕ} → Blanks s mid → Spells w mid rest → R .innerName w mid rest → Inner R w s rest
 
 -- "A node is a leaf's name, or a parenthesis of two or more nodes parted by commas"; at most k parentheses are open at once in it.
 -- Children are those behind a first comma, up to and with the closing parenthesis. A parenthesis of a single node (not 01's) draws what it holds
@@ -77,7 +74,7 @@ mutual
   pub data Node (R : Rules) : ℕ → List ℕ → Tree → List ℕ → Type 0 where
     a-leaf :
         {k i : ℕ} {w d b s s₁ s₂ rest : List ℕ}
-        → Blanks s s₁ → Run isName w s₁ s₂ → R .leafName w i → Numbers R d b s₂ rest
+        → Blanks s s₁ → Spells w s₁ s₂ → R .leafName w i s₁ s₂ → Numbers R d b s₂ rest
         → Node R k s (leaf i (record { name = []; distance = d; support = b })) rest
     an-inner :
         {k : ℕ} {t : Tree} {f : Forest} {w d b s s₁ s₂ s₃ s₄ s₅ rest : List ℕ}

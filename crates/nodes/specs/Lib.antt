@@ -1,4 +1,5 @@
 pub mod Reading
 pub mod Grammar
-pub mod Meaning
+pub mod Letters
+pub mod Deciding
 pub mod Core

@@ -5,17 +5,28 @@ use mathlib.Core.List.{List, [], tail}
 use lib.ListN.{length}
 use lib.Dec.{ltb}
 use Rattle.clusters.specs.Sets.{single, union, apart, within}
+use Rattle.labels.specs.Bytes.{nextIs, nextLabel}
 use Rattle.trees.specs.Tree.{Tree, Forest, cluster}
 use Rattle.trees.specs.Tree.Tree.{leaf, node}
 use Rattle.trees.specs.Tree.Forest.{last, more}
 use Rattle.roster.specs.Roster.{position}
 use Rattle.tokens.specs.Answers.{Answer, andThen, unexpected}
 use Rattle.tokens.specs.Answers.Answer.{parsed, refused}
-use Rattle.tokens.specs.Tokens.{nextIs, nextName, blanks, skip, numbers, name, innerName}
+use Rattle.tokens.specs.Tokens.{blanks, skip, numbers, name, innerName}
 
 -- "open parentheses at once | 15"
 abbrev pub openMost : ℕ
 openMost = 15
+
+-- how names are scanned: where one begins, what a name answers, and what the optional name behind a parenthesis answers
+pub record Scanner : Type 0 where
+  pub begins : List ℕ → Bool
+  pub leafName : List ℕ → ℕ → Answer (List ℕ)
+  pub innerName : List ℕ → ℕ → Answer (List ℕ)
+
+-- labels with blanks and quotes (#103)
+abbrev pub labelled : Scanner
+labelled = record { begins = λ s. nextLabel s; leafName = λ s p. name s p; innerName = λ s p. innerName s p }
 
 -- "6 | leaf's name already used | its first byte"
 abbrev pub leafNew : Bool → ℕ → ℕ → List ℕ → ℕ → Answer Tree
@@ -28,28 +39,61 @@ leafKnown false i seen begun s p = refused 5 begun
 leafKnown true i seen begun s p = leafNew (apart (single i) seen) i begun s p
 
 -- "A leaf's name is judged when its run ends: unknown, then repeated"; seen is the set of the species met so far
-unfoldable pub leafAt : List (List ℕ) → ℕ → List ℕ → ℕ → Answer Tree
-leafAt names seen s p =
-    andThen (name s p) (λ w rest q. leafKnown (ltb (position w names) (length names)) (position w names) seen p rest q)
+unfoldable pub leafBy : Scanner → List (List ℕ) → ℕ → List ℕ → ℕ → Answer Tree
+leafBy S names seen s p =
+    andThen (S .leafName s p) (λ w rest q. leafKnown (ltb (position w names) (length names)) (position w names) seen p rest q)
+
+-- by the labels of #103
+abbrev pub leafAt : List (List ℕ) → ℕ → List ℕ → ℕ → Answer Tree
+leafAt names seen s p = leafBy labelled names seen s p
 
 -- behind a closing parenthesis: "then an optional name; after either may follow" numbers
-unfoldable pub closing : Tree → Forest → List ℕ → ℕ → Answer Tree
-closing t f s p = andThen (innerName s p) (λ w s p. andThen (numbers w s p) (λ b s p. parsed (node t f b) s p))
+unfoldable pub closingBy : Scanner → Tree → Forest → List ℕ → ℕ → Answer Tree
+closingBy S t f s p = andThen (S .innerName s p) (λ w s p. andThen (numbers w s p) (λ b s p. parsed (node t f b) s p))
+
+-- by the labels of #103
+abbrev pub closing : Tree → Forest → List ℕ → ℕ → Answer Tree
+closing t f s p = closingBy labelled t f s p
 
 -- behind a first child: a comma and the other children, or "7 | `)` closes a single child | the `)`"
+abbrev pub afterFirstBy : Scanner → Bool → Bool → (ℕ → List ℕ → ℕ → Answer Forest) → ℕ → Tree → List ℕ → ℕ → Answer Tree
+afterFirstBy S true closes others seen t s p = andThen (others (union seen (cluster t)) (tail s) (p + 1)) (λ f s p. closingBy S t f s p)
+afterFirstBy S false true others seen t s p = refused 7 p
+afterFirstBy S false false others seen t s p = unexpected s p
+
+-- by the labels of #103
 abbrev pub afterFirst : Bool → Bool → (ℕ → List ℕ → ℕ → Answer Forest) → ℕ → Tree → List ℕ → ℕ → Answer Tree
-afterFirst true closes others seen t s p = andThen (others (union seen (cluster t)) (tail s) (p + 1)) (λ f s p. closing t f s p)
-afterFirst false true others seen t s p = refused 7 p
-afterFirst false false others seen t s p = unexpected s p
+afterFirst comma closes others seen t s p = afterFirstBy labelled comma closes others seen t s p
 
 -- behind `(`: a first child, then the others; room says how many parentheses may still open: "8 | sixteenth open parenthesis | the `(`"
-abbrev pub opened : (ℕ → ℕ → List ℕ → ℕ → Answer Tree) → (ℕ → ℕ → List ℕ → ℕ → Answer Forest) → ℕ → ℕ → List ℕ → ℕ → Answer Tree
-opened first others zero seen s p = refused 8 p
-opened first others (suc room) seen s p =
+abbrev pub openedBy : Scanner → (ℕ → ℕ → List ℕ → ℕ → Answer Tree) → (ℕ → ℕ → List ℕ → ℕ → Answer Forest) → ℕ → ℕ → List ℕ → ℕ → Answer Tree
+openedBy S first others zero seen s p = refused 8 p
+openedBy S first others (suc room) seen s p =
     andThen (first room seen (tail s) (p + 1))
-    (λ t s p. afterFirst (nextIs 44 (skip s)) (nextIs 41 (skip s)) (λ e s p. others room e s p) seen t (skip s) (p + blanks s))
+    (λ t s p. afterFirstBy S (nextIs 44 (skip s)) (nextIs 41 (skip s)) (λ e s p. others room e s p) seen t (skip s) (p + blanks s))
+
+-- by the labels of #103
+abbrev pub opened : (ℕ → ℕ → List ℕ → ℕ → Answer Tree) → (ℕ → ℕ → List ℕ → ℕ → Answer Forest) → ℕ → ℕ → List ℕ → ℕ → Answer Tree
+opened first others room seen s p = openedBy labelled first others room seen s p
 
 -- "A node is a leaf's name, or a parenthesis of two or more nodes parted by commas"
+abbrev pub nodeOf :
+    Scanner
+    → Bool
+    → Bool
+    → List (List ℕ)
+    → (ℕ → ℕ → List ℕ → ℕ → Answer Tree)
+    → (ℕ → ℕ → List ℕ → ℕ → Answer Forest)
+    → ℕ
+    → ℕ
+    → List ℕ
+    → ℕ
+    → Answer Tree
+nodeOf S true opens names first others room seen s p = leafBy S names seen s p
+nodeOf S false true names first others room seen s p = openedBy S first others room seen s p
+nodeOf S false false names first others room seen s p = unexpected s p
+
+-- by the labels of #103
 abbrev pub nodeBy :
     Bool
     → Bool
@@ -61,9 +105,7 @@ abbrev pub nodeBy :
     → List ℕ
     → ℕ
     → Answer Tree
-nodeBy true opens names first others room seen s p = leafAt names seen s p
-nodeBy false true names first others room seen s p = opened first others room seen s p
-nodeBy false false names first others room seen s p = unexpected s p
+nodeBy begins opens names first others room seen s p = nodeOf labelled begins opens names first others room seen s p
 
 -- behind a later child: a comma and one more at the least, or the closing parenthesis
 abbrev pub afterChild : Bool → Bool → (ℕ → List ℕ → ℕ → Answer Forest) → ℕ → Tree → List ℕ → ℕ → Answer Forest
@@ -74,20 +116,28 @@ afterChild false false others seen t s p = unexpected s p
 -- "Nodes stand within nodes, and the reader follows that nesting": the node at the front of s, and the children of one up to its `)`.
 -- The first number bounds how deep the calls go; `Fuel` shows that the bound in `readTree` is never met.
 unfoldable mutual
-  pub readNode : ℕ → List (List ℕ) → ℕ → ℕ → List ℕ → ℕ → Answer Tree
-  readNode zero names room seen s p = refused 0 0
-  readNode (suc k) names room seen s p =
-      nodeBy (nextName (skip s)) (nextIs 40 (skip s)) names (λ r e s p. readNode k names r e s p) (λ r e s p. readForest k names r e s p) room
+  pub readNodeBy : Scanner → ℕ → List (List ℕ) → ℕ → ℕ → List ℕ → ℕ → Answer Tree
+  readNodeBy S zero names room seen s p = refused 0 0
+  readNodeBy S (suc k) names room seen s p =
+      nodeOf S (S .begins (skip s)) (nextIs 40 (skip s)) names (λ r e s p. readNodeBy S k names r e s p) (λ r e s p. readForestBy S k names r e s p) room
       seen
       (skip s)
       (p + blanks s)
 
-  pub readForest : ℕ → List (List ℕ) → ℕ → ℕ → List ℕ → ℕ → Answer Forest
-  readForest zero names room seen s p = refused 0 0
-  readForest (suc k) names room seen s p =
-      andThen (readNode k names room seen s p)
+  pub readForestBy : Scanner → ℕ → List (List ℕ) → ℕ → ℕ → List ℕ → ℕ → Answer Forest
+  readForestBy S zero names room seen s p = refused 0 0
+  readForestBy S (suc k) names room seen s p =
+      andThen (readNodeBy S k names room seen s p)
       (λ t s p.
-      afterChild (nextIs 44 (skip s)) (nextIs 41 (skip s)) (λ e s p. readForest k names room e s p) seen t (skip s) (p + blanks s))
+      afterChild (nextIs 44 (skip s)) (nextIs 41 (skip s)) (λ e s p. readForestBy S k names room e s p) seen t (skip s) (p + blanks s))
+
+-- by the labels of #103
+abbrev pub readNode : ℕ → List (List ℕ) → ℕ → ℕ → List ℕ → ℕ → Answer Tree
+readNode k names room seen s p = readNodeBy labelled k names room seen s p
+
+-- by the labels of #103
+abbrev pub readForest : ℕ → List (List ℕ) → ℕ → ℕ → List ℕ → ℕ → Answer Forest
+readForest k names room seen s p = readForestBy labelled k names room seen s p
 
 -- "9 | `;` with a species missing | the `;`": needed is the set of the species that must be there
 abbrev pub complete : Bool → Tree → List ℕ → ℕ → Answer Tree
@@ -100,10 +150,18 @@ ended true needed t s p = complete (within needed (cluster t)) t s p
 ended false needed t s p = unexpected s p
 
 -- "A tree is a node and `;`", read by calls to the depth k
-unfoldable pub readTreeTo : ℕ → List (List ℕ) → ℕ → List ℕ → ℕ → Answer Tree
-readTreeTo k names needed s p =
-    andThen (readNode k names openMost 0 s p) (λ t s p. ended (nextIs 59 (skip s)) needed t (skip s) (p + blanks s))
+unfoldable pub readTreeToBy : Scanner → ℕ → List (List ℕ) → ℕ → List ℕ → ℕ → Answer Tree
+readTreeToBy S k names needed s p =
+    andThen (readNodeBy S k names openMost 0 s p) (λ t s p. ended (nextIs 59 (skip s)) needed t (skip s) (p + blanks s))
+
+-- by the labels of #103
+abbrev pub readTreeTo : ℕ → List (List ℕ) → ℕ → List ℕ → ℕ → Answer Tree
+readTreeTo k names needed s p = readTreeToBy labelled k names needed s p
 
 -- the tree at the front of s, which begins at place p
-unfoldable pub readTree : List (List ℕ) → ℕ → List ℕ → ℕ → Answer Tree
-readTree names needed s p = readTreeTo (2 * length s + 1) names needed s p
+unfoldable pub readTreeBy : Scanner → List (List ℕ) → ℕ → List ℕ → ℕ → Answer Tree
+readTreeBy S names needed s p = readTreeToBy S (2 * length s + 1) names needed s p
+
+-- by the labels of #103
+abbrev pub readTree : List (List ℕ) → ℕ → List ℕ → ℕ → Answer Tree
+readTree names needed s p = readTreeBy labelled names needed s p

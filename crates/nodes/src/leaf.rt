@@ -43,7 +43,7 @@ pub(crate) fn ended(
     }
 }
 
-// The leaf whose name begins at the cursor. The name is judged when its run ends: unknown, then repeated.
+// The leaf whose name begins at the cursor. The name is judged when its label ends: unknown, then repeated.
 pub(crate) fn leaf(
     text: &[u8],
     table: &[u8],

@@ -12,7 +12,7 @@ use tokens::Refusal;
 use tokens::behind::closing;
 use tokens::blanks;
 use tokens::next_is;
-use tokens::next_name;
+use tokens::next_label;
 use tokens::stray;
 
 // No comma stands behind a first child: a parenthesis that closes here closes a single child.
@@ -41,7 +41,7 @@ pub fn node(
     ensures { λ r. ⌜ ReadsNode (now (text .entry)) (now (table .entry)) count c room (now (found .entry)) (now (found .exit)) r ⌝ }
 {
     let at = blanks(text, c.at);
-    if next_name(text, at) {
+    if next_label(text, at) {
         return leaf(text, table, count, moved(c, at), found);
     }
     if !next_is(text, at, b'(') {

@@ -9,6 +9,7 @@ use Rattle.trees.specs.Records.{SpeciesValid, GeneValid}
 use Rattle.trees.proofs.GeneRecords.{gene-of-species, gene-decides}
 use Rattle.roster.specs.Roster.{names}
 use Rattle.roster.specs.declared.Reply.{Reply}
+use Rattle.printing.specs.Texts.{reportBytes}
 use Rattle.printing.specs.Work.{Put}
 use Rattle.printing.proofs.Printing.{Room}
 use Rattle.texts.specs.Writing.{written}
@@ -35,14 +36,14 @@ module _ {line r : List ℕ} {n : ℕ} (good : Roster line n) (tree : SpeciesVal
   on-names : GeneValid (length (names line)) r
   on-names = gene-of-species (good-names line (good .good) .some) (rw (good .named) at tree)
 
-  -- "The text .. never passes 286 bytes"
-  pub tree-length : length (written (names line) r) ≤ 286
-  tree-length = let g = good-names line (good .good) in text-most (names line) (g .few) on-names (g .short)
+  -- "Its bound becomes 558 bytes" (#103)
+  pub tree-length : length (written (names line) r) ≤ 558
+  tree-length = let g = good-names line (good .good) in text-most (names line) (g .few) on-names (g .each)
 
-  module _ {l after : List ℕ} {at : ℕ} {reply : Reply} (room : Room 80 at l) (w : Writes line r (take (512 - at) (drop at l)) reply after) where
+  module _ {l after : List ℕ} {at : ℕ} {reply : Reply} (room : Room 80 at l) (w : Writes line r (take (reportBytes - at) (drop at l)) reply after) where
     outcome : (reply .value ≡ length (written (names line) r)) × (after ≡ written (names line) r ++ drop (length (written (names line) r)) (drop at l))
     outcome =
-        let part = part-behind 512 at l (room .bytes) in
+        let part = part-behind reportBytes at l (room .bytes) in
         let g = good-names line (good .good) in
         let test = gene-decides r (g .few) .told on-names in
         let fits : length (written (names line) r) ≤ length (drop at l) = omega (arith, tree-length, length-drop at l, room .bytes, room .used) in
@@ -53,8 +54,8 @@ module _ {line r : List ℕ} {n : ℕ} (good : Roster line n) (tree : SpeciesVal
     pub tree-value : reply .value ≡ length (written (names line) r)
     tree-value = outcome .0
 
-    pub tree-put : Put l at (written (names line) r) (at + reply .value) (take at l ++ (after ++ drop (512 - at) (drop at l)))
+    pub tree-put : Put l at (written (names line) r) (at + reply .value) (take at l ++ (after ++ drop (reportBytes - at) (drop at l)))
     tree-put = record {
       ended = ap (λ (k : ℕ). at + k) (outcome .0);
-      stored = put-part 512 at l (written (names line) r) (room .bytes) (omega (arith, tree-length, room .used)) (outcome .1);
+      stored = put-part reportBytes at l (written (names line) r) (room .bytes) (omega (arith, tree-length, room .used)) (outcome .1);
     }

@@ -15,7 +15,7 @@ pub(crate) fn solved(line: &[u8], n: usize, count: usize, score: usize, tree: Re
     requires { ⌜ SpeciesValid n (tree .numbers) ⌝ }
     ensures { λ r. ⌜ r ≡ told (names (now (line .entry))) (Outcome·solved n count score (tree .numbers)) ⌝ }
 {
-    let mut text = [0u8; 512];
+    let mut text = [0u8; 1024];
     let at = counts(&mut text, n, count, score);
     let written = writer::write(line, tree, &mut text[at..]);
     let len = word(&mut text, at + written.value, b"\n");

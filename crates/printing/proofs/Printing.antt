@@ -7,7 +7,7 @@ use lib.ListN.{length, drop, set, replicate, length-append, length-replicate, re
 use lib.Seq.{sets, length-sets, drop-at}
 use Rattle.trees.proofs.Stores.{sets-append, sets-front}
 use Rattle.printing.specs.Words.{newline, decimal}
-use Rattle.printing.specs.Texts.{reportOf, refusalText, countsText}
+use Rattle.printing.specs.Texts.{reportBytes, reportOf, refusalText, countsText}
 use Rattle.printing.specs.Work.{Put}
 use Rattle.printing.specs.declared.Report.{Report}
 use Rattle.printing.proofs.Digits.{decimal-one, decimal-more, decimal-length}
@@ -80,11 +80,11 @@ put-front n {t} {r} h p =
     p .stored ∙ (sets-front (zeros n) t l ∙ ap (λ (k : List ℕ). t ++ k) (drop-zeros n (length t) h))
 
 -- so it is a report
-pub put-report : {t r : List ℕ} {end : ℕ} → length t ≤ 512 → Put (replicate 512 0) 0 t end r → _≡_ {A = Report} (record { len = end; text = r }) (reportOf t)
+pub put-report : {t r : List ℕ} {end : ℕ} → length t ≤ reportBytes → Put (replicate reportBytes 0) 0 t end r → _≡_ {A = Report} (record { len = end; text = r }) (reportOf t)
 unfolding reportOf
 put-report {t} {r} {end} h p =
     let e : end ≡ length t = omega (arith, p .ended) in
-    ap₂ {C = Report} (λ (n : ℕ) (l : List ℕ). record { len = n; text = l }) e (put-front 512 h p)
+    ap₂ {C = Report} (λ (n : ℕ) (l : List ℕ). record { len = n; text = l }) e (put-front reportBytes h p)
 
 -- ---- how long the outputs are
 
@@ -101,7 +101,7 @@ counts-length n m score =
     let c = decimal-length score in
     simp length-append (omega arith)
 
-pub answer-length : (n m score : ℕ) (text : List ℕ) → length text ≤ 286 → length (countsText n m score ++ text ++ newline) ≤ 512
+pub answer-length : (n m score : ℕ) (text : List ℕ) → length text ≤ 558 → length (countsText n m score ++ text ++ newline) ≤ reportBytes
 answer-length n m score text h =
     let a = counts-length n m score in
     let b = length-append (countsText n m score ++ text) newline in
@@ -110,15 +110,15 @@ answer-length n m score text h =
 
 -- ---- room for what is put next
 
--- 512 bytes, of which at most `most` are in use
+-- the bytes of a report, of which at most `most` are in use
 pub record Room (most at : ℕ) (l : List ℕ) : Type 0 where
-  pub bytes : length l ≡ 512
+  pub bytes : length l ≡ reportBytes
   pub used : at ≤ most
 
-pub room-within : {l r t : List ℕ} {end : ℕ} (most : ℕ) → length l ≡ 512 → length t ≤ most → Put l 0 t end r → Room most end r
+pub room-within : {l r t : List ℕ} {end : ℕ} (most : ℕ) → length l ≡ reportBytes → length t ≤ most → Put l 0 t end r → Room most end r
 room-within most e h p = record { bytes = put-length p ∙ e; used = omega (arith, p .ended) }
 
-pub room-all : {l : List ℕ} → length l ≡ 512 → Room 0 0 l
+pub room-all : {l : List ℕ} → length l ≡ reportBytes → Room 0 0 l
 room-all e = record { bytes = e; used = omega arith }
 
 -- a word and a number behind it take the word's bytes and twenty at the most

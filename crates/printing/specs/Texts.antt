@@ -5,9 +5,13 @@ use lib.ListN.{length, replicate}
 use Rattle.printing.specs.Words.{taxaText, genesText, scoreText, refusedText, atText, newline, decimal}
 use Rattle.printing.specs.declared.Report.{Report}
 
+-- how many bytes a report has room for
+abbrev pub reportBytes : ℕ
+reportBytes = 1024
+
 -- a text as a report: how long it is, and zeros behind it
 unfoldable pub reportOf : List ℕ → Report
-reportOf text = record { len = length text; text = text ++ replicate (512 - length text) 0 }
+reportOf text = record { len = length text; text = text ++ replicate (reportBytes - length text) 0 }
 
 -- "A refusal prints one line .. : the number and the place"
 abbrev pub refusalText : ℕ → ℕ → List ℕ

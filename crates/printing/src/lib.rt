@@ -4,16 +4,16 @@ ghost use mathlib.Core.List.{_++_};
 ghost use Prim.Native.Nat.{_+_, _≤_};
 ghost use lib.ListN.{length};
 ghost use Rattle.printing.specs.Words.{decimal as Words·decimal};
-ghost use Rattle.printing.specs.Texts.{reportOf, countsText, refusalText};
+ghost use Rattle.printing.specs.Texts.{reportBytes, reportOf, countsText, refusalText};
 ghost use Rattle.printing.specs.Work.{Put};
 
 // The output: how many bytes it has, and the bytes with zeros behind them.
 pub struct Report {
     pub len: usize,
-    pub text: [u8; 512],
+    pub text: [u8; 1024],
 }
 
-// Puts the word behind the first `at` bytes, and answers where it ends. `texts` and `outcomes` call it too, with a name and with a line feed that there is room for.
+// Puts the word behind the first `at` bytes, and answers where it ends. `outcomes` calls it too, with a line feed that there is room for.
 pub fn word(out: &mut [u8], at: usize, word: &[u8]) -> usize
     requires { ⌜ at + length (now word) ≤ length (now out) ⌝ }
     ensures { λ end. ⌜ Put (now (out .entry)) at (now (word .entry)) end (now (out .exit)) ⌝ }
@@ -53,7 +53,7 @@ fn labelled(out: &mut [u8], at: usize, label: &[u8], x: usize) -> usize
 pub fn refusal(number: u32, place: usize) -> Report
     ensures { λ r. ⌜ r ≡ reportOf (refusalText number place) ⌝ }
 {
-    let mut text = [0u8; 512];
+    let mut text = [0u8; 1024];
     let at = labelled(&mut text, 0, b"refused ", number as usize);
     let at = labelled(&mut text, at, b" at ", place);
     let len = word(&mut text, at, b"\n");
@@ -62,7 +62,7 @@ pub fn refusal(number: u32, place: usize) -> Report
 
 // The lines of species and gene trees read, and of the score; answers where they end. `outcomes` calls it, with the bytes of a report.
 pub fn counts(out: &mut [u8], n: usize, count: usize, score: usize) -> usize
-    requires { ⌜ length (now out) ≡ 512 ⌝ }
+    requires { ⌜ length (now out) ≡ reportBytes ⌝ }
     ensures { λ end. ⌜ Put (now (out .entry)) 0 (countsText n count score) end (now (out .exit)) ⌝ }
 {
     let at = labelled(out, 0, b"taxa ", n);

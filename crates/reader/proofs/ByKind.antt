@@ -18,7 +18,8 @@ use Rattle.roster.specs.Judged.{speciesMost}
 use Rattle.tokens.specs.Answers.{Answer}
 use Rattle.tokens.specs.Answers.Answer.{parsed, refused}
 use Rattle.nodes.proofs.Answers.{refused-parsed}
-use Rattle.nodes.proofs.Needed.{unlessLacking, thenNeeded, read-then-needed, none-needed-never-nine}
+use Rattle.nodes.proofs.Needed.{unlessLacking, thenNeeded, read-then-needed}
+use Rattle.nodes.proofs.RefusedBy.{none-needed-never-nine}
 use Rattle.reader.specs.Promise.{textMost, readingOf, fromStart, inLimit, onRoster, answerTo, Reads}
 use Rattle.reader.specs.declared.Kind.the-variants.{Species, Gene}
 use Rattle.reader.specs.declared.Reading.{Reading}

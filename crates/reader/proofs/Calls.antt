@@ -5,15 +5,14 @@ use mathlib.Core.Path.{_≡_, sym}
 use mathlib.Core.List.{List}
 use lib.ListN.{length, drop, length-drop}
 use borrow.Author.Tests.{le-leb, lt-leb}
-use Rattle.labels.specs.Labels.{word}
 use Rattle.roster.specs.Roster.{names}
 use Rattle.roster.specs.Table.{table}
 use Rattle.roster.specs.Judged.{speciesMost, rosterOf}
 use Rattle.roster.specs.declared.Roster.{Roster}
 use Rattle.roster.proofs.Judging.{read-good, read-faulty}
-use Rattle.roster.proofs.Names.{word-fits, table-tells}
+use Rattle.roster.proofs.Names.{table-finds}
 use Rattle.tokens.specs.Answers.Answer.{refused}
-use Rattle.nodes.specs.Reading.{openMost, readTree, readTreeTo}
+use Rattle.nodes.specs.Reading.{openMost, readTree, readTreeTo, readTreeBy, readTreeToBy}
 use Rattle.nodes.specs.Core.{Holds}
 use Rattle.reader.specs.Work.{treeAnswer, ReadsRecord}
 use Rattle.reader.specs.Promise.{textMost, needed, readingOf, answerTo, Reads}
@@ -27,7 +26,7 @@ holds-names line roster judged good =
     let g = read-good speciesMost line roster judged good in
     record {
       counted = sym (g .1);
-      finds = λ s short. rw (g .1, g .2) (table-tells speciesMost line (g .0) (word s) (word-fits s short));
+      finds = λ s short. rw (g .1, g .2) (table-finds speciesMost line (g .0) s short);
     }
 
 module _ (kind : Kind) (line text : List ℕ) (start : ℕ) (roster : Roster) (judged : roster ≡ rosterOf speciesMost line) (r : Reading) where
@@ -55,7 +54,7 @@ module _ (kind : Kind) (line text : List ℕ) (start : ℕ) (roster : Roster) (j
       pub tree-recorded :
           (all : ℕ) → all ≡ needed kind (roster .count) → start ≤ length text → ReadsRecord text (roster .table) (roster .count) all start openMost r
           → Reads kind line text start r
-      unfolding Reads answerTo ReadsRecord readTree readTreeTo treeAnswer
+      unfolding Reads answerTo ReadsRecord readTreeBy readTreeToBy treeAnswer
       tree-recorded all is h reads =
           let g = read-good speciesMost line roster judged good in
           let deep : 2 * (length text - start) < 2 * length (drop start text) + 1 = let l = length-drop start text in omega arith in

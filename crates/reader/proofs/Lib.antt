@@ -1,6 +1,5 @@
 pub mod Accepts
 pub mod ByKind
 pub mod Calls
-pub mod MeaningAnswers
 pub mod Replies
 pub mod TreeWays

@@ -18,8 +18,7 @@ use Rattle.roster.specs.Judged.{speciesMost}
 use Rattle.roster.proofs.Names.{names-count}
 use Rattle.tokens.specs.Answers.{Answer}
 use Rattle.tokens.specs.Answers.Answer.{parsed, refused}
-use Rattle.nodes.proofs.Meaning.{refusal-means}
-use Rattle.nodes.proofs.Refusals.{refusal-numbers}
+use Rattle.nodes.proofs.RefusedBy.{tree-numbered}
 use Rattle.reader.specs.Promise.{textMost, needed, fromStart, inLimit, onRoster, answerTo, Reads}
 use Rattle.reader.specs.Accepted.{MayHave, Draws}
 use Rattle.reader.specs.declared.Kind.{Kind}
@@ -37,7 +36,7 @@ refusal-some kind line text start {n} {p} = judged (faulty speciesMost line)
 
     started : (b : Bool) → fromStart kind b (names line) text start ≡ refused n p → 1 ≤ n
     started true e =
-        let k = refusal-numbers (refusal-means (names line) (needed kind (length (names line))) (drop start text) start e .means) in omega arith
+        let k = tree-numbered (names line) (needed kind (length (names line))) (drop start text) start e in omega arith
     started false e = let k = told e in omega arith
 
     limited : (b : Bool) → inLimit kind b (names line) text start ≡ refused n p → 1 ≤ n

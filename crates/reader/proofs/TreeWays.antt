@@ -11,8 +11,9 @@ use Rattle.clusters.specs.Sets.{within}
 use Rattle.clusters.proofs.Sizes.{size-le}
 use Rattle.trees.specs.Tree.{Tree, cluster, clusters}
 use Rattle.trees.specs.Records.{recordOf}
+use Rattle.labels.specs.Bytes.{nextIs}
 use Rattle.tokens.specs.Answers.Answer.{parsed, refused}
-use Rattle.tokens.specs.Tokens.{nextIs, blanks, skip}
+use Rattle.tokens.specs.Tokens.{blanks, skip}
 use Rattle.tokens.specs.Says.{strayAt}
 use Rattle.tokens.specs.declared.answer.Refusal.{Refusal}
 use Rattle.nodes.specs.Reading.{readNode, complete, ended}

@@ -4,8 +4,9 @@ use mathlib.Core.Path.{_≡_}
 use mathlib.Core.List.{List}
 use lib.ListN.{length, drop}
 use Rattle.trees.specs.Tree.{Tree}
+use Rattle.labels.specs.Bytes.{nextIs}
 use Rattle.tokens.specs.Answers.{Answer, andThen}
-use Rattle.tokens.specs.Tokens.{nextIs, blanks, skip}
+use Rattle.tokens.specs.Tokens.{blanks, skip}
 use Rattle.nodes.specs.Reading.{readNode, ended}
 use Rattle.nodes.specs.Core.{Holds, NodeReads}
 use Rattle.nodes.specs.declared.answer.NodeRead.{NodeRead}

@@ -10,6 +10,7 @@ use lib.Dec.{leb}
 use Rattle.roster.specs.Roster.{names, faulty, same}
 use Rattle.roster.specs.Judged.{speciesMost}
 use Rattle.reader.specs.Promise.{textMost}
+use Rattle.printing.specs.Texts.{reportBytes}
 use Rattle.printing.specs.declared.Report.{Report}
 use Rattle.report.specs.Input.{firstLine, behindLine, endsInFeed, treesPlace, allWord, genesWord}
 use Rattle.report.specs.Program.{onMode, onFeeds, onSpecies, onRoster, onText, program}
@@ -32,11 +33,11 @@ unfolding Reports
 reported-within input r e =
     let l = ap (λ (q : Report). q .len) e in
     let t = ap (λ (q : Report). length (q .text)) e in
-    omega (arith, length-append (output input) (replicate (512 - length (output input)) 0))
+    omega (arith, length-append (output input) (replicate (reportBytes - length (output input)) 0))
 
 pub reported-text : (input : List ℕ) (r : Report) → Reports input r → take (r .len) (r .text) ≡ output input
 unfolding Reports
-reported-text input r e = rw e (take-at (output input) (replicate (512 - length (output input)) 0) (length (output input)) refl)
+reported-text input r e = rw e (take-at (output input) (replicate (reportBytes - length (output input)) 0) (length (output input)) refl)
 
 -- ---- what it says
 

@@ -44,3 +44,20 @@ module _ (test : ℕ → Bool) where
           later : (r : ℕ) → r < least test (suc p) n → (p ≡ r) ⊎ (p < r) → test r ≡ false
           later r m (inl s) = rw (← s) e
           later r m (inr k) = next .1 r k m
+
+-- two tests that agree where the first has not passed before have the same least number
+pub least-same : (test other : ℕ → Bool) (n p : ℕ) → ((q : ℕ) → p ≤ q → q < p + n → None test p q → test q ≡ other q) → least test p n ≡ least other p n
+unfolding least
+least-same test other zero p same = refl
+least-same test other (suc n) p same =
+    by (test p) refl (same p (le-refl p) (omega arith) (λ q k m. absurd (omega arith)))
+    (λ e. least-same test other n (suc p) (λ q k m none. same q (omega arith) (omega arith) (λ r l h. later e q none r h (eq-or-lt-of-le l))))
+  where
+    later : test p ≡ false → (q : ℕ) → None test (suc p) q → (r : ℕ) → r < q → (p ≡ r) ⊎ (p < r) → test r ≡ false
+    later e q none r h (inl s) = rw (← s) e
+    later e q none r h (inr l) = none r l h
+
+    by : (t : Bool) → test p ≡ t → t ≡ other p → (t ≡ false → least test (suc p) n ≡ least other (suc p) n)
+        → firstOr t p (least test (suc p) n) ≡ firstOr (other p) p (least other (suc p) n)
+    by true e f on = rw (← f)
+    by false e f on = rw (← f) (on refl)

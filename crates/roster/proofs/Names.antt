@@ -1,77 +1,77 @@
--- The names of a roster line: letters and digits; and of a good one: short, few enough, and no two equal.
+-- The names of a roster line: printable; and of a good one: 1 to 15 bytes, few enough, and no two equal.
 use Prim.Native.Nat.{ℕ, zero, suc, _+_, _≤_, _<_, zero-le}
 use native.Mathlib.Nat.{not-suc-le-zero, le-refl}
 use native.Mathlib.Decide.{decLe, decLt}
 use native.Mathlib.Omega.{arith}
 use mathlib.Core.Path.{_≡_, refl, sym, ap, _∙_}
-use mathlib.Core.Bool.{Bool, true, false, not}
+use mathlib.Core.Bool.{Bool, true, false}
 use mathlib.Core.List.{List, []}
-use lib.ListN.{length, getD, length-append, length-take, List·getD-eq-default}
-use borrow.Author.Tests.{not-true}
-use Rattle.labels.specs.Bytes.{isName, run}
-use Rattle.labels.specs.Labels.{word, padded}
-use Rattle.roster.specs.Roster.{byteAt, byteBefore, begins, nameAt, names, position, faultAt, faulty}
+use lib.ListN.{length, getD, drop, length-append, length-drop, List·getD-eq-default}
+use Rattle.labels.specs.Bytes.{isPrintable, isLabel}
+use Rattle.labels.specs.Labels.{letters, told, padded}
+use Rattle.labels.specs.Labels.Told.{ended}
+use Rattle.labels.specs.Writing.{Printable}
+use Rattle.labels.proofs.Letters.{letters-printable}
+use Rattle.trees.proofs.Booleans.{never-both}
+use Rattle.roster.specs.Roster.{byteAt, begins, nameAt, names, position, faultAt, faulty, inQuotes}
 use Rattle.roster.specs.Table.{table, slots}
-use Rattle.trees.proofs.Booleans.{both, never-both}
-use Rattle.roster.proofs.Beginnings.{namesTo, names-to-end, as-many, none-yet, one-more, no-more, each-begun, word-lettered, names-lettered, short-fit}
+use Rattle.roster.proofs.Beginnings.{namesTo, names-to-end, as-many, none-yet, one-more, no-more, each-begun}
 use Rattle.roster.proofs.Each.{Each, each-at, each-still}
 use Rattle.roster.proofs.Faults.{no-fault}
-use Rattle.roster.proofs.Padding.{Fitting, Lettered, lettered-bare, position-padded}
-use Rattle.roster.proofs.Places.{fault-stray, fault-long, fault-many, fault-again, fault-open, many-here, again-here, open-here, stray-fresh, long-here, begins-name}
+use Rattle.roster.proofs.Padding.{Fitting, letters-fit, position-padded}
+use Rattle.roster.proofs.Places.{fault-stray, fault-many, fault-again, fault-open, many-here, again-here, open-fresh, stray-fresh, begins-label}
 use Rattle.roster.proofs.Positions.{position-within, Distinct, distinct-more, distinct-differ}
+use Rattle.roster.proofs.Spans.{Kind}
+use Rattle.roster.proofs.Spans.Kind.{whole, broken}
 use Rattle.roster.proofs.Tables.{Short, slots-table}
-use Rattle.roster.proofs.Turns.{Starts, size-some, size-within, name-length}
-
--- a word that is short enough for a name fits the table
-pub word-fits : (s : List ℕ) → run isName s ≤ 15 → Fitting (word s)
-unfolding word
-word-fits s h = record { short = omega (arith, length-take (run isName s) s); bare = lettered-bare (word s) (word-lettered s) }
+use Rattle.roster.proofs.Turns.{Starts, begins-here, label-kind, own-fault}
 
 module _ (line : List ℕ) where
   begins-starts : (p : ℕ) → begins line p ≡ true → Starts line p
-  unfolding begins
   begins-starts p e =
-      let parts = both (isName (byteAt line p)) (not (isName (byteBefore line p))) e in
-      record { apart = not-true (isName (byteBefore line p)) (parts .1); here = by (decLe (length line) p) (parts .0); first = parts .0 }
+      let parts = begins-label line p e in
+      record { here = by (decLe (length line) p) (parts .0); label = parts .0; fresh = parts .1; even = parts .2 }
     where
-      by : Dec (length line ≤ p) → isName (byteAt line p) ≡ true → p < length line
-      by (yes h) first = absurd (never-both (isName (byteAt line p)) first (ap isName (List·getD-eq-default line 0 h)))
+      by : Dec (length line ≤ p) → isLabel (byteAt line p) ≡ true → p < length line
+      by (yes h) first = absurd (never-both (isLabel (byteAt line p)) first (ap isLabel (List·getD-eq-default line 0 h)))
       by (no n) first = omega arith
 
-  -- each byte of each name is a letter or a digit
-  pub names-name-bytes : (i k : ℕ) → i < length (names line) → k < length (getD (names line) i []) → isName (getD (getD (names line) i []) k 0) ≡ true
-  names-name-bytes i k h =
-      each-at Lettered (names line) i (rw (names-to-end line) (names-lettered line (length line))) h k
-
-  -- no name is empty
-  pub names-some : (i : ℕ) → i < length (names line) → 0 < length (getD (names line) i [])
-  names-some i =
-      each-at (λ w. 0 < length w) (names line) i
-      (rw (names-to-end line) (each-begun line (λ w. 0 < length w)
-      (λ p e. let s = begins-starts p e in let l = name-length line p s in let z = size-some line p s in omega arith) (length line)))
+  -- each byte of each name is printable
+  pub names-printable : (i k : ℕ) → i < length (names line) → k < length (getD (names line) i []) → isPrintable (getD (getD (names line) i []) k 0) ≡ true
+  unfolding nameAt
+  names-printable i k h =
+      each-at Printable (names line) i (rw (names-to-end line) (each-begun line Printable (length line) (λ p l e. letters-printable (drop p line)))) h k
 
 -- a good roster
 module _ (most : ℕ) (line : List ℕ) (good : faulty most line ≡ false) where
-  each-short : Each (λ w. length w ≤ 15) (names line)
-  each-short = rw (names-to-end line) (each-begun line (λ w. length w ≤ 15) (λ p e. by p e (begins-starts line p e)) (length line))
+  -- a label that begins in it ends, with 1 to 15 letters
+  pub label-ends : (p : ℕ) → begins line p ≡ true → (n : ℕ) × (told (drop p line) ≡ ended n) × (0 < length (nameAt line p)) × (length (nameAt line p) ≤ 15)
+  unfolding nameAt
+  label-ends p e = let st = begins-starts line p e in by st (label-kind line p st)
     where
-      by : (p : ℕ) → begins line p ≡ true → Starts line p → length (nameAt line p) ≤ 15
-      by p e s = decide (decLe (length (nameAt line p)) 15)
-        where
-          decide : Dec (length (nameAt line p) ≤ 15) → length (nameAt line p) ≤ 15
-          decide (yes h) = h
-          decide (no n) =
-              let l = name-length line p s in
-              let w = size-within line p s in
-              absurd (never-both (faultAt most line (p + 15)) (fault-long line (p + 15) most (long-here line p e (omega arith)))
-              (no-fault most line good (p + 15) (omega arith)))
+      by : Starts line p → Kind (drop p line) → (n : ℕ) × (told (drop p line) ≡ ended n) × (0 < length (letters (drop p line))) × (length (letters (drop p line)) ≤ 15)
+      by st (whole n says some short spans) = (n, says, some, short)
+      by st (broken number d says stops) =
+          let w = stops .within in
+          let here = st .here in
+          let left = length-drop p line in
+          absurd (never-both (faultAt most line (p + d)) (own-fault line p st most d (stops .own) (stops .some)) (no-fault most line good (p + d) (omega arith)))
+
+  each-short : Each (λ w. length w ≤ 15) (names line)
+  each-short = rw (names-to-end line) (each-begun line (λ w. length w ≤ 15) (length line) (λ p h e. label-ends p e .3))
 
   pub names-short : (i : ℕ) → i < length (names line) → length (getD (names line) i []) ≤ 15
   names-short i = each-at (λ w. length w ≤ 15) (names line) i each-short
 
+  -- no name is empty
+  pub names-some : (i : ℕ) → i < length (names line) → 0 < length (getD (names line) i [])
+  names-some i =
+      each-at (λ w. 0 < length w) (names line) i (rw (names-to-end line) (each-begun line (λ w. 0 < length w) (length line) (λ p h e. label-ends p e .2)))
+
   -- the names fit the table
   pub names-fit : Each Fitting (names line)
-  names-fit = rw (names-to-end line) (short-fit line (length line) (rw (names-to-end line) at each-short))
+  unfolding nameAt
+  names-fit = rw (names-to-end line) (each-begun line Fitting (length line) (λ p h e. letters-fit (drop p line) (label-ends p e .3)))
 
   -- no name is one too many
   few-to : (m : ℕ) → m ≤ length line → length (namesTo line m) ≤ most
@@ -86,28 +86,25 @@ module _ (most : ℕ) (line : List ℕ) (good : faulty most line ≡ false) wher
           (no-fault most line good m (omega arith)) in
           rw (one-more line m e, length-append) (omega arith)
 
-  -- a good line begins with a name
+  -- a good line begins with a label
   first-starts : Starts line 0
+  unfolding inQuotes
   first-starts =
       let some : 0 < length line = by (decLt 0 (length line)) in
-      record {
-        apart = refl;
-        here = some;
-        first = named (isName (byteAt line 0)) refl some;
-      }
+      record { here = some; label = named (isLabel (byteAt line 0)) refl some; fresh = refl; even = refl }
     where
       by : Dec (0 < length line) → 0 < length line
       by (yes h) = h
       by (no n) =
-          absurd (never-both (faultAt most line 0) (fault-open line 0 most (open-here line 0 (omega arith) refl)) (no-fault most line good 0 zero-le))
+          absurd (never-both (faultAt most line 0) (fault-open line 0 most (open-fresh line 0 (omega arith) refl)) (no-fault most line good 0 zero-le))
 
-      named : (t : Bool) → isName (byteAt line 0) ≡ t → 0 < length line → t ≡ true
+      named : (t : Bool) → isLabel (byteAt line 0) ≡ t → 0 < length line → t ≡ true
       named true e h = refl
-      named false e h = absurd (never-both (faultAt most line 0) (fault-stray line 0 most (stray-fresh line 0 h e refl)) (no-fault most line good 0 zero-le))
+      named false e h =
+          absurd (never-both (faultAt most line 0) (fault-stray line 0 most (stray-fresh line 0 h refl e refl refl)) (no-fault most line good 0 zero-le))
 
   some-to : (m : ℕ) → 1 ≤ length (namesTo line (suc m))
-  some-to zero =
-      rw (one-more line 0 (begins-name line 0 (first-starts .first) refl), length-append) (omega arith)
+  some-to zero = rw (one-more line 0 (begins-here line 0 first-starts), length-append) (omega arith)
   some-to (suc m) = by (begins line (suc m)) refl (some-to m)
     where
       by : (t : Bool) → begins line (suc m) ≡ t → 1 ≤ length (namesTo line (suc m)) → 1 ≤ length (namesTo line (suc (suc m)))
@@ -134,7 +131,8 @@ module _ (most : ℕ) (line : List ℕ) (good : faulty most line ≡ false) wher
         where
           new : Dec (position (nameAt line m) (namesTo line m) < length (namesTo line m)) → position (nameAt line m) (namesTo line m) ≡ length (namesTo line m)
           new (yes known) =
-              absurd (never-both (faultAt most line m) (fault-again line m most (again-here line m e (rw (← as-many line m) known)))
+              let ends = label-ends m e in
+              absurd (never-both (faultAt most line m) (fault-again line m most (again-here line m (ends .0) e (ends .1) (rw (← as-many line m) known)))
               (no-fault most line good m (omega arith)))
           new (no n) = let w = position-within (nameAt line m) (namesTo line m) in omega arith
 
@@ -149,3 +147,7 @@ module _ (most : ℕ) (line : List ℕ) (good : faulty most line ≡ false) wher
   pub table-tells : (w : List ℕ) → Fitting w → position (padded w) (slots (length (names line)) (table (names line))) ≡ position w (names line)
   table-tells w f =
       rw (slots-table (names line) (each-still Fitting Short (λ v g. g .short) (names line) names-fit)) (position-padded w (names line) f names-fit)
+
+  -- so does the name that was scanned off a text
+  pub table-finds : (s : List ℕ) → length (letters s) ≤ 15 → position (padded (letters s)) (slots (length (names line)) (table (names line))) ≡ position (letters s) (names line)
+  table-finds s h = table-tells (letters s) (letters-fit s h)

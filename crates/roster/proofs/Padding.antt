@@ -3,13 +3,15 @@ use Prim.Native.Nat.{ℕ, zero, suc, _-_, _≤_, _<_, zero-le, suc-le-suc}
 use native.Mathlib.Nat.{not-suc-le-zero, le-of-suc-le-suc, suc-sub-suc, sub-zero}
 use native.Mathlib.Omega.{arith}
 use mathlib.Core.Path.{_≡_, refl, sym, ap, _∙_}
-use mathlib.Core.Bool.{Bool, true, _&&_, true≢false}
+use mathlib.Core.Bool.{Bool, _&&_, true≢false}
 use mathlib.Core.List.{List, [], _∷_, _++_, map}
 use lib.ListN.{length, getD, replicate, length-append, length-replicate}
 use lib.Dec.{eqb}
 use borrow.Author.Tests.{ne-eqb}
-use Rattle.labels.specs.Bytes.{isName}
-use Rattle.labels.specs.Labels.{padded}
+use Rattle.labels.specs.Bytes.{isPrintable}
+use Rattle.labels.specs.Labels.{letters, padded}
+use Rattle.labels.specs.Writing.{Printable}
+use Rattle.labels.proofs.Letters.{letters-printable}
 use Rattle.roster.specs.Roster.{same, position}
 use Rattle.roster.proofs.Each.{Each}
 use Rattle.roster.proofs.Positions.{same-self}
@@ -23,13 +25,13 @@ pub record Fitting (w : List ℕ) : Type 0 where
   pub short : length w ≤ 16
   pub bare : Bare w
 
--- letters and digits throughout
-abbrev pub Lettered : List ℕ → Type 0
-Lettered w = (k : ℕ) → k < length w → isName (getD w k 0) ≡ true
+-- printable bytes are no 0
+pub printable-bare : (w : List ℕ) → Printable w → Bare w
+printable-bare w all k h e = true≢false (sym (all k h) ∙ ap isPrintable e)
 
--- letters and digits are no 0
-pub lettered-bare : (w : List ℕ) → Lettered w → Bare w
-lettered-bare w all k h e = true≢false (sym (all k h) ∙ ap isName e)
+-- the letters of a label that are few enough for a name fit the table
+pub letters-fit : (s : List ℕ) → length (letters s) ≤ 15 → Fitting (letters s)
+letters-fit s h = record { short = omega arith; bare = printable-bare (letters s) (letters-printable s) }
 
 -- w in n bytes
 filled : ℕ → List ℕ → List ℕ

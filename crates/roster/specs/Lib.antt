@@ -2,3 +2,4 @@ pub mod Roster
 pub mod Table
 pub mod Judged
 pub mod Verdict
+pub mod Letters

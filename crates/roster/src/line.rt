@@ -1,4 +1,4 @@
-// The roster line: names parted by one space, and the first byte at fault.
+// The roster line: labels parted by one space, and the first byte at fault.
 ghost use mathlib.Core.Path.{_≡_};
 ghost use Prim.Native.Nat.{_≤_};
 ghost use lib.ListN.{replicate};
@@ -8,7 +8,7 @@ use crate::Roster;
 use crate::table::enter;
 use crate::table::species;
 use labels::Label;
-use labels::is_name_byte;
+use labels::is_label;
 use labels::scan;
 
 // The roster that is faulty at `place`.
@@ -23,7 +23,7 @@ fn faulty(place: usize) -> Roster
     }
 }
 
-// Reads the line from the left. At the top of the loop a name has to begin at `at`. `reader` and `writer` call it too, each with 16, for the table of names, which has room for 32.
+// Reads the line from the left. At the top of the loop a label has to begin at `at`. `reader` and `writer` call it too, each with 16, for the table of names, which has room for 32.
 pub fn parse(line: &[u8], most: usize) -> Roster
     requires { ⌜ most ≤ 32 ⌝ }
     ensures { λ r. ⌜ r ≡ rosterOf most (now (line .entry)) ⌝ }
@@ -32,7 +32,7 @@ pub fn parse(line: &[u8], most: usize) -> Roster
     let mut count: usize = 0;
     let mut at: usize = 0;
     while at < line.len() {
-        if !is_name_byte(line[at]) {
+        if !is_label(line[at]) {
             return faulty(at);
         }
         if count == most {
@@ -42,7 +42,7 @@ pub fn parse(line: &[u8], most: usize) -> Roster
         let label = scanned.label;
         let name = scanned.name;
         match label {
-            Label::TooLong { place } => {
+            Label::Faulty { number: _, place } => {
                 return faulty(place);
             }
             Label::Ended { next } => {

@@ -2,11 +2,12 @@
 use Prim.Native.Nat.{ℕ, zero, suc, _+_, _≤_, _<_}
 use mathlib.Core.Path.{_≡_, refl, sym, ap, _∙_}
 use mathlib.Core.Logic.{⊎-elim}
-use mathlib.Core.Bool.{true, false}
+use mathlib.Core.Bool.{Bool, true, false}
 use mathlib.Core.List.{List, []}
 use native.Mathlib.Decide.{ℕ-discrete}
 use native.Mathlib.Omega.{arith}
-use lib.ListN.{length, getD}
+use lib.ListN.{length, getD, set}
+use lib.Seq.{getD-set-same, getD-set-other}
 use Rattle.clusters.specs.Sets.{Has, Apart, within, single, union}
 use Rattle.clusters.proofs.Members.{has-dec, has-union, union-has-left, union-has-right, has-of-within, has-of-apart, single-has, has-single}
 use Rattle.clusters.proofs.Sets.{single-within, true-within, false-within}
@@ -61,3 +62,44 @@ labels-single names i (suc n) h = go (ℕ-discrete i n) (λ l. labels-single nam
     go (no e) ih =
         let k = ih (omega (arith, e)) in
         rw (not-in-set (single i) n (λ s. e (has-single i n s))) (omega arith)
+
+-- ---- another name for the m-th
+
+module _ (names : List (List ℕ)) (s m : ℕ) (w : List ℕ) where
+  other-label : (i : ℕ) → (i ≡ m → ⊥) → length (label (getD (set names m w) i [])) ≡ length (label (getD names i []))
+  other-label i n = ap (λ (v : List ℕ). length (label v)) (getD-set-other names m i w [] n)
+
+  labels-kept : (n : ℕ) → n ≤ m → labelsIn (set names m w) s n ≡ labelsIn names s n
+  unfolding labelsIn
+  labels-kept zero h = refl
+  labels-kept (suc n) h =
+      let k = labels-kept n (omega arith) in
+      let e = ap (λ (l : ℕ). bytesIf (within (single n) s) l) (other-label n (λ e. omega arith)) in
+      omega arith
+
+  -- where its label is by at most one byte shorter, so are all labels together
+  module _ (shorter : length (label (getD names m [])) ≤ suc (length (label w))) where
+    bytes-shorter : (b : Bool) → bytesIf b (length (label (getD names m []))) ≤ suc (bytesIf b (length (label w)))
+    bytes-shorter true = shorter
+    bytes-shorter false = omega arith
+
+    pub labels-shorter : (n : ℕ) → n ≤ length names → labelsIn names s n ≤ suc (labelsIn (set names m w) s n)
+    unfolding labelsIn
+    labels-shorter zero h = omega arith
+    labels-shorter (suc n) h = go (ℕ-discrete n m) (labels-shorter n (omega arith))
+      where
+        go : Dec (n ≡ m) → labelsIn names s n ≤ suc (labelsIn (set names m w) s n)
+            → labelsIn names s n + bytesIf (within (single n) s) (length (label (getD names n [])))
+            ≤ suc (labelsIn (set names m w) s n + bytesIf (within (single n) s) (length (label (getD (set names m w) n []))))
+        go (yes e) ih =
+            let k = labels-kept n (omega arith) in
+            let b = bytes-shorter (within (single n) s) in
+            let l = ap (λ (j : ℕ). bytesIf (within (single n) s) (length (label (getD names j [])))) e in
+            let r =
+            ap (λ (v : List ℕ). bytesIf (within (single n) s) (length (label v)))
+            (ap (λ (j : ℕ). getD (set names m w) j []) e ∙ getD-set-same names m w [] (omega arith))
+            in
+            omega arith
+        go (no e) ih =
+            let l = ap (λ (l : ℕ). bytesIf (within (single n) s) l) (other-label n e) in
+            omega arith

@@ -1,14 +1,20 @@
 -- How long a record's text is: the labels of its species, and two bytes for each cluster less one for each species.
-use Prim.Native.Nat.{ℕ, _+_, _*_, _≤_, _<_}
-use mathlib.Core.Path.{_≡_, refl, ap}
+use Prim.Native.Nat.{ℕ, suc, _+_, _*_, _≤_, _<_}
+use mathlib.Core.Path.{_≡_, refl, sym, ap, _∙_}
 use mathlib.Core.List.{List, [], _∷_, _++_, List·Memᴰ·head as here, Memᴰ·append-left, Memᴰ·append-right}
 use native.Mathlib.Nat.{add-mul}
+use native.Mathlib.Decide.{ℕ-discrete, decLt}
 use native.Mathlib.Omega.{arith}
-use lib.ListN.{length, getD, length-append}
+use lib.ListN.{length, getD, set, replicate, length-append, List·getD-eq-default}
+use lib.Seq.{getD-set-same, getD-set-other}
 use Rattle.clusters.specs.Sets.{union, size}
 use Rattle.clusters.proofs.Members.{has-below}
 use Rattle.clusters.proofs.Sizes.{size-single, size-apart, size-le}
-use Rattle.labels.specs.Labels.{labelBytes}
+use Rattle.labels.specs.Bytes.{isName}
+use Rattle.labels.specs.Labels.{doubled}
+use Rattle.labels.specs.Writing.{Name, mayBeBare, labelOf}
+use Rattle.labels.proofs.Bytewise.{All}
+use Rattle.labels.proofs.Written.{label-as-it-is, label-short, label-longest}
 use Rattle.trees.specs.Lists.{Among, NoneTwice}
 use Rattle.trees.specs.Tree.{Tree, Forest, leaves, leavesOf, clusters, clustersOf, cluster, clusterOf, On}
 use Rattle.trees.specs.Tree.Tree.{leaf, node}
@@ -22,7 +28,9 @@ use Rattle.trees.proofs.Bounds.{count-drawn, count-lt-twice}
 use Rattle.trees.proofs.GeneRecords.{gene-small}
 use Rattle.texts.specs.Writing.{label, nodeText, othersText, treeText, written}
 use Rattle.texts.specs.Work.{labelsIn}
-use Rattle.texts.proofs.LabelSums.{labels-union, labels-single}
+use Rattle.roster.specs.Roster.{position}
+use Rattle.roster.proofs.Positions.{Distinct}
+use Rattle.texts.proofs.LabelSums.{labels-union, labels-single, labels-shorter}
 
 -- ---- the text of a tree
 
@@ -41,7 +49,7 @@ mutual
       (names : List (List ℕ)) (n : ℕ) (t : Tree) → NoneTwice (leaves t) → LeavesBelow n (leaves t)
       → length (nodeText names t) + size (cluster t) + 1 ≡ labelsIn names (cluster t) n + 2 * length (clusters t)
   node-length names n (leaf i b) p q =
-      let e = length-append (getD names i []) [] in
+      let e = length-append (label (getD names i [])) [] in
       let l = labels-single names i n (q i (here refl)) in
       let s = size-single i in
       omega arith
@@ -97,6 +105,19 @@ mutual
       let d = add-mul (size (cluster t)) (size (clusterOf f)) L in
       rw (size-apart (cluster t) (clusterOf f) (children-apart t f p)) (omega arith)
 
+-- ---- the longest labels
+
+-- the one name whose label has 32 bytes, and one whose label has 31
+abbrev allQuotes : List ℕ
+allQuotes = replicate 15 39
+
+abbrev nextLongest : List ℕ
+nextLongest = 97 ∷ replicate 14 39
+
+next-longest : length (label nextLongest) ≡ 31
+unfolding labelOf mayBeBare doubled
+next-longest = refl
+
 -- ---- the text of a record
 
 module _ (names : List (List ℕ)) {r : List ℕ} (few : length names ≤ 16) (g : GeneValid (length names) r) where
@@ -121,17 +142,71 @@ module _ (names : List (List ℕ)) {r : List ℕ} (few : length names ≤ 16) (g
       let c = count-drawn (g .valid) (gene-small few g) in
       omega arith
 
-  module _ (L : ℕ) (short : (i : ℕ) → i < length names → length (label (getD names i [])) ≤ L) where
-    -- "never passes": labels of at most L bytes make a text of at most L + 3 for each species, less 2
-    pub text-bound : length (written names r) + 2 ≤ size (largest r) * L + 3 * size (largest r)
-    text-bound =
-        let a = text-length in
-        let b = labels-bound names (length names) L tree short (on-largest .once) leaves-named in
-        let s = ap (λ (a : ℕ). labelsIn names a (length names)) (on-largest .all) in
-        let k = ap (λ (a : ℕ). size a * L) (on-largest .all) in
-        let c = count-lt-twice (g .valid) (gene-small few g) in
+  -- labels of at most so many bytes in all make a text of three more for each species, less 2
+  text-within : (bytes : ℕ) → labelsIn names (largest r) (length names) ≤ bytes → length (written names r) + 2 ≤ bytes + 3 * size (largest r)
+  text-within bytes h =
+      let a = text-length in
+      let c = count-lt-twice (g .valid) (gene-small few g) in
+      omega arith
+
+  labels-within :
+      (others : List (List ℕ)) (L : ℕ) → ((i : ℕ) → i < length names → length (label (getD others i [])) ≤ L)
+      → labelsIn others (largest r) (length names) ≤ size (largest r) * L
+  labels-within others L short = rw (on-largest .all) at (labels-bound others (length names) L tree short (on-largest .once) leaves-named)
+
+  -- "never passes": labels of at most L bytes make a text of at most L + 3 for each species, less 2
+  pub text-bound :
+      (L : ℕ) → ((i : ℕ) → i < length names → length (label (getD names i [])) ≤ L) → length (written names r) + 2 ≤ size (largest r) * L + 3 * size (largest r)
+  text-bound L short = text-within (size (largest r) * L) (labels-within names L short)
+
+  -- "Names are 1 to 15 printable bytes" (#103)
+  module _ (each : (i : ℕ) → i < length names → Name (getD names i [])) where
+    -- "The text ends in `;`", and "Its bound becomes 558 bytes" (#103)
+    pub text-most : length (written names r) ≤ 558
+    text-most =
+        let a = text-bound 32 (λ i h. label-short (getD names i []) (each i h .short)) in
+        let b = size-le (length names) (g .of-roster) in
         omega arith
 
-  -- "The text ends in `;` and never passes 286 bytes"
-  pub text-most : ((i : ℕ) → i < length names → length (label (getD names i [])) ≤ labelBytes) → length (written names r) ≤ 286
-  text-most short = let a = text-bound 15 short in let b = size-le (length names) (g .of-roster) in omega arith
+    -- "never passes 286 bytes": on names of letters and digits, which are written as they are
+    pub text-of-letters : ((i : ℕ) → i < length names → All isName (getD names i [])) → length (written names r) ≤ 286
+    text-of-letters letters =
+        let a = text-bound 15 (λ i h. rw (label-as-it-is (letters i h)) (each i h .short)) in
+        let b = size-le (length names) (g .of-roster) in
+        omega arith
+
+    module _ (distinct : Distinct names) where
+      -- where the name of fifteen quotes stands, if it does
+      abbrev longest : ℕ
+      longest = position allQuotes names
+
+      -- with another name for that one all labels are shorter
+      others-short : (i : ℕ) → i < length names → length (label (getD (set names longest nextLongest) i [])) ≤ 31
+      others-short i h = go (ℕ-discrete i longest)
+        where
+          go : Dec (i ≡ longest) → length (label (getD (set names longest nextLongest) i [])) ≤ 31
+          go (yes e) =
+              let same =
+              ap (λ (w : List ℕ). length (label w)) (ap (λ (j : ℕ). getD (set names longest nextLongest) j []) e ∙ getD-set-same names longest nextLongest [] (omega arith))
+              in
+              let n = next-longest in
+              omega arith
+          go (no n) =
+              rw (getD-set-other names longest i nextLongest [] n)
+              (label-longest (getD names i []) (each i h .short) (λ e. n (sym (distinct i h) ∙ ap (λ (w : List ℕ). position w names) e)))
+
+      longest-label : length (label (getD names longest [])) ≤ 32
+      longest-label = go (decLt longest (length names))
+        where
+          go : Dec (longest < length names) → length (label (getD names longest [])) ≤ 32
+          go (yes h) = label-short (getD names longest []) (each longest h .short)
+          go (no n) = rw (List·getD-eq-default names [] {n = longest} (omega arith)) (label-short [] (omega arith))
+
+      -- no two names are equal, so one label at most has 32 bytes, and no text more than 543
+      pub text-longest : length (written names r) ≤ 543
+      text-longest =
+          let l = labels-within (set names longest nextLongest) 31 others-short in
+          let k = labels-shorter names (largest r) longest nextLongest (rw next-longest longest-label) (length names) (omega arith) in
+          let a = text-within (suc (size (largest r) * 31)) (omega arith) in
+          let b = size-le (length names) (g .of-roster) in
+          omega arith

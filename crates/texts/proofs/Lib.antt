@@ -1,7 +1,10 @@
 pub mod TableNames
+pub mod Storing
+pub mod TwoForms
 pub mod LabelSums
 pub mod Lengths
 pub mod Largest
 pub mod Childwise
 pub mod NodeText
 pub mod SpeciesText
+pub mod LongestText

@@ -1,10 +1,9 @@
 -- The node of a cluster of a record as it is written: what is known between two children, and where it begins and ends.
 use Prim.Native.Nat.{ℕ, _+_, _-_, _≤_, _<_}
-use mathlib.Core.Path.{_≡_, refl, sym, ap, _∙_}
+use mathlib.Core.Path.{_≡_, ap}
 use mathlib.Core.List.{List, [], _∷_, append-nil}
 use native.Mathlib.Omega.{arith}
-use lib.ListN.{length, set, length-append, length-set}
-use lib.Seq.{sets}
+use lib.ListN.{length, set, length-append}
 use Rattle.clusters.specs.Sets.{Within, size, lowest}
 use Rattle.clusters.proofs.Sets.{within-below}
 use Rattle.clusters.proofs.Sizes.{size-some}
@@ -13,20 +12,18 @@ use Rattle.trees.specs.Records.{listed}
 use Rattle.trees.specs.Drawn.{drawn}
 use Rattle.trees.proofs.Children.{Hierarchy, hierarchy-of-valid, cluster-below}
 use Rattle.trees.proofs.Drawing.{drawn-leaf}
-use Rattle.texts.specs.Writing.{nodeText}
+use Rattle.texts.specs.Writing.{label, nodeText}
 use Rattle.printing.specs.Work.{Put}
-use Rattle.printing.proofs.Printing.{put-byte, put-rest, put-then, put-length}
 use Rattle.texts.specs.Work.{nameIn, namesIn, clusterText, Listed, ChildWith}
 use Rattle.texts.proofs.TableNames.{names-at}
+use Rattle.texts.proofs.Storing.{Going, going-all, going-put, going-byte, going-end}
 use Rattle.texts.proofs.Childwise.{listText, Rest, rest-all, rest-within, rest-none, rest-next}
 
--- part of the node of a is written: what is left to store has the outcome that the whole text had
+-- part of the node of a is written
 pub record Begun (table r : List ℕ) (a : ℕ) (out₀ : List ℕ) (at : ℕ) (out : List ℕ) (end left mark : ℕ) : Type 0 where
   pub todo : List ℕ
   pub rest : Rest (namesIn 32 table) (listed r) a left mark todo
-  pub stores : sets out end todo ≡ sets out₀ at (clusterText table r a)
-  pub ends : end + length todo ≡ at + length (clusterText table r a)
-  pub long : length out ≡ length out₀
+  pub going : Going out₀ at (clusterText table r a) out end todo
 
 -- the next child can be written, and that goes on
 pub record Onward (table r : List ℕ) (a : ℕ) (out₀ : List ℕ) (at : ℕ) (out : List ℕ) (end left mark x : ℕ) : Type 0 where
@@ -48,11 +45,11 @@ module _ {r : List ℕ} {a : ℕ} (h : Listed r a) where
       lowest-below 16 (h .valid .inside a (h .among) .0) (cluster-below tree (h .among))
       (within-below (h .all) 16 (h .valid .inside a (h .among) .1) (let b = h .sixteen in omega arith))
 
-  pub leaf-text : (table : List ℕ) → size a ≡ 1 → clusterText table r a ≡ nameIn table (lowest a)
+  pub leaf-text : (table : List ℕ) → size a ≡ 1 → clusterText table r a ≡ label (nameIn table (lowest a))
   unfolding clusterText nodeText
   leaf-text table e =
       let l = lowest-sixteen in
-      rw (drawn-leaf (listed r) a e, append-nil) (names-at 32 table (lowest a) (omega arith))
+      rw (drawn-leaf (listed r) a e, append-nil) (ap (λ (w : List ℕ). label w) (names-at 32 table (lowest a) (omega arith)))
 
   -- ---- more than one
 
@@ -65,9 +62,7 @@ module _ {r : List ℕ} {a : ℕ} (h : Listed r a) where
     begun-all n = record {
       todo = clusterText table r a;
       rest = rest-all tree (namesIn 32 table) (h .among) n;
-      stores = refl;
-      ends = refl;
-      long = refl;
+      going = going-all out₀ at (clusterText table r a);
     }
 
     module _ {out : List ℕ} {end left mark : ℕ} (b : Begun table r a out₀ at out end left mark) where
@@ -76,7 +71,7 @@ module _ {r : List ℕ} {a : ℕ} (h : Listed r a) where
 
       pub begun-room : end < at + length (clusterText table r a)
       begun-room =
-          let e = b .ends in
+          let e = b .going .ends in
           let l = ap length (b .rest .text) in
           let k = length-append (listText (namesIn 32 table) (λ c. drawn (listed r) c) mark (b .rest .ahead)) (41 ∷ []) in
           omega arith
@@ -85,7 +80,7 @@ module _ {r : List ℕ} {a : ℕ} (h : Listed r a) where
       unfolding clusterText
       begun-next {x} some c =
           let n = rest-next tree (namesIn 32 table) (h .among) (b .rest) some (c .child) (c .holds) in
-          let e = b .ends in
+          let e = b .going .ends in
           let l = ap length (n .text) in
           let k = length-append (nodeText (namesIn 32 table) (drawn (listed r) x)) (n .later) in
           record {
@@ -94,23 +89,9 @@ module _ {r : List ℕ} {a : ℕ} (h : Listed r a) where
             some = n .some;
             most = n .most;
             room = omega arith;
-            then = λ end′ out′ p.
-                let s = put-rest (n .later) (put-then (put-byte out end mark) p) in
-                record {
-                  todo = n .later;
-                  rest = n .rest;
-                  stores = s .0 ∙ ap (λ (z : List ℕ). sets out end z) (sym (n .text)) ∙ b .stores;
-                  ends = s .1 ∙ ap (λ (z : List ℕ). end + length z) (sym (n .text)) ∙ b .ends;
-                  long = put-length p ∙ simp length-set (b .long);
-                };
+            then = λ end′ out′ p. record { todo = n .later; rest = n .rest; going = going-put (n .later) (going-byte (rw (n .text) at (b .going))) p };
           }
 
       pub begun-end : left ≡ 0 → Put out₀ at (clusterText table r a) (end + 1) (set out end 41)
       begun-end z =
-          let e = rest-none tree (namesIn 32 table) (h .among) (b .rest) z in
-          let l = b .ends in
-          let k = ap length e in
-          record {
-            ended = omega arith;
-            stored = ap (λ (t : List ℕ). sets out end t) (sym e) ∙ b .stores;
-          }
+          going-end (going-byte (rw (rest-none tree (namesIn 32 table) (h .among) (b .rest) z) at (b .going)))

@@ -3,12 +3,14 @@ use Prim.Native.Nat.{ℕ, zero, suc, _+_, _-_, _*_, _≤_, _<_}
 use mathlib.Core.Path.{_≡_, refl, ap, _∙_}
 use mathlib.Core.Bool.{Bool, true, false}
 use mathlib.Core.List.{List, []}
+use native.Mathlib.Nat.{le-trans}
 use native.Mathlib.Omega.{arith}
 use lib.ListN.{length, getD, take, drop, length-take, length-drop}
 use lib.Seq.{length-take-le, drop-drop}
 use Rattle.clusters.specs.Sets.{single, within}
 use Rattle.labels.specs.Bytes.{run}
 use Rattle.labels.proofs.Runs.{run-within}
+use Rattle.labels.proofs.Written.{label-twice}
 use Rattle.roster.specs.Table.{nonZero}
 use Rattle.texts.specs.Writing.{label}
 use Rattle.texts.specs.Work.{nameIn, namesIn, bytesIf, labelsIn}
@@ -63,13 +65,13 @@ labels-none names set = refl
 -- one species more
 pub labels-more :
     (n : ℕ) (table : List ℕ) (set i : ℕ) → i < n
-    → labelsIn (namesIn n table) set (suc i) ≡ labelsIn (namesIn n table) set i + bytesIf (within (single i) set) (length (nameIn table i))
+    → labelsIn (namesIn n table) set (suc i) ≡ labelsIn (namesIn n table) set i + bytesIf (within (single i) set) (length (label (nameIn table i)))
 unfolding labelsIn
 labels-more n table set i h =
     ap (λ (w : List ℕ). labelsIn (namesIn n table) set i + bytesIf (within (single i) set) (length (label w))) (names-at n table i h)
 
-pub label-short : (table : List ℕ) (i : ℕ) → 16 * i + 16 ≤ length table → (b : Bool) → bytesIf b (length (nameIn table i)) ≤ 16
-label-short table i fits true = name-short table i fits
+pub label-short : (table : List ℕ) (i : ℕ) → 16 * i + 16 ≤ length table → (b : Bool) → bytesIf b (length (label (nameIn table i))) ≤ 34
+label-short table i fits true = let n = name-short table i fits in le-trans (label-twice (nameIn table i)) (omega arith)
 label-short table i fits false = omega arith
 
 -- the label of species i by the test that the code makes

@@ -2,15 +2,16 @@
 use Prim.Native.Nat.{ℕ}
 use mathlib.Core.List.{List, [], _∷_, _++_}
 use lib.ListN.{getD}
+use Rattle.labels.specs.Writing.{labelOf}
 use Rattle.trees.specs.Tree.{Tree, Forest, cluster}
 use Rattle.trees.specs.Tree.Tree.{leaf, node}
 use Rattle.trees.specs.Tree.Forest.{last, more}
 use Rattle.trees.specs.Records.{listed, largest}
 use Rattle.trees.specs.Drawn.{drawn}
 
--- how a name is written: as it is
+-- how a name is written: "names of letters, digits and blanks bare, blanks as underscores, and quotes others" (#103)
 abbrev pub label : List ℕ → List ℕ
-label name = name
+label name = labelOf name
 
 -- what is written behind the node of a cluster: nothing
 abbrev pub note : ℕ → List ℕ

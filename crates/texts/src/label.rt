@@ -4,28 +4,32 @@ ghost use Prim.Native.Nat.{_+_, _*_, _≤_};
 ghost use lib.ListN.{length};
 ghost use Rattle.clusters.specs.Sets.{single, size, within};
 ghost use Rattle.printing.specs.Work.{Put};
+ghost use Rattle.texts.specs.Writing.{label as Writing·label};
 ghost use Rattle.texts.specs.Work.{nameIn, namesIn, bytesIf, labelsIn};
-use printing::word;
+use crate::forms::written;
+use crate::forms::written_length;
 
 // Writes the label of species i from `at` on; answers the offset behind it.
 pub(crate) fn label(out: &mut [u8], at: usize, table: &[u8], i: usize) -> usize
     requires { ⌜ 16 * i + 16 ≤ length (now table) ⌝ }
-    requires { ⌜ at + length (nameIn (now table) i) ≤ length (now out) ⌝ }
-    ensures { λ end. ⌜ Put (now (out .entry)) at (nameIn (now (table .entry)) i) end (now (out .exit)) ⌝ }
+    requires { ⌜ at + length (Writing·label (nameIn (now table) i)) ≤ length (now out) ⌝ }
+    ensures { λ end. ⌜ Put (now (out .entry)) at (Writing·label (nameIn (now (table .entry)) i)) end (now (out .exit)) ⌝ }
 {
     let n = roster::name_len(table, i);
     let start = 16 * i;
-    word(out, at, &table[start..start + n])
+    written(out, at, &table[start..start + n])
 }
 
 // The length of the label of species i, where it is in the set; else 0.
 fn label_length(table: &[u8], i: usize, set: u32) -> usize
     requires { ⌜ (i ≤ 15) × (16 * i + 16 ≤ length (now table)) ⌝ }
-    ensures { λ r. ⌜ r ≡ bytesIf (within (single i) set) (length (nameIn (now (table .entry)) i)) ⌝ }
+    ensures { λ r. ⌜ r ≡ bytesIf (within (single i) set) (length (Writing·label (nameIn (now (table .entry)) i))) ⌝ }
 {
     let one = clusters::single(i);
     if clusters::within(one, set) {
-        return roster::name_len(table, i);
+        let n = roster::name_len(table, i);
+        let start = 16 * i;
+        return written_length(&table[start..start + n]);
     }
     0
 }

@@ -2,16 +2,16 @@
 use Prim.Native.Nat.{ℕ, _+_, _-_}
 use native.Mathlib.Omega.{arith}
 use mathlib.Core.Path.{_≡_, refl}
-use mathlib.Core.Bool.{Bool, true, false}
+use mathlib.Core.Bool.{true, false}
 use mathlib.Core.List.{List, []}
 use lib.ListN.{drop}
 use lib.Seq.{drop-drop}
-use lib.Dec.{leb}
-use Rattle.labels.specs.Bytes.{isName, run}
-use Rattle.labels.specs.Labels.{labelBytes, word, scannedBy, scannedAt}
+use Rattle.labels.specs.Bytes.{nextIs, nextLabel}
+use Rattle.labels.specs.Labels.{letters, Told, told, scannedBy, scannedAt}
+use Rattle.labels.specs.Labels.Told.{ended, faulty}
 use Rattle.tokens.specs.Answers.{andThen}
 use Rattle.tokens.specs.Answers.Answer.{parsed}
-use Rattle.tokens.specs.Tokens.{nextIs, nextName, blanks, skip, number, numberBehind, secondNumber, firstNumber, numbers, shortName, name, innerName}
+use Rattle.tokens.specs.Tokens.{blanks, skip, number, numberBehind, secondNumber, firstNumber, numbers, nameBy, name, innerName}
 use Rattle.tokens.specs.Says.{between, nameSays, innerWord}
 use Rattle.tokens.specs.declared.answer.Extent.{Extent}
 use Rattle.tokens.proofs.Places.{skip-to, tail-at}
@@ -72,23 +72,23 @@ module _ (text : List ℕ) (at colon : ℕ) (skipped : colon ≡ at + blanks (dr
         rw (numbers-first, skip-to text (colon + 1) second again, u, number-behind text (colon + 1) second again)
 
 -- the label that is scanned is the name
-pub scanned-name : (text : List ℕ) (at : ℕ) → nameSays text (word (drop at text)) (scannedAt text at .label) ≡ name (drop at text) at
+pub scanned-name : (text : List ℕ) (at : ℕ) → nameSays text (letters (drop at text)) (scannedAt text at .label) ≡ name (drop at text) at
 unfolding scannedAt name
-scanned-name text at = by-length (leb (run isName (drop at text)) labelBytes)
+scanned-name text at = by-end (told (drop at text))
   where
-    by-length : (t : Bool) → nameSays text (word (drop at text)) (scannedBy t (drop at text) at .label) ≡ shortName t (drop at text) at
-    by-length true = rw (drop-drop (run isName (drop at text)) at text)
-    by-length false = refl
+    by-end : (t : Told) → nameSays text (letters (drop at text)) (scannedBy t (drop at text) at .label) ≡ nameBy t (drop at text) at
+    by-end (ended n) = rw (drop-drop n at text)
+    by-end (faulty number d) = refl
 
 -- an inner node's name
 module _ (text : List ℕ) (at begun : ℕ) (skipped : begun ≡ at + blanks (drop at text)) where
   pub inner-named :
-      nextName (drop begun text) ≡ true → nameSays text (innerWord (drop at text)) (scannedAt text begun .label) ≡ innerName (drop at text) at
+      nextLabel (drop begun text) ≡ true → nameSays text (innerWord (drop at text)) (scannedAt text begun .label) ≡ innerName (drop at text) at
   unfolding innerWord innerName
   inner-named t =
       rw (skip-to text at begun skipped, t, skip-to text at begun skipped, ← skipped) (scanned-name text begun)
 
-  pub inner-nameless : nextName (drop begun text) ≡ false → parsed (innerWord (drop at text)) (drop at text) at ≡ innerName (drop at text) at
+  pub inner-nameless : nextLabel (drop begun text) ≡ false → parsed (innerWord (drop at text)) (drop at text) at ≡ innerName (drop at text) at
   unfolding innerWord innerName
   inner-nameless t =
       rw (skip-to text at begun skipped, t)

@@ -7,10 +7,10 @@ use mathlib.Core.List.{List}
 use lib.ListN.{length, drop}
 use lib.Seq.{drop-drop}
 use borrow.Author.Tests.{le-leb, lt-leb}
-use Rattle.labels.specs.Bytes.{isDigit, run}
+use Rattle.labels.specs.Bytes.{isDigit, run, nextIs}
 use Rattle.labels.proofs.Runs.{run-left}
 use Rattle.tokens.specs.Answers.Answer.{parsed, refused}
-use Rattle.tokens.specs.Tokens.{nextIs, numeral, pointed, digits, number}
+use Rattle.tokens.specs.Tokens.{numeral, pointed, digits, number}
 use Rattle.tokens.specs.Says.{refusal, strayAt, between}
 use Rattle.tokens.specs.declared.answer.Refusal.{Refusal}
 use Rattle.tokens.proofs.Places.{stray-unexpected}

@@ -4,7 +4,7 @@ use mathlib.Core.Path.{_≡_}
 use mathlib.Core.List.{List}
 use lib.ListN.{drop}
 use Rattle.labels.specs.declared.Label.{Label}
-use Rattle.labels.specs.declared.Label.the-variants.{Ended, TooLong}
+use Rattle.labels.specs.declared.Label.the-variants.{Ended, Faulty}
 use Rattle.tokens.specs.Answers.{Answer, andThen}
 use Rattle.tokens.specs.Answers.Answer.{parsed, refused}
 use Rattle.tokens.specs.Says.{refusal, between, numberSays, numberFault, nameSays, nameFault}
@@ -27,10 +27,10 @@ module _ (text : List ℕ) (r : NumberRead) (answer : Answer (List ℕ)) (says :
       rw (← s)
 
 module _ (text w : List ℕ) (r : Label) (answer : Answer (List ℕ)) (says : nameSays text w r ≡ answer) where
-  pub name-refused : {B : Type 0} (next : List ℕ → List ℕ → ℕ → Answer B) (p : ℕ) (e : Refusal) → r ≡ TooLong p → e ≡ nameFault r → refusal e ≡ andThen answer next
-  name-refused next p e told fault =
-      let s : refused 4 p ≡ answer = rw told at says in
-      let g : e ≡ record { number = 4; place = p } = rw told at fault in
+  pub name-refused : {B : Type 0} (next : List ℕ → List ℕ → ℕ → Answer B) (n p : ℕ) (e : Refusal) → r ≡ Faulty n p → e ≡ nameFault r → refusal e ≡ andThen answer next
+  name-refused next n p e told fault =
+      let s : refused n p ≡ answer = rw told at says in
+      let g : e ≡ record { number = n; place = p } = rw told at fault in
       rw (g, ← s)
 
   pub name-read : {B : Type 0} (next : List ℕ → List ℕ → ℕ → Answer B) (p : ℕ) → r ≡ Ended p → next w (drop p text) p ≡ andThen answer next

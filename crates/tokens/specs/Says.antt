@@ -3,13 +3,14 @@ use Prim.Native.Nat.{ℕ, _-_}
 use mathlib.Core.Bool.{Bool, true, false}
 use mathlib.Core.List.{List, [], _∷_}
 use lib.ListN.{take, drop}
-use Rattle.labels.specs.Labels.{word}
+use Rattle.labels.specs.Bytes.{nextLabel}
+use Rattle.labels.specs.Labels.{letters}
 use Rattle.labels.specs.declared.Label.{Label}
-use Rattle.labels.specs.declared.Label.the-variants.{Ended, TooLong}
+use Rattle.labels.specs.declared.Label.the-variants.{Ended, Faulty}
 use Rattle.trees.specs.Tree.{Behind}
 use Rattle.tokens.specs.Answers.{Answer}
 use Rattle.tokens.specs.Answers.Answer.{parsed, refused}
-use Rattle.tokens.specs.Tokens.{nextName, skip}
+use Rattle.tokens.specs.Tokens.{skip}
 use Rattle.tokens.specs.declared.answer.Refusal.{Refusal}
 use Rattle.tokens.specs.declared.answer.Extent.{Extent}
 use Rattle.tokens.specs.declared.answer.NumberRead.{NumberRead}
@@ -55,21 +56,21 @@ abbrev pub behindFault : BehindRead → Refusal
 behindFault (Extended e) = noFault
 behindFault (NotExtended e) = e
 
--- the name w was read, or "4 | sixteenth byte of a name"
+-- the name w was read, or the label is at fault
 abbrev pub nameSays : List ℕ → List ℕ → Label → Answer (List ℕ)
 nameSays text w (Ended next) = parsed w (drop next text) next
-nameSays text w (TooLong place) = refused 4 place
+nameSays text w (Faulty number place) = refused number place
 
 -- the refusal of a name
 abbrev pub nameFault : Label → Refusal
 nameFault (Ended next) = noFault
-nameFault (TooLong place) = record { number = 4; place = place }
+nameFault (Faulty number place) = record { number = number; place = place }
 
 -- the name behind a closing parenthesis, empty where none stands there
 abbrev pub innerWordBy : Bool → List ℕ → List ℕ
 innerWordBy false s = []
-innerWordBy true s = word (skip s)
+innerWordBy true s = letters (skip s)
 
 -- the inner name that stands at the front, if any
 unfoldable pub innerWord : List ℕ → List ℕ
-innerWord s = innerWordBy (nextName (skip s)) s
+innerWord s = innerWordBy (nextLabel (skip s)) s

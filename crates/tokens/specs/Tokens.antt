@@ -1,11 +1,12 @@
 -- Blanks, names and numbers at the front of a text, and what stands behind a node (01, "Tree text").
 use Prim.Native.Nat.{ℕ, zero, suc, _+_}
 use mathlib.Core.Bool.{Bool, true, false}
-use mathlib.Core.List.{List, [], _∷_, tail}
+use mathlib.Core.List.{List, [], tail}
 use lib.ListN.{take, drop}
-use lib.Dec.{eqb, leb}
-use Rattle.labels.specs.Bytes.{isDigit, isName, isBlank, run}
-use Rattle.labels.specs.Labels.{labelBytes, word}
+use lib.Dec.{leb}
+use Rattle.labels.specs.Bytes.{isDigit, isBlank, run, nextIs, nextLabel}
+use Rattle.labels.specs.Labels.{letters, Told, told}
+use Rattle.labels.specs.Labels.Told.{ended, faulty}
 use Rattle.trees.specs.Tree.{Behind}
 use Rattle.tokens.specs.Answers.{Answer, andThen, unexpected}
 use Rattle.tokens.specs.Answers.Answer.{parsed, refused}
@@ -13,16 +14,6 @@ use Rattle.tokens.specs.Answers.Answer.{parsed, refused}
 -- "number after a colon | 1 to 12 bytes"
 abbrev pub numberBytes : ℕ
 numberBytes = 12
-
--- the text begins with this byte
-unfoldable pub nextIs : ℕ → List ℕ → Bool
-nextIs b [] = false
-nextIs b (c ∷ s) = eqb c b
-
--- the text begins with a letter or a digit
-unfoldable pub nextName : List ℕ → Bool
-nextName [] = false
-nextName (c ∷ s) = isName c
 
 -- "Space, tab, line feed and carriage return may stand between tokens": how many stand at the front, and the text behind them
 unfoldable pub blanks : List ℕ → ℕ
@@ -86,14 +77,14 @@ numbersBy true w s p = firstNumber (nextIs 58 (skip (tail (skip s)))) w (tail (s
 unfoldable pub numbers : List ℕ → List ℕ → ℕ → Answer Behind
 numbers w s p = numbersBy (nextIs 58 (skip s)) w s p
 
--- a name within its limit, or 4 at its sixteenth byte
-abbrev pub shortName : Bool → List ℕ → ℕ → Answer (List ℕ)
-shortName true s p = parsed (word s) (drop (run isName s) s) (p + run isName s)
-shortName false s p = refused 4 (p + labelBytes)
+-- a label as an answer: its name with the text behind it, or its fault
+abbrev pub nameBy : Told → List ℕ → ℕ → Answer (List ℕ)
+nameBy (ended n) s p = parsed (letters s) (drop n s) (p + n)
+nameBy (faulty number d) s p = refused number (p + d)
 
--- a run of letters and digits, or "4 | sixteenth byte of a name"
+-- the name at the front, decoded: "Names are 1 to 15 printable bytes decoded" (#103)
 unfoldable pub name : List ℕ → ℕ → Answer (List ℕ)
-name s p = shortName (leb (run isName s) labelBytes) s p
+name s p = nameBy (told s) s p
 
 -- a name follows, or none
 abbrev pub innerNameBy : Bool → List ℕ → ℕ → Answer (List ℕ)
@@ -102,4 +93,4 @@ innerNameBy true s p = name (skip s) (p + blanks s)
 
 -- "then an optional name": "An inner node's name is dropped too, but its length is judged"
 unfoldable pub innerName : List ℕ → ℕ → Answer (List ℕ)
-innerName s p = innerNameBy (nextName (skip s)) s p
+innerName s p = innerNameBy (nextLabel (skip s)) s p

@@ -57,13 +57,13 @@ pub fn behind_refusal(read: BehindRead) -> Refusal
     }
 }
 
-// A name that is too long is refused at its sixteenth byte.
+// A label at fault is refused by its number, at its place.
 pub fn label_refusal(label: Label) -> Refusal
     ensures { λ r. ⌜ r ≡ nameFault label ⌝ }
 {
     match label {
-        Label::TooLong { place } => Refusal {
-            number: 4,
+        Label::Faulty { number, place } => Refusal {
+            number: number,
             place: place,
         },
         Label::Ended { next: _ } => Refusal {

@@ -3,10 +3,11 @@ ghost use mathlib.Core.Path.{_≡_};
 ghost use mathlib.Core.List.{List};
 ghost use Prim.Native.Nat.{ℕ};
 ghost use lib.ListN.{drop};
+ghost use Rattle.labels.specs.Bytes.{nextIs};
 ghost use Rattle.tokens.specs.Answers.{andThen};
 ghost use Rattle.tokens.specs.Answers.Answer.{parsed};
 ghost use Rattle.tokens.specs.Says.{between, behindSays, nameSays, innerWord};
-ghost use Rattle.tokens.specs.Tokens.{nextIs, skip, number as Tokens·number, numberBehind, secondNumber, numbers, innerName};
+ghost use Rattle.tokens.specs.Tokens.{skip, number as Tokens·number, numberBehind, secondNumber, numbers, innerName};
 use crate::answer::BehindRead;
 use crate::answer::Extent;
 use crate::answer::Extents;
@@ -15,7 +16,7 @@ use crate::answer::label_refusal;
 use crate::answer::number_refusal;
 use crate::cursor::blanks;
 use crate::cursor::next_is;
-use crate::cursor::next_name;
+use crate::cursor::next_label;
 use crate::number::number;
 use labels::Label;
 use labels::scan;
@@ -29,7 +30,8 @@ fn nothing(at: usize) -> Extent
 
 // The support, behind the colon that ends at `at`; the distance stood before it.
 fn support(text: &[u8], at: usize, distance: Extent) -> BehindRead
-    ensures { λ r. ⌜ ((w : List ℕ) → behindSays (now (text .entry)) w r ≡ andThen (numberBehind (drop at (now (text .entry))) at) (λ b s p. parsed (record { name = w; distance = between (now (text .entry)) distance; support = b }) s p)) ⌝ }
+    ensures { λ r. ⌜ ((w : List ℕ) → behindSays (now (text .entry)) w r
+        ≡ andThen (numberBehind (drop at (now (text .entry))) at) (λ b s p. parsed (record { name = w; distance = between (now (text .entry)) distance; support = b }) s p)) ⌝ }
 {
     let read = number(text, blanks(text, at));
     let NumberRead::Number(support) = read else {
@@ -86,7 +88,7 @@ fn inner_name(text: &[u8], at: usize) -> Label
     ensures { λ r. ⌜ nameSays (now (text .entry)) (innerWord (drop at (now (text .entry)))) r ≡ innerName (drop at (now (text .entry))) at ⌝ }
 {
     let begun = blanks(text, at);
-    if next_name(text, begun) {
+    if next_label(text, begun) {
         let scanned = scan(text, begun);
         return scanned.label;
     }

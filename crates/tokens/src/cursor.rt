@@ -2,11 +2,12 @@
 ghost use mathlib.Core.Path.{_≡_};
 ghost use Prim.Native.Nat.{_+_};
 ghost use lib.ListN.{drop};
+ghost use Rattle.labels.specs.Bytes.{nextIs, nextLabel};
 ghost use Rattle.tokens.specs.Says.{strayAt};
-ghost use Rattle.tokens.specs.Tokens.{blanks as Tokens·blanks, nextIs, nextName};
+ghost use Rattle.tokens.specs.Tokens.{blanks as Tokens·blanks};
 use crate::answer::Refusal;
 use labels::is_blank;
-use labels::is_name_byte;
+use labels::is_label;
 
 // The place behind the blanks that begin at `at`.
 pub fn blanks(text: &[u8], at: usize) -> usize
@@ -32,12 +33,12 @@ pub fn next_is(text: &[u8], at: usize, b: u8) -> bool
     false
 }
 
-// Whether a letter or a digit stands at `at`.
-pub fn next_name(text: &[u8], at: usize) -> bool
-    ensures { λ r. ⌜ r ≡ nextName (drop at (now (text .entry))) ⌝ }
+// Whether a label begins at `at`.
+pub fn next_label(text: &[u8], at: usize) -> bool
+    ensures { λ r. ⌜ r ≡ nextLabel (drop at (now (text .entry))) ⌝ }
 {
     if at < text.len() {
-        return is_name_byte(text[at]);
+        return is_label(text[at]);
     }
     false
 }

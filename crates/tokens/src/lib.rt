@@ -12,5 +12,5 @@ pub use answer::behind_refusal;
 pub use answer::label_refusal;
 pub use cursor::blanks;
 pub use cursor::next_is;
-pub use cursor::next_name;
+pub use cursor::next_label;
 pub use cursor::stray;

@@ -1,7 +1,6 @@
 -- The text of a valid record draws, by the grammar's rules, the tree that the record draws.
 use Prim.Native.Nat.{ℕ, zero, suc, _^_, _≤_, _<_}
 use mathlib.Core.Path.{_≡_, refl, sym, subst}
-use mathlib.Core.Bool.{true}
 use mathlib.Core.List.{List, [], _∷_, _++_, append-assoc, append-nil, List·Memᴰ·head as here, List·Memᴰ·tail as there}
 use native.Mathlib.Decide.{ℕ-discrete}
 use native.Mathlib.Omega.{arith}
@@ -10,7 +9,7 @@ use Rattle.clusters.specs.Sets.{size}
 use Rattle.clusters.proofs.Sets.{within-below}
 use Rattle.clusters.proofs.Sizes.{size-some, size-within-lt, size-le}
 use Rattle.clusters.proofs.LowestSpecies.{lowest-below}
-use Rattle.labels.specs.Bytes.{isName}
+use Rattle.labels.proofs.Written.{label-spells}
 use Rattle.trees.specs.Lists.{Among}
 use Rattle.trees.specs.Tree.{Tree, Forest, Behind}
 use Rattle.trees.specs.Tree.Tree.{leaf, node}
@@ -21,9 +20,8 @@ use Rattle.trees.proofs.Children.{Hierarchy, hierarchy-of-valid, among-children
 use Rattle.trees.proofs.Drawing.{drawn-node, drawn-leaf}
 use Rattle.trees.proofs.GeneRecords.{gene-small}
 use Rattle.nodes.specs.Reading.{openMost}
-use Rattle.nodes.specs.Grammar.{strict, Blanks, Run, Node, Children, Text}
+use Rattle.nodes.specs.Grammar.{strict, Blanks, Node, Children, Text}
 use Rattle.nodes.specs.Grammar.Blanks.{none}
-use Rattle.nodes.specs.Grammar.Run.{one, next}
 use Rattle.nodes.specs.Grammar.Numbers.{nothing}
 use Rattle.nodes.specs.Grammar.Inner.{nameless}
 use Rattle.nodes.specs.Grammar.Node.{a-leaf, an-inner}
@@ -31,12 +29,6 @@ use Rattle.nodes.specs.Grammar.Children.{the-last, one-more}
 use Rattle.nodes.specs.Grammar.Text.{text}
 use Rattle.texts.specs.Writing.{nodeText, othersText, treeText, written}
 use Rattle.writer.proofs.RosterNames.{GoodNames}
-
--- a name is a run of letters and digits, whatever stands behind it
-run-of : (w rest : List ℕ) → 1 ≤ length w → ((k : ℕ) → k < length w → isName (getD w k 0) ≡ true) → Run isName w (w ++ rest) rest
-run-of [] rest h p = absurd (omega arith)
-run-of (b ∷ []) rest h p = one (p 0 (omega arith))
-run-of (b ∷ c ∷ w) rest h p = next (p 0 (omega arith)) (run-of (c ∷ w) rest (omega arith) (λ k l. p (suc k) (omega arith)))
 
 -- ---- trees without anything written behind their nodes
 
@@ -60,9 +52,8 @@ module _ {names : List (List ℕ)} (good : GoodNames names) where
   leaf-derives : {k : ℕ} (i : ℕ) (rest : List ℕ) → i < length names → Node (strict names) k (nodeText names (leaf i bare) ++ rest) (leaf i bare) rest
   unfolding nodeText
   leaf-derives i rest h =
-      rw append-nil
-      (a-leaf none (run-of (getD names i []) rest (good .filled i h) (λ k l. good .lettered i k h l))
-      (good .short i h, good .distinct i h, h) nothing)
+      let n = good .each i h in
+      rw append-nil (a-leaf none (label-spells (getD names i []) rest (n .some) (n .printable)) (n .short, good .distinct i h, h) nothing)
 
   mutual
     unfolding nodeText othersText

@@ -1,41 +1,45 @@
 -- The names of a good roster, and where they stand in its table.
 use Prim.Native.Nat.{ℕ, _≤_, _<_}
 use mathlib.Core.Path.{_≡_, _∙_}
-use mathlib.Core.Bool.{true, false}
+use mathlib.Core.Bool.{false}
 use mathlib.Core.List.{List, []}
 use native.Mathlib.Omega.{arith}
 use lib.ListN.{length, getD}
 use lib.Seq.{ext-getD}
-use Rattle.labels.specs.Bytes.{isName}
-use Rattle.labels.specs.Labels.{labelBytes}
-use Rattle.roster.specs.Roster.{position, names, faulty}
+use Rattle.labels.specs.Writing.{Name}
+use Rattle.trees.specs.Records.{GeneValid}
+use Rattle.roster.specs.Roster.{names, faulty}
 use Rattle.roster.specs.Table.{table}
 use Rattle.roster.specs.Judged.{speciesMost}
 use Rattle.roster.proofs.Each.{Each}
+use Rattle.roster.proofs.Positions.{Distinct}
 use Rattle.roster.proofs.Padding.{Fitting}
 use Rattle.roster.proofs.Tables.{table-name-length, table-name-bytes}
-use Rattle.roster.proofs.Names.{names-name-bytes, names-some, names-short, names-count, names-distinct}
+use Rattle.roster.proofs.Names.{names-printable, names-some, names-short, names-count, names-distinct}
+use Rattle.texts.specs.Writing.{written}
 use Rattle.texts.specs.Work.{nameIn, namesIn}
+use Rattle.texts.proofs.Lengths.{text-longest}
 use Rattle.texts.proofs.TableNames.{names-length, names-at}
 
--- one to sixteen names, each of one to fifteen letters and digits, and none equal to an earlier one
+-- one to sixteen names, no two equal
 pub record GoodNames (ns : List (List ℕ)) : Type 0 where
   pub some : 1 ≤ length ns
   pub few : length ns ≤ 16
-  pub filled : (i : ℕ) → i < length ns → 1 ≤ length (getD ns i [])
-  pub short : (i : ℕ) → i < length ns → length (getD ns i []) ≤ labelBytes
-  pub lettered : (i k : ℕ) → i < length ns → k < length (getD ns i []) → isName (getD (getD ns i []) k 0) ≡ true
-  pub distinct : (i : ℕ) → i < length ns → position (getD ns i []) ns ≡ i
+  pub each : (i : ℕ) → i < length ns → Name (getD ns i [])
+  pub distinct : Distinct ns
 
 pub good-names : (line : List ℕ) → faulty speciesMost line ≡ false → GoodNames (names line)
 good-names line good = record {
   some = names-count speciesMost line good .0;
   few = names-count speciesMost line good .1;
-  filled = names-some line;
-  short = names-short speciesMost line good;
-  lettered = names-name-bytes line;
+  each = λ i h.
+      record { some = names-some speciesMost line good i h; short = names-short speciesMost line good i h; printable = λ k l. names-printable line i k h l };
   distinct = names-distinct speciesMost line good;
 }
+
+-- no text on a good roster has more than 543 bytes
+pub roster-longest : (line : List ℕ) {r : List ℕ} → faulty speciesMost line ≡ false → GeneValid (length (names line)) r → length (written (names line) r) ≤ 543
+roster-longest line good v = let g = good-names line good in text-longest (names line) (g .few) v (g .each) (g .distinct)
 
 -- ---- the table
 

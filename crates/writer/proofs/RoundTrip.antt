@@ -39,7 +39,7 @@ module _ (line : List ℕ) {r : List ℕ} (good : faulty speciesMost line ≡ fa
     written-draws : Draws kind line (written (names line) r) 0 (drawn (listed r) (largest r)) []
     written-draws =
         let g = good-names line good in
-        let l = text-most (names line) (g .few) v (g .short) in
+        let l = text-most (names line) (g .few) v (g .each) in
         let o = drawn-on (v .valid) (gene-small (g .few) v) in
         record {
           good = good;

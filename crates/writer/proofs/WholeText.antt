@@ -28,7 +28,7 @@ use Rattle.roster.proofs.Each.{each-still}
 use Rattle.roster.proofs.Padding.{Fitting}
 use Rattle.roster.proofs.Tables.{Short, table-length}
 use Rattle.roster.proofs.Names.{names-fit}
-use Rattle.texts.specs.Writing.{nodeText, othersText, treeText, written}
+use Rattle.texts.specs.Writing.{label, nodeText, othersText, treeText, written}
 use Rattle.printing.specs.Work.{Put}
 use Rattle.printing.proofs.Printing.{put-length}
 use Rattle.texts.specs.Work.{namesIn, labelsIn, clusterText, Listed}
@@ -42,7 +42,7 @@ mutual
   unfolding nodeText othersText leaves leavesOf
 
   node-agrees : (ns ms : List (List ℕ)) (t : Tree) → ((i : ℕ) → Among i (leaves t) → getD ns i [] ≡ getD ms i []) → nodeText ns t ≡ nodeText ms t
-  node-agrees ns ms (leaf i b) e = ap (λ (w : List ℕ). w ++ []) (e i (here refl))
+  node-agrees ns ms (leaf i b) e = ap (λ (w : List ℕ). label w ++ []) (e i (here refl))
   node-agrees ns ms (node t f b) e =
       ap₂ (λ (x y : List ℕ). 40 ∷ x ++ y ++ 41 ∷ []) (node-agrees ns ms t (λ i h. e i (Memᴰ·append-left (leavesOf f) h)))
       (others-agree ns ms f (λ i h. e i (Memᴰ·append-right (leaves t) h)))

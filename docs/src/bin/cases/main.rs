@@ -4,6 +4,7 @@ mod borders;
 mod drawn;
 mod lines;
 mod lost;
+mod quotes;
 
 use std::io::Write;
 
@@ -14,6 +15,7 @@ fn main() {
     let seeded = &mut reference::seeded::Seeded::new(20_261_115);
     drawn::drawn(&mut cases, seeded);
     lost::lost(&mut cases, seeded);
+    quotes::quotes(&mut cases, seeded);
     let mut out = std::io::stdout().lock();
     for line in cases.lines.iter().filter(|line| wanted.as_bytes().contains(&line[0])) {
         out.write_all(line).unwrap();

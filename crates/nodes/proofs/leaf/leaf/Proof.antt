@@ -1,10 +1,10 @@
--- `leaf::leaf` meets its contract: a name too long, unknown, repeated, or a leaf with what stands behind it.
+-- `leaf::leaf` meets its contract: a label at fault, a name unknown, repeated, or a leaf with what stands behind it.
 use borrow.Author.Needs.{needs}
 use mathlib.Core.Path.{sym, _∙_}
 use borrow.Author.Tests.{not-true, not-false}
 use Rattle.nodes.specs.Core.{ReadsLeaf}
 use Rattle.nodes.proofs.NodeAnswers.{node-refused}
-use Rattle.nodes.proofs.Leaves.{leaf-too-long, leaf-unknown, leaf-again, leaf-read, leaf-room}
+use Rattle.nodes.proofs.Leaves.{leaf-faulty, leaf-unknown, leaf-again, leaf-read, leaf-room}
 use Rattle.nodes.proofs.leaf.leaf.Statement.{statement}
 use Rattle.nodes.proofs.leaf.leaf.Tie as tie
 
@@ -27,7 +27,7 @@ returns c = λ names holds.
     let scan = c .before .before .before .before .scan in
     let text = start .args .text .now in
     node-refused text _ _ _ _ _ _
-    (leaf-too-long text (start .args .c .at) (scan .result) (scan .ensures) names (start .args .c .seen) _ (c .label-refusal .result)
+    (leaf-faulty text (start .args .c .at) (scan .result) (scan .ensures) names (start .args .c .seen) _ _ (c .label-refusal .result)
     (c .before .enum-told .given .1) (c .label-refusal .ensures))
 
 species-requires : tie.Need-species-requires

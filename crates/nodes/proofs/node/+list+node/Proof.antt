@@ -7,7 +7,7 @@ use mathlib.Core.Bool.{true, false}
 use lib.ListN.{length, drop}
 use borrow.Author.Needs.{needs}
 use borrow.Author.Tests.{not-true, not-false}
-use Rattle.tokens.specs.Tokens.{nextIs, nextName}
+use Rattle.labels.specs.Bytes.{nextIs, nextLabel}
 use Rattle.nodes.specs.Core.{ReadsNode, ReadsList}
 use Rattle.nodes.specs.declared.answer.Cursor.{Cursor}
 use Rattle.tokens.proofs.Places.{next-is-inside}
@@ -24,7 +24,7 @@ use Rattle.clusters.proofs.union.Reads as union-reads
 use Rattle.tokens.proofs.behind.closing.Reads as closing-reads
 use Rattle.tokens.proofs.blanks.Reads as blanks-reads
 use Rattle.tokens.proofs.next_is.Reads as next-is-reads
-use Rattle.tokens.proofs.next_name.Reads as next-name-reads
+use Rattle.tokens.proofs.next_label.Reads as next-label-reads
 use Rattle.tokens.proofs.stray.Reads as stray-reads
 use Rattle.nodes.proofs.answer.moved.Reads as moved-reads
 use Rattle.nodes.proofs.leaf.ended.Reads as ended-reads
@@ -75,8 +75,8 @@ abbrev node-calls : ℕ → node-lts.Claims
 node-calls t = (
   blanks-reads.Asked,
   blanks-reads.Learnt,
-  next-name-reads.Asked,
-  next-name-reads.Learnt,
+  next-label-reads.Asked,
+  next-label-reads.Learnt,
   moved-reads.Asked,
   moved-reads.Learnt,
   leaf-reads.Asked,
@@ -261,8 +261,8 @@ node-asked t c = record {
 
 node-leafless :
     (t : ℕ) (c : node-lts.Else1 (node-calls t) (node-at t) node.Post)
-    → nextName (drop (c .before .before .blanks .result) (c .before .before .before .before .before .before .args .text .now)) ≡ false
-node-leafless t c = sym (c .before .next-name .ensures) ∙ c .if1 .left
+    → nextLabel (drop (c .before .before .blanks .result) (c .before .before .before .before .before .before .args .text .now)) ≡ false
+node-leafless t c = sym (c .before .next-label .ensures) ∙ c .if1 .left
 
 abbrev node-opening :
     (t : ℕ) (c : node-lts.Else3 (node-calls t) (node-at t) node.Post)
@@ -335,10 +335,10 @@ node-returns t c = λ names holds k deep.
     let leaf = c .before .before .leaf in
     let moved = c .before .before .before .before .moved in
     let if1 = c .before .before .before .before .before .if1 in
-    let next-name = c .before .before .before .before .before .before .next-name in
+    let next-label = c .before .before .before .before .before .before .next-label in
     let blanks = c .before .before .before .before .before .before .before .blanks in
     leaf-way (node-asked t start) names holds (blanks .result) (blanks .ensures) k deep (moved .result) _ (leaf .result)
-    (sym (next-name .ensures) ∙ if1 .taken) (moved .ensures) (leaf .ensures)
+    (sym (next-label .ensures) ∙ if1 .taken) (moved .ensures) (leaf .ensures)
 
 node-returns-2 : (t : ℕ) → node-lts.Need-returns-2 (node-calls t) (node-at t) node.Post
 unfolding ReadsNode

@@ -5,7 +5,7 @@ use mathlib.Core.Path.{_≡_, refl, sym, _∙_}
 use mathlib.Core.Bool.{true}
 use lib.ListN.{drop}
 use borrow.Author.Tests.{not-true, not-false}
-use Rattle.tokens.specs.Tokens.{nextIs}
+use Rattle.labels.specs.Bytes.{nextIs}
 use Rattle.reader.specs.Work.{ReadsTree}
 use Rattle.tokens.proofs.Places.{next-is-inside}
 use Rattle.nodes.proofs.NodeWays.{Asked, NodeCall, Followed}

@@ -1,4 +1,4 @@
--- The loop keeps `Begun`: a name has to begin at `at`, no fault stands before it, and the names before it are in the table.
+-- The loop keeps `Begun`: a label has to begin at `at`, no fault stands before it, and the names before it are in the table.
 use Prim.Native.Nat.{ℕ, _+_, _-_, _<_}
 use native.Mathlib.Omega.{arith}
 use mathlib.Core.Path.{sym, ap, _∙_}
@@ -6,8 +6,8 @@ use mathlib.Core.List.{List}
 use lib.ListN.{length}
 use borrow.Author.Needs.{needs}
 use borrow.Author.Tests.{not-true, not-false}
-use Rattle.labels.proofs.Scans.{ended-short, too-long-run}
-use Rattle.roster.proofs.Turns.{Begun, begun-none, Starts, Met, stray-first, open-end, too-many, too-long, repeated, next-within, well-ended, stray-behind, space-behind}
+use Rattle.labels.proofs.Scans.{scanned-ends, scanned-fails}
+use Rattle.roster.proofs.Turns.{Begun, begun-none, Starts, Met, stray-first, open-end, too-many, at-fault, repeated, next-within, well-ended, stray-behind, space-behind}
 use Rattle.roster.proofs.line.parse.Statement.{statement}
 use Rattle.roster.proofs.line.parse.Tie as tie
 
@@ -17,14 +17,15 @@ Inv-loop line most table₀ count₀ at₀ table count at = Begun most line tabl
 abbrev μ-loop : tie.MeasureT-loop
 μ-loop line most table₀ count₀ at₀ table count at = length line - at
 
--- a name begins where the first test has been passed
+-- a label begins where the first test has been passed
 starts :
     (c : tie.Else1 Inv-loop μ-loop)
     → Starts (c .before .before .before .before .before .before .args .line .now) (c .before .before .before .before .loop .at)
 starts c = record {
-  apart = c .before .before .before .before .loop .inv .apart;
   here = c .before .before .before .loop-test .taken;
-  first = sym (c .before .is-name-byte .ensures) ∙ not-false _ (c .if1 .left);
+  fresh = c .before .before .before .before .loop .inv .fresh;
+  even = c .before .before .before .before .loop .inv .even;
+  label = sym (c .before .is-label .ensures) ∙ not-false _ (c .if1 .left);
 }
 
 -- what is known once the name has been looked up
@@ -47,7 +48,7 @@ met c =
       begun = turn .inv;
       starts = starts at-name;
       fewer = if2 .left;
-      ended = ended-short (start .args .line .now) (turn .at) (scan .result) (scan .ensures) (label2 .given .0 .0) (label2 .given .1);
+      ends = scanned-ends (start .args .line .now) (turn .at) (scan .result) (scan .ensures) (label2 .given .0 .0) (label2 .given .1);
       looked = c .species .ensures;
     }
 
@@ -65,11 +66,11 @@ more c =
 loop-holds : tie.Need-loop-holds Inv-loop μ-loop
 loop-holds c = begun-none _ _
 
-shared-slice-read-is-name-byte : tie.Need-shared-slice-read-is-name-byte Inv-loop μ-loop
-shared-slice-read-is-name-byte c = search needs
+shared-slice-read-is-label : tie.Need-shared-slice-read-is-label Inv-loop μ-loop
+shared-slice-read-is-label c = search needs
 
-is-name-byte-requires : tie.Need-is-name-byte-requires Inv-loop μ-loop
-is-name-byte-requires c κs = search needs
+is-label-requires : tie.Need-is-label-requires Inv-loop μ-loop
+is-label-requires c κs = search needs
 
 faulty-requires : tie.Need-faulty-requires Inv-loop μ-loop
 faulty-requires c κs = search needs
@@ -78,7 +79,7 @@ returns : tie.Need-returns Inv-loop μ-loop
 returns c =
     let loop-test = c .before .before .before .before .loop-test in
     let turn = c .before .before .before .before .before .loop in
-    c .faulty .ensures ∙ stray-first _ _ _ _ _ (turn .inv) (loop-test .taken) (sym (c .before .before .is-name-byte .ensures) ∙ not-true _ (c .before .if1 .taken))
+    c .faulty .ensures ∙ stray-first _ _ _ _ _ (turn .inv) (loop-test .taken) (sym (c .before .before .is-label .ensures) ∙ not-true _ (c .before .if1 .taken))
 
 faulty-requires-2 : tie.Need-faulty-requires-2 Inv-loop μ-loop
 faulty-requires-2 c κs = search needs
@@ -105,8 +106,8 @@ returns-3 c =
     let if2 = c .before .before .before .before .before .before .if2 in
     let turn = at-name .before .before .before .before .loop in
     c .faulty3 .ensures
-    ∙ too-long _ _ _ _ _ (turn .inv) (starts at-name) (if2 .left) _
-    (too-long-run (start .args .line .now) (turn .at) (scan .result) (scan .ensures) (label .given .0 .0) (label .given .1))
+    ∙ at-fault _ _ _ _ _ (turn .inv) (starts at-name) (if2 .left) _ _
+    (scanned-fails (start .args .line .now) (turn .at) (scan .result) (scan .ensures) (label .given .0 .0) (label .given .0 .1 .0) (label .given .1))
 
 enum-known-label-2 : tie.Need-enum-known-label-2 Inv-loop μ-loop
 enum-known-label-2 c = search needs
@@ -186,8 +187,8 @@ parse-spec =
     Inv-loop
     μ-loop
     loop-holds
-    shared-slice-read-is-name-byte
-    is-name-byte-requires
+    shared-slice-read-is-label
+    is-label-requires
     faulty-requires
     returns
     faulty-requires-2

@@ -6,18 +6,19 @@ use native.Mathlib.Omega.{arith}
 use borrow.Author.Needs.{needs}
 use lib.ListN.{length}
 use Rattle.clusters.specs.Sets.{single, within}
+use Rattle.texts.specs.Writing.{label}
 use Rattle.texts.specs.Work.{nameIn, namesIn, bytesIf, labelsIn}
 use Rattle.texts.proofs.TableNames.{labels-none, labels-more, label-short}
 use Rattle.texts.proofs.label.text_length.Statement.{statement}
 use Rattle.texts.proofs.label.text_length.Tie as tie
 
 abbrev Inv-loop : tie.InvT-loop
-Inv-loop table n set m total₀ i₀ total i = (i ≤ n) × (total ≡ labelsIn (namesIn n table) set i + 2 * m) × (total ≤ 62 + 16 * i)
+Inv-loop table n set m total₀ i₀ total i = (i ≤ n) × (total ≡ labelsIn (namesIn n table) set i + 2 * m) × (total ≤ 62 + 34 * i)
 
 abbrev μ-loop : tie.MeasureT-loop
 μ-loop table n set m total₀ i₀ total i = n - i
 
-label-taken : (c : tie.After-label-length Inv-loop μ-loop) → c .label-length .result ≤ 16
+label-taken : (c : tie.After-label-length Inv-loop μ-loop) → c .label-length .result ≤ 34
 label-taken c =
     let start = c .before .before .before .before in
     let i = c .before .before .loop .i in
@@ -40,7 +41,7 @@ loop-again c =
     let i = c .before .before .loop .i in
     let t = label-taken c in
     let e = c .label-length .ensures in
-    let l : labelsIn (namesIn n table) set (i + 1) ≡ labelsIn (namesIn n table) set i + bytesIf (within (single i) set) (length (nameIn table i)) =
+    let l : labelsIn (namesIn n table) set (i + 1) ≡ labelsIn (namesIn n table) set i + bytesIf (within (single i) set) (length (label (nameIn table i))) =
     rw add-one (labels-more n table set i (omega arith))
     in
     (omega arith, omega arith, omega arith)

@@ -7,6 +7,7 @@ use borrow.Author.Needs.{needs}
 use lib.ListN.{length, length-set}
 use Rattle.clusters.specs.Sets.{size, lowest}
 use Rattle.printing.proofs.Printing.{put-length}
+use Rattle.texts.specs.Writing.{label}
 use Rattle.texts.specs.Work.{nameIn, clusterText}
 use borrow.Fn.Kinds.{In}
 use borrow.Fn.PlainCycle.{Measures, is, falls, and}
@@ -79,7 +80,7 @@ pub +node-spec : {M : Type 1} → statement M
     let l = c .lowest .ensures in
     let b = lowest-sixteen h in
     let table = s .args .table .now in
-    let f : length (nameIn table (c .lowest .result)) ≡ length (clusterText table (s .args .numbers .now) (s .args .cluster)) = rw (l, e) in
+    let f : length (label (nameIn table (c .lowest .result))) ≡ length (clusterText table (s .args .numbers .now) (s .args .cluster)) = rw (l, e) in
     (omega arith, omega arith))
     (λ c. put-length (c .before .before .label .ensures))
     (λ c.
@@ -94,7 +95,7 @@ pub +node-spec : {M : Type 1} → statement M
     let s = c .before .before .before .before .before .before .before in
     let b = c .before .loop .inv in
     let k = begun-room (s .pre .1 .0) (s .args .table .now) (s .args .out .now) (s .args .at) b in
-    let l = b .long in
+    let l = b .going .long in
     omega arith)
     (λ c κs.
     let s = c .before .before .before .before .before .before .before in
@@ -113,7 +114,7 @@ pub +node-spec : {M : Type 1} → statement M
     let o = onward t (c .before) in
     let turn = c .before .before .before in
     let s = turn .before .before .before .before .before .before in
-    let l = turn .loop .inv .long in
+    let l = turn .loop .inv .going .long in
     let f = o .smaller in
     let r = o .room in
     (omega arith, (o .listed, (s .pre .1 .1 .0, simp length-set (omega arith)))))
@@ -129,14 +130,14 @@ pub +node-spec : {M : Type 1} → statement M
     let s = c .before .before .before .before .before .before .before in
     let b = c .before .loop .inv in
     let k = begun-room (s .pre .1 .0) (s .args .table .now) (s .args .out .now) (s .args .at) b in
-    let l = b .long in
+    let l = b .going .long in
     omega arith)
     (λ c.
     let s = c .before .before .before .before .before .before .before in
     let b = c .before .loop .inv in
     let k = begun-room (s .pre .1 .0) (s .args .table .now) (s .args .out .now) (s .args .at) b in
     search needs)
-    (λ c. simp length-set (c .before .loop .inv .long))
+    (λ c. simp length-set (c .before .loop .inv .going .long))
     (λ c.
     let s = c .before .before .before .before .before .before .before in
     begun-end (s .pre .1 .0) (s .args .table .now) (s .args .out .now) (s .args .at) (c .before .loop .inv) (omega arith))

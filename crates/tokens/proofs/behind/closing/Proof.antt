@@ -24,7 +24,7 @@ returns : tie.Need-returns
 returns c =
     let start = c .before .before .before .before .before in
     let inner-name = c .before .before .before .inner-name in
-    name-refused (start .args .text .now) _ (inner-name .result) _ (inner-name .ensures) _ _ _ (c .before .enum-told .given .1) (c .label-refusal .ensures)
+    name-refused (start .args .text .now) _ (inner-name .result) _ (inner-name .ensures) _ _ _ _ (c .before .enum-told .given .1) (c .label-refusal .ensures)
 
 behind-requires : tie.Need-behind-requires
 behind-requires c κs = search needs

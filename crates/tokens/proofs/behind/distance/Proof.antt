@@ -2,7 +2,8 @@
 use borrow.Author.Needs.{needs}
 use native.Mathlib.Omega.{arith}
 use mathlib.Core.Path.{sym, _∙_}
-use Rattle.tokens.specs.Tokens.{nextIs, skip, secondNumber}
+use Rattle.labels.specs.Bytes.{nextIs}
+use Rattle.tokens.specs.Tokens.{skip, secondNumber}
 use Rattle.tokens.specs.Says.{between}
 use Rattle.tokens.proofs.Places.{next-is-inside}
 use Rattle.tokens.proofs.Pieces.{number-refused, number-read}

@@ -6,7 +6,7 @@ use mathlib.Core.Bool.{true}
 use lib.ListN.{length, drop}
 use borrow.Author.Needs.{needs}
 use borrow.Author.Tests.{not-true, not-false}
-use Rattle.tokens.specs.Tokens.{nextIs}
+use Rattle.labels.specs.Bytes.{nextIs}
 use Rattle.tokens.proofs.Numerals.{digits-within, no-digits, whole-number, part-within, open-point, point-too-long, decimal-number}
 use Rattle.tokens.proofs.Places.{next-is-inside}
 use Rattle.tokens.proofs.number.number.Statement.{statement}

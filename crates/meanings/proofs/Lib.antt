@@ -1,0 +1,27 @@
+-- What each refusal of a tree text says of the text, proved.
+pub mod Alike
+pub mod ReadingSteps
+pub mod KeptRules
+pub mod FreshSpecies
+pub mod KeptContexts
+pub mod KeptPlaces
+pub mod NumberSpans
+pub mod LateTokens
+pub mod KeptReads
+pub mod OpenNumbers
+pub mod KeptTill
+pub mod KeptTokens
+pub mod KeptBefore
+pub mod MeaningContexts
+pub mod States
+pub mod MeaningCounts
+pub mod Begun
+pub mod OneAnswer
+pub mod MeaningSteps
+pub mod MeaningTokens
+pub mod MeaningSpecies
+pub mod MeaningLifted
+pub mod Meaning
+pub mod Refusals
+pub mod KeptLate
+pub mod MeaningsDecide

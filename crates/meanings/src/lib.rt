@@ -1,0 +1,1 @@
+// No code: what each refusal of a tree text says of the text.
