@@ -11,10 +11,53 @@ use Rattle.search.proofs.Accepted.{NoneGives}
 use Rattle.demands.specs.CallFaults.{_before_}
 use Rattle.demands.specs.CallFaults._before_.{first, later}
 
+-- no fault of F stands
+abbrev pub NoFault : (ℕ → ℕ → Type 0) → Type 0
+NoFault F = (k p : ℕ) → F k p → ⊥
+
+-- ---- what is said is the first fault
+
+-- R is what is said, by number and place: it is said exactly where F has that fault
+pub record Names (R F : ℕ → ℕ → Type 0) : Type 0 where
+  pub found : {k p : ℕ} → R k p → F k p
+  pub only : {k p : ℕ} → F k p → R k p
+
+module _ {R F : ℕ → ℕ → Type 0} where
+  -- the one thing that is said is the one fault
+  pub names-one :
+      {k p : ℕ} → R k p → ((j q : ℕ) → R j q → (j ≡ k) × (q ≡ p)) → F k p → ((j q : ℕ) → F j q → (j ≡ k) × (q ≡ p)) → Names R F
+  names-one r said f one = record {
+    found = λ {k = j} {p = q} s. let h = said j q s in subst₂ F (sym (h .0)) (sym (h .1)) f;
+    only = λ {k = j} {p = q} g. let h = one j q g in subst₂ R (sym (h .0)) (sym (h .1)) r;
+  }
+
+  -- the first kind has a fault, and others do not matter
+  pub names-first : {G : ℕ → ℕ → Type 0} (k p : ℕ) → F k p → Names R F → Names R (F before G)
+  names-first {G} k p f s = record { found = λ r. first (s .found r); only = only }
+    where
+      only : {j q : ℕ} → (F before G) j q → R j q
+      only (first g) = s .only g
+      only (later free g) = absurd (free k p f)
+
+  -- the first kind has none, and the others decide
+  pub names-later : {G : ℕ → ℕ → Type 0} → NoFault F → Names R G → Names R (F before G)
+  names-later {G} free s = record { found = λ r. later free (s .found r); only = only }
+    where
+      only : {j q : ℕ} → (F before G) j q → R j q
+      only {j} {q} (first f) = absurd (free j q f)
+      only (later h g) = s .only g
+
+-- ---- tests
+
+-- what a verdict says: its number and place, where the number is not 0
+pub record SaidBy (said : Verdict) (k p : ℕ) : Type 0 where
+  pub numbered : k ≡ said .number
+  pub placed : p ≡ said .place
+  pub some : k ≡ 0 → ⊥
+
 -- the verdict names a fault of F where its number is not 0, and F has no other
-pub record Exact (said : Verdict) (F : ℕ → ℕ → Type 0) : Type 0 where
-  pub found : (said .number ≡ 0 → ⊥) → F (said .number) (said .place)
-  pub only : {k p : ℕ} → F k p → (k ≡ said .number) × (p ≡ said .place) × (k ≡ 0 → ⊥)
+abbrev pub Exact : Verdict → (ℕ → ℕ → Type 0) → Type 0
+Exact said F = Names (SaidBy said) F
 
 -- the test finds a fault exactly where F has one, and that is its only one
 pub record Meets (t : Test) (F : ℕ → ℕ → Type 0) : Type 0 where
@@ -22,14 +65,26 @@ pub record Meets (t : Test) (F : ℕ → ℕ → Type 0) : Type 0 where
   pub found : t .fault ≡ true → F (t .number) (t .place)
   pub only : {k p : ℕ} → F k p → (t .fault ≡ true) × (k ≡ t .number) × (p ≡ t .place)
 
+-- a test passes exactly where none of its faults stands
+module _ {t : Test} {F : ℕ → ℕ → Type 0} (m : Meets t F) where
+  pub passed-none : t .fault ≡ false → NoFault F
+  passed-none e k p f = true≢false (sym (m .only f .0) ∙ e)
+
+  pub none-passed : NoFault F → t .fault ≡ false
+  none-passed none = unless (t .fault) (λ e. none (t .number) (t .place) (m .found e))
+
+  -- where it does not, it says its fault
+  met : t .fault ≡ true → Exact (record { number = t .number; place = t .place }) F
+  met e = names-one (record { numbered = refl; placed = refl; some = m .numbered }) (λ j q s. (s .numbered, s .placed)) (m .found e) (λ j q f. let h = m .only f in (h .1, h .2))
+
 -- the last test
 pub exact-last : {t : Test} {F : ℕ → ℕ → Type 0} → Meets t F → Exact (verdict (t ∷ [])) F
 unfolding verdict
 exact-last {t} {F} m = go (t .fault) refl
   where
     go : (b : Bool) → t .fault ≡ b → Exact (verdictBy b t (verdict [])) F
-    go true e = record { found = λ z. m .found e; only = λ f. let h = m .only f in (h .1, h .2, λ z. m .numbered (sym (h .1) ∙ z)) }
-    go false e = record { found = λ z. absurd (z refl); only = λ f. absurd (true≢false (sym (m .only f .0) ∙ e)) }
+    go true e = met m e
+    go false e = record { found = λ s. absurd (s .some (s .numbered)); only = λ {k} {p} f. absurd (passed-none m e k p f) }
 
 -- a test, and those behind it
 pub exact-next :
@@ -37,17 +92,9 @@ pub exact-next :
 unfolding verdict
 exact-next {t} l {F} {G} m rest = go (t .fault) refl
   where
-    met : {k p : ℕ} → t .fault ≡ true → (F before G) k p → (k ≡ t .number) × (p ≡ t .place) × (k ≡ 0 → ⊥)
-    met e (first f) = let h = m .only f in (h .1, h .2, λ z. m .numbered (sym (h .1) ∙ z))
-    met e (later none g) = absurd (none (t .number) (t .place) (m .found e))
-
-    passed : {k p : ℕ} → t .fault ≡ false → (F before G) k p → (k ≡ verdict l .number) × (p ≡ verdict l .place) × (k ≡ 0 → ⊥)
-    passed e (first f) = absurd (true≢false (sym (m .only f .0) ∙ e))
-    passed e (later none g) = rest e .only g
-
     go : (b : Bool) → t .fault ≡ b → Exact (verdictBy b t (verdict l)) (F before G)
-    go true e = record { found = λ z. first (m .found e); only = λ f. met e f }
-    go false e = record { found = λ z. later (λ k p f. true≢false (sym (m .only f .0) ∙ e)) (rest e .found z); only = λ f. passed e f }
+    go true e = names-first (t .number) (t .place) (m .found e) (met m e)
+    go false e = names-later (passed-none m e) (rest e)
 
 -- ---- what follows for a reply with that number and place
 
@@ -56,19 +103,15 @@ module _ {said : Verdict} {F : ℕ → ℕ → Type 0} (exact : Exact said F) wh
   pub refused-at : {number place : ℕ} → number ≡ said .number → place ≡ said .place → (k p : ℕ)
       → ((number ≡ k) × (place ≡ p) × (k ≡ 0 → ⊥)) ↔ F k p
   refused-at {number} {place} e e′ k p = (
-    λ h. subst₂ F (sym e ∙ h .0) (sym e′ ∙ h .1) (exact .found (λ z. h .2 (sym (h .0) ∙ e ∙ z))),
-    λ f. let o = exact .only f in (e ∙ sym (o .0), e′ ∙ sym (o .1), o .2),
+    λ h. exact .found (record { numbered = sym (h .0) ∙ e; placed = sym (h .1) ∙ e′; some = h .2 }),
+    λ f. let o = exact .only f in (e ∙ sym (o .numbered), e′ ∙ sym (o .placed), o .some),
   )
 
   -- at most one number and place has a fault
   pub one-fault : {k p k′ p′ : ℕ} → F k p → F k′ p′ → (k ≡ k′) × (p ≡ p′)
-  one-fault f f′ = let o = exact .only f in let o′ = exact .only f′ in (o .0 ∙ sym (o′ .0), o .1 ∙ sym (o′ .1))
+  one-fault f f′ = let o = exact .only f in let o′ = exact .only f′ in (o .numbered ∙ sym (o′ .numbered), o .placed ∙ sym (o′ .placed))
 
 -- ---- no fault at all
-
--- no fault of F stands
-abbrev pub NoFault : (ℕ → ℕ → Type 0) → Type 0
-NoFault F = (k p : ℕ) → F k p → ⊥
 
 -- none in an order of faults is none of each kind
 module _ {F G : ℕ → ℕ → Type 0} where
@@ -84,19 +127,11 @@ module _ {F G : ℕ → ℕ → Type 0} where
 
 -- number 0 exactly where none stands
 pub none-exactly : {said : Verdict} {F : ℕ → ℕ → Type 0} → Exact said F → (said .number ≡ 0) ↔ NoFault F
-none-exactly {said} {F} exact = (λ z k p f. let o = exact .only f in o .2 (o .0 ∙ z), λ none. go (said .number) refl none)
+none-exactly {said} {F} exact = (λ z k p f. let o = exact .only f in o .some (o .numbered ∙ z), λ none. go (said .number) refl none)
   where
     go : (n : ℕ) → said .number ≡ n → NoFault F → n ≡ 0
     go zero e none = refl
-    go (suc n) e none = absurd (none (said .number) (said .place) (exact .found (λ z. omega arith)))
-
--- a test passes exactly where none of its faults stands
-module _ {t : Test} {F : ℕ → ℕ → Type 0} (m : Meets t F) where
-  pub passed-none : t .fault ≡ false → NoFault F
-  passed-none e k p f = true≢false (sym (m .only f .0) ∙ e)
-
-  pub none-passed : NoFault F → t .fault ≡ false
-  none-passed none = unless (t .fault) (λ e. none (t .number) (t .place) (m .found e))
+    go (suc n) e none = absurd (none (said .number) (said .place) (exact .found (record { numbered = refl; placed = refl; some = λ z. omega arith })))
 
 -- ---- tests behind others
 

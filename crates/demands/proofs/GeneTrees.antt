@@ -1,11 +1,11 @@
 -- The count over gene records is the count over the gene trees as drawn.
-use Prim.Native.Nat.{ℕ, _-_, _^_, _≤_, _<_}
+use Prim.Native.Nat.{ℕ, _-_, _≤_}
 use mathlib.Core.Path.{_≡_, refl, sym, ap, ap₂, _∙_, subst}
 use mathlib.Core.Logic.{_⊎_, inl, inr}
 use mathlib.Core.List.{List, [], _∷_, map, map-map, List·Memᴰ, List·Memᴰ·head as here, List·Memᴰ·tail as there, List·Memᴰ·not-nil, List·Memᴰ·cases-cons}
 use Rattle.trees.specs.Tree.{Tree, On, cluster, clusters}
 use Rattle.trees.specs.Drawn.{drawn}
-use Rattle.trees.specs.Records.{listed, recordOf, largest, GeneValid}
+use Rattle.trees.specs.Records.{listed, recordOf, largest, ClusterOf, GeneValid}
 use Rattle.trees.proofs.Drawing.{drawn-on, drawn-record}
 use Rattle.trees.proofs.GeneRecords.{gene-small}
 use Rattle.trees.proofs.Totals.{total-same}
@@ -27,8 +27,7 @@ drawn-on-some {n} {g} few v =
     let o = drawn-on (v .valid) (gene-small few v) in
     record {
       once = o .once;
-      some-species = subst (λ (s : ℕ). 1 ≤ s) (sym (o .all)) (v .some-species);
-      of-roster = subst (λ (s : ℕ). s < 2 ^ n) (sym (o .all)) (v .of-roster);
+      species = subst (λ (s : ℕ). ClusterOf n s) (sym (o .all)) (v .of-roster);
     }
 
 pub gene-trees : (n : ℕ) (genes : List (List ℕ)) → n ≤ 16 → ((g : List ℕ) → List·Memᴰ g genes → GeneValid n g) → (trees : List Tree) × RecordsOf n genes trees

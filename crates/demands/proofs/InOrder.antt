@@ -7,7 +7,6 @@ use native.Mathlib.Omega.{arith}
 use lib.ListN.{length, drop}
 use borrow.Author.Tests.{ltb-false, le-ltb}
 use Rattle.trees.specs.Records.{AllValid, recordsIn}
-use Rattle.trees.proofs.GeneRecords.{gene-decides}
 use Rattle.roster.specs.Roster.{names}
 use Rattle.roster.specs.Verdict.{Verdict, verdict, replyOf}
 use Rattle.roster.specs.declared.Reply.{Reply}
@@ -17,15 +16,15 @@ use Rattle.writer.proofs.Outcomes.{writes-zero}
 use Rattle.weights.specs.Count.{weight}
 use Rattle.lineages.specs.Checks.{firstBad, recordsTest, weightTests, markTests}
 use Rattle.lineages.specs.Promise.{marks, markedBy, Weighs, Marks}
-use Rattle.lineages.proofs.FirstBad.{none-bad}
-use Rattle.search.proofs.Accepted.{all-first-bad}
+use Rattle.lineages.specs.InOrder.{GenesInOrder}
+use Rattle.lineages.proofs.FirstBad.{none-bad, all-valid-none-bad}
 use Rattle.demands.specs.CallFaults.{SpeciesFault, CountFault, LengthFault, RecordsFault, RecordFault, ClusterFault, WriteFault, WeightFault, MarkFault}
 use Rattle.demands.specs.CallFaults.SpeciesFault.{not-1-to-16}
 use Rattle.demands.specs.CallFaults.CountFault.{none-or-many}
 use Rattle.demands.specs.CallFaults.LengthFault.{too-short}
 use Rattle.demands.specs.CallFaults.RecordFault.{not-valid}
 use Rattle.demands.specs.CallFaults.ClusterFault.{no-cluster}
-use Rattle.demands.specs.InOrder.{GenesInOrder, Weighable, Markable, Writable}
+use Rattle.demands.specs.InOrder.{Weighable, Markable, Writable}
 use Rattle.demands.proofs.FirstFaults.{NoFault, none-first, none-later, none-of-both, none-exactly, passed-none, none-passed}
 use Rattle.demands.proofs.TestFaults.{records-met, roster-met}
 use Rattle.demands.proofs.CallFaults.{write-exact, weight-exact, mark-exact}
@@ -53,7 +52,7 @@ unfolding recordsTest
 all-valid n genes few = (
   λ h. none-bad n genes few (ltb-false (firstBad n genes) (length genes) (none-passed (records-met n few genes) h)),
   λ h. passed-none (records-met n few genes) (le-ltb (firstBad n genes) (length genes)
-      (let e = all-first-bad n genes (λ g m. gene-decides g few .told (h g m)) in omega arith)),
+      (let e = all-valid-none-bad n genes few h in omega arith)),
 )
 
 -- ---- what the calls on gene records ask for
@@ -66,12 +65,14 @@ module _ (n : ℕ) (genes : List ℕ) (count : ℕ) where
       let species = in-range n 16 (λ d. s 1 0 (not-1-to-16 d)) in
       let trees = in-range count 4096 (λ d. c 11 0 (none-or-many d)) in
       record {
-        some-species = species .0;
-        few-species = species .1;
-        some-genes = trees .0;
-        few-genes = trees .1;
-        genes-fit = long-enough genes (32 * count) .0 l;
-        genes-valid = all-valid n (recordsIn count genes) (species .1) .0 v;
+        shaped = record {
+          some-species = species .0;
+          few-species = species .1;
+          some-genes = trees .0;
+          few-genes = trees .1;
+          fits = long-enough genes (32 * count) .0 l;
+        };
+        valid = all-valid n (recordsIn count genes) (species .1) .0 v;
       }
 
   module _ (h : GenesInOrder n genes count) where
@@ -79,19 +80,19 @@ module _ (n : ℕ) (genes : List ℕ) (count : ℕ) where
     no-species-fault k p f = go f
       where
         go : {k p : ℕ} → SpeciesFault n k p → ⊥
-        go (not-1-to-16 d) = never-outside (h .some-species) (h .few-species) d
+        go (not-1-to-16 d) = never-outside (h .shaped .some-species) (h .shaped .few-species) d
 
     pub no-count-fault : NoFault (CountFault count)
     no-count-fault k p f = go f
       where
         go : {k p : ℕ} → CountFault count k p → ⊥
-        go (none-or-many d) = never-outside (h .some-genes) (h .few-genes) d
+        go (none-or-many d) = never-outside (h .shaped .some-genes) (h .shaped .few-genes) d
 
     pub no-length-fault : NoFault (LengthFault genes (32 * count))
-    no-length-fault = long-enough genes (32 * count) .1 (h .genes-fit)
+    no-length-fault = long-enough genes (32 * count) .1 (h .shaped .fits)
 
     pub no-records-fault : NoFault (RecordsFault n (recordsIn count genes))
-    no-records-fault = all-valid n (recordsIn count genes) (h .few-species) .1 (h .genes-valid)
+    no-records-fault = all-valid n (recordsIn count genes) (h .shaped .few-species) .1 (h .valid)
 
 -- a reply with number 0 has the value
 pub replied-value : (said : Verdict) (v : ℕ) (r : Reply) → r ≡ replyOf said v → r .number ≡ 0 → r .value ≡ v
@@ -113,8 +114,7 @@ module _ (n : ℕ) (genes : List ℕ) (count a : ℕ) where
       let below : 2 ^ n ≤ a → ⊥ = λ m. none-later v 13 a (no-cluster (inr m)) in
       record {
         in-order = no-fault-in-order n genes count (none-first h) (none-first c) (none-first l) (none-first v);
-        some = omega (arith, some);
-        below = omega (arith, below);
+        cluster = (omega (arith, some), omega (arith, below));
       }
 
   weighable-no-fault : Weighable n genes count a → NoFault (WeightFault n genes count a)
@@ -125,8 +125,8 @@ module _ (n : ℕ) (genes : List ℕ) (count a : ℕ) where
       (none-of-both (no-records-fault n genes count (h .in-order)) (λ k p f. never f))))
     where
       never : {k p : ℕ} → ClusterFault n a k p → ⊥
-      never (no-cluster (inl z)) = let s = h .some in omega arith
-      never (no-cluster (inr m)) = let b = h .below in omega arith
+      never (no-cluster (inl z)) = let s = h .cluster .0 in omega arith
+      never (no-cluster (inr m)) = let b = h .cluster .1 in omega arith
 
   -- number 0 exactly when all of that holds
   pub weighed-exactly : (r : Reply) → Weighs n genes count a r → (r .number ≡ 0) ↔ Weighable n genes count a

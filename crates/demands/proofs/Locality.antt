@@ -27,8 +27,8 @@ use Rattle.reader.specs.declared.Reading.{Reading}
 use Rattle.reader.proofs.Accepts.{accepted-derives, derives-accepted}
 use Rattle.demands.specs.Deciding.{SameBytes, SameBefore, Agree}
 use Rattle.demands.specs.TextFaults.{TextFault}
-use Rattle.demands.specs.TextFaults.TextFault.{roster-faulty, too-long, beyond, as-met}
-use Rattle.demands.proofs.TextFaults.{fault-of-refusal}
+use Rattle.demands.specs.TextFaults.TextFault.{of-roster, too-long, beyond, as-met}
+use Rattle.demands.proofs.TextFaults.{fault-of-refusal, refusal-of-fault}
 
 -- a refusal met while reading (3 to 9) is decided by the bytes from start up to its border, and where it asks for that, by whether a label goes on there:
 -- a text of at most 65,536 bytes that agrees so far is refused alike
@@ -114,7 +114,7 @@ module _ (kind : Kind) (line text text′ : List ℕ) (start : ℕ) (short : len
   fault-again : {number place : ℕ} → answerTo kind line text start ≡ refused number place → TextFault kind line text start number place
       → Agree text text′ start (readingOf start (refused number place)) → Again (refused number place)
   unfolding answerTo
-  fault-again h (roster-faulty f) agree = rw f refl
+  fault-again h (of-roster f) agree = ap (readingOf start) (sym (refusal-of-fault (of-roster f)))
   fault-again h (too-long good l) agree = absurd (omega arith)
   fault-again h (beyond good l b) agree =
       ap (readingOf start) (sym h ∙ ends-again good (agree .end refl .0) (agree .end refl .1))

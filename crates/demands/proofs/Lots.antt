@@ -9,6 +9,7 @@ use lib.ListN.{length, length-append}
 use Rattle.trees.specs.Lists.{total, InAnyOrder}
 use Rattle.trees.specs.Lists.InAnyOrder.{nothing, put}
 use Rattle.trees.proofs.Lent.{length-recordsIn}
+use Rattle.trees.proofs.Totals.{one-le-total}
 use Rattle.weights.specs.Count.{score}
 use Rattle.weights.proofs.Sums.{score-reordered}
 use Rattle.splits.specs.BinaryTrees.{each}
@@ -54,16 +55,6 @@ module _ {A : Type 0} where
           second (inr k) = there (later (Memᴰ·append-right front k))
 
 -- ---- sums over lots
-
--- none is more than all together
-one-le-total : {A : Type 0} (f : A → ℕ) (l : List A) (x : A) → List·Memᴰ x l → f x ≤ total (map f l)
-unfolding total
-one-le-total f [] x m = absurd (List·Memᴰ·not-nil m)
-one-le-total f (y ∷ l) x m = go (List·Memᴰ·cases-cons m) (one-le-total f l x)
-  where
-    go : (x ≡ y) ⊎ List·Memᴰ x l → (List·Memᴰ x l → f x ≤ total (map f l)) → f x ≤ f y + total (map f l)
-    go (inl e) later = omega (arith, ap f e)
-    go (inr k) later = omega (arith, later k)
 
 length-of-lots : {n : ℕ} (lots : List (Searched n)) → length (each (λ (s : Searched n). records s) lots) ≡ total (map (λ (s : Searched n). s .count) lots)
 unfolding each total
@@ -114,15 +105,19 @@ module _ {n : ℕ} {lots : List (Searched n)} {whole : Searched n} (parted : Lot
 
   lot-accepted : AcceptedIn whole → (s : Searched n) → List·Memᴰ s lots → AcceptedIn s
   lot-accepted a s m = record {
-    some-species = a .some-species;
-    few-species = a .few-species;
-    some-genes = parted .non-empty s m;
-    few-genes = let few = a .few-genes in omega (arith, whole-count, one-le-total (λ (s : Searched n). s .count) lots s m);
-    genes-fit = parted .lots-lent s m .genes-long;
+    in-order = record {
+      shaped = record {
+        some-species = a .in-order .shaped .some-species;
+        few-species = a .in-order .shaped .few-species;
+        some-genes = parted .non-empty s m;
+        few-genes = let few = a .in-order .shaped .few-genes in omega (arith, whole-count, one-le-total (λ (s : Searched n). s .count) lots s m);
+        fits = parted .lots-lent s m .genes-long;
+      };
+      valid = λ g k. a .in-order .valid g (any-order-there (parted .gathered) (each-among (λ (s : Searched n). records s) lots m k));
+    };
     allowed-fits = parted .lots-lent s m .allowed-long;
     scores-fit = parted .lots-lent s m .scores-long;
     splits-fit = parted .lots-lent s m .splits-long;
-    genes-valid = λ g k. a .genes-valid g (any-order-there (parted .gathered) (each-among (λ (s : Searched n). records s) lots m k));
     allowed-bytes = zeros-and-ones-too (as-the-lot s m) (a .allowed-bytes);
   }
 
@@ -132,17 +127,21 @@ module _ {n : ℕ} {lots : List (Searched n)} {whole : Searched n} (parted : Lot
       let s = lot .0 in
       let a = f s (lot .1) in
       record {
-        some-species = a .some-species;
-        few-species = a .few-species;
-        some-genes = let one = a .some-genes in omega (arith, whole-count, one-le-total (λ (s : Searched n). s .count) lots s (lot .1));
-        few-genes = let few = parted .inside-the-limit in omega (arith, whole-count);
-        genes-fit = parted .whole-lent .genes-long;
+        in-order = record {
+          shaped = record {
+            some-species = a .in-order .shaped .some-species;
+            few-species = a .in-order .shaped .few-species;
+            some-genes = let one = a .in-order .shaped .some-genes in omega (arith, whole-count, one-le-total (λ (s : Searched n). s .count) lots s (lot .1));
+            few-genes = let few = parted .inside-the-limit in omega (arith, whole-count);
+            fits = parted .whole-lent .genes-long;
+          };
+          valid = λ g m.
+              let k = among-each (λ (s : Searched n). records s) lots (any-order-back (parted .gathered) m) in
+              f (k .0) (k .1) .in-order .valid g (k .2);
+        };
         allowed-fits = parted .whole-lent .allowed-long;
         scores-fit = parted .whole-lent .scores-long;
         splits-fit = parted .whole-lent .splits-long;
-        genes-valid = λ g m.
-            let k = among-each (λ (s : Searched n). records s) lots (any-order-back (parted .gathered) m) in
-            f (k .0) (k .1) .genes-valid g (k .2);
         allowed-bytes = zeros-and-ones-too (as-the-whole s (lot .1)) (a .allowed-bytes);
       }
 

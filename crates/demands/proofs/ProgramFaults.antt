@@ -4,9 +4,9 @@ use mathlib.Core.Path.{_≡_, refl, sym, ap, ap₂, _∙_, subst₂}
 use mathlib.Core.Logic.{_⊎_, inl, inr, _↔_}
 use mathlib.Core.Bool.{Bool, true, false, true≢false}
 use mathlib.Core.Option.{Option, some, none}
-use mathlib.Core.List.{List, [], _∷_, _++_, map, append-assoc}
+use mathlib.Core.List.{List, [], _∷_, _++_, append-assoc}
 use native.Mathlib.Omega.{arith}
-use lib.ListN.{length, getD, take, drop, length-drop, length-take}
+use lib.ListN.{length, getD, take, drop, length-drop, length-take, length-map, length-append}
 use lib.Dec.{leb}
 use borrow.Author.Tests.{leb-true, leb-false}
 use Rattle.clusters.specs.Sets.{whole}
@@ -38,8 +38,8 @@ use Rattle.demands.specs.CallFaults.{_before_, RosterFault}
 use Rattle.demands.specs.TextFaults.{TextFault}
 use Rattle.demands.specs.CallFaults.RosterFault.{roster-faulty}
 use Rattle.demands.specs.CallFaults._before_.{first, later}
-use Rattle.demands.specs.Input.{TreesFrom}
-use Rattle.demands.specs.Input.TreesFrom.{only-blanks as blanks-remain}
+use Rattle.demands.specs.Input.{TreesTo, TreesStand}
+use Rattle.demands.specs.Input.TreesTo.{no-tree-yet, one-more}
 use Rattle.demands.specs.Signed.{Solvable}
 use Rattle.demands.specs.ProgramFaults.{TextLengthFault, ManySpeciesFault, LineFeedFault, ModeFault, TreesFault, NoGeneTreeFault, UnsolvableFault, ProgramFault}
 use Rattle.demands.specs.ProgramFaults.TextLengthFault.{too-long}
@@ -48,11 +48,11 @@ use Rattle.demands.specs.ProgramFaults.LineFeedFault.{feed-missing}
 use Rattle.demands.specs.ProgramFaults.ModeFault.{another-word}
 use Rattle.demands.specs.ProgramFaults.NoGeneTreeFault.{only-blanks}
 use Rattle.demands.specs.ProgramFaults.UnsolvableFault.{no-tree}
-use Rattle.demands.proofs.FirstFaults.{NoFault, passed-none, none-passed}
+use Rattle.demands.proofs.FirstFaults.{NoFault, Names, names-one, names-first, names-later, passed-none, none-passed}
 use Rattle.demands.proofs.TestFaults.{roster-met}
 use Rattle.demands.proofs.TextFaults.{fault-numbers}
-use Rattle.demands.proofs.Gathering.{stopped-gathered, gathered-from, gathers-standing}
-use Rattle.demands.proofs.TreesFaults.{stopped-fault, fault-stops, trees-fault-means}
+use Rattle.demands.proofs.Gathering.{recordsOf, stopped-gathered, stopped-fault, gathered-from, gathers-standing}
+use Rattle.demands.proofs.TreesFaults.{fault-stops, trees-fault-means}
 use Rattle.demands.proofs.TwoLines.{feed-splits}
 use Rattle.demands.proofs.LineFeeds.{feed-found, second-feed-found}
 use Rattle.demands.proofs.RefusalLines.{same-number, one-refusal}
@@ -63,33 +63,16 @@ use Rattle.demands.proofs.Taken.{solved-exactly, none-exactly}
 -- ---- an outcome that says exactly the first fault
 
 -- the outcome is a refusal with a number and a place exactly where F has that fault
-record Says (o : Outcome) (F : ℕ → ℕ → Type 0) : Type 0 where
-  found : {k p : ℕ} → o ≡ refused k p → F k p
-  only : {k p : ℕ} → F k p → o ≡ refused k p
+abbrev Says : Outcome → (ℕ → ℕ → Type 0) → Type 0
+Says o F = Names (λ k p. o ≡ refused k p) F
 
 -- the first kind has a fault, and this is its only one
 says-first :
     {o : Outcome} {F G : ℕ → ℕ → Type 0} (k p : ℕ) → o ≡ refused k p → F k p → ((j q : ℕ) → F j q → (j ≡ k) × (q ≡ p)) → Says o (F before G)
-says-first {o} {F} {G} k p e f one = record { found = found; only = only }
+says-first {o} k p e f one = names-first k p f (names-one e same f one)
   where
-    found : {j q : ℕ} → o ≡ refused j q → (F before G) j q
-    found {j} {q} h =
-        let i : refused k p ≡ refused j q = sym e ∙ h in
-        let a : k ≡ j = cc in
-        let b : p ≡ q = cc in
-        first (subst₂ F a b f)
-
-    only : {j q : ℕ} → (F before G) j q → o ≡ refused j q
-    only {j} {q} (first g) = let h = one j q g in e ∙ ap₂ refused (sym (h .0)) (sym (h .1))
-    only (later free g) = absurd (free k p f)
-
--- the first kind has none, and the others decide
-says-later : {o : Outcome} {F G : ℕ → ℕ → Type 0} → NoFault F → Says o G → Says o (F before G)
-says-later {o} {F} {G} free s = record { found = λ e. later free (s .found e); only = only }
-  where
-    only : {j q : ℕ} → (F before G) j q → o ≡ refused j q
-    only {j} {q} (first f) = absurd (free j q f)
-    only (later h g) = s .only g
+    same : (j q : ℕ) → o ≡ refused j q → (j ≡ k) × (q ≡ p)
+    same j q h = let i : refused j q ≡ refused k p = sym h ∙ e in (cc, cc)
 
 -- ---- the kinds, from the last to the first
 
@@ -102,15 +85,16 @@ searched-fourteen n genes allowed {k} {p} e = go (bestFor n genes allowed (whole
     go (some t) e = absurd (refused-solved (sym e))
 
 -- nothing was gathered exactly where nothing stands
-none-stand : {line txt : List ℕ} → Blanks txt [] → TreesFrom line txt 0 []
-none-stand b = blanks-remain b
+none-stand : {line txt : List ℕ} → Blanks txt [] → TreesStand line txt []
+none-stand b = record { end = 0; trees-to = no-tree-yet; only-blanks = b }
 
 no-trees-stand : (line txt : List ℕ) → gather line txt ≡ gathered [] → Blanks txt []
-no-trees-stand line txt g = let h = gathered-from line txt [] g in go (h .trees) (h .stand) (h .records .records)
+no-trees-stand line txt g = let h = gathered-from line txt [] g in go (h .stand .trees-to) (h .stand .only-blanks) (h .records .records)
   where
-    go : (trees : List Tree) → TreesFrom line txt 0 trees → [] ≡ map (λ (t : Tree). recordOf (clusters t)) trees → Blanks txt []
-    go [] (blanks-remain b) e = b
-    go (t ∷ trees) s e = absurd (omega (arith, ap length e))
+    go : {trees : List Tree} {at : ℕ} → TreesTo line txt trees at → Blanks (drop at txt) [] → [] ≡ recordsOf trees → Blanks txt []
+    go no-tree-yet b e = b
+    go (one-more {trees} {t = t} earlier d j) b e =
+        absurd (omega (arith, ap length e, length-map (trees ++ (t ∷ [])) (λ (t : Tree). recordOf (clusters t)), length-append trees (t ∷ [])))
 
 module _ (input : List ℕ) where
   abbrev line : List ℕ
@@ -145,7 +129,7 @@ module _ (input : List ℕ) where
     where
       one : {j q : ℕ} → NoGeneTreeFault text j q → (j ≡ 11) × (q ≡ 0)
       one (only-blanks b) = (refl, refl)
-  says-gathered all (x ∷ l) g e = says-later (λ k p f. never f) (says-unsolvable all (x ∷ l) e)
+  says-gathered all (x ∷ l) g e = names-later (λ k p f. never f) (says-unsolvable all (x ∷ l) e)
     where
       never : {k p : ℕ} → NoGeneTreeFault text k p → ⊥
       never (only-blanks b) =
@@ -169,7 +153,7 @@ module _ (input : List ℕ) where
           let b : p ≡ place = cc in
           (a, i ∙ ap (λ (x : ℕ). treesPlace input + x) b)
   says-trees all (gathered genes) g e =
-      says-later (λ k p f. stopped-gathered (sym (fault-stops line text f .1) ∙ g)) (says-gathered all genes g e)
+      names-later (λ k p f. stopped-gathered (sym (fault-stops line text f .1) ∙ g)) (says-gathered all genes g e)
 
   -- 3
   abbrev FromMode : ℕ → ℕ → Type 0
@@ -187,11 +171,11 @@ module _ (input : List ℕ) where
 
       one : {j q : ℕ} → ModeFault input j q → (j ≡ 3) × (q ≡ modePlace input)
       one (another-word f g) = (refl, refl)
-  says-mode false true p q e = says-later (λ k p f. never f) (says-trees false (gather line text) refl e)
+  says-mode false true p q e = names-later (λ k p f. never f) (says-trees false (gather line text) refl e)
     where
       never : {k p : ℕ} → ModeFault input k p → ⊥
       never (another-word f g) = g (same-is mode genesWord q)
-  says-mode true b p q e = says-later (λ k p f. never f) (says-trees true (gather line text) refl e)
+  says-mode true b p q e = names-later (λ k p f. never f) (says-trees true (gather line text) refl e)
     where
       never : {k p : ℕ} → ModeFault input k p → ⊥
       never (another-word f g) = f (same-is mode allWord p)
@@ -214,7 +198,7 @@ module _ (input : List ℕ) where
   says-feeds : (a b : Bool) → endsInFeed input ≡ a → endsInFeed (behindLine input) ≡ b → program input ≡ onFeeds a b input → Says (program input) FromFeeds
   says-feeds false b p q e = says-missing (inl p) e
   says-feeds true false p q e = says-missing (inr q) e
-  says-feeds true true p q e = says-later (λ k p f. never f) (says-mode (same mode allWord) (same mode genesWord) refl refl e)
+  says-feeds true true p q e = names-later (λ k p f. never f) (says-mode (same mode allWord) (same mode genesWord) refl refl e)
     where
       never : {k p : ℕ} → LineFeedFault input k p → ⊥
       never (feed-missing f) =
@@ -226,7 +210,7 @@ module _ (input : List ℕ) where
   FromSpecies = ManySpeciesFault line before FromFeeds
 
   says-species : (b : Bool) → leb (length (names line)) programMost ≡ b → program input ≡ onSpecies b input → Says (program input) FromSpecies
-  says-species true is e = says-later (λ k p f. never f) (says-feeds (endsInFeed input) (endsInFeed (behindLine input)) refl refl e)
+  says-species true is e = names-later (λ k p f. never f) (says-feeds (endsInFeed input) (endsInFeed (behindLine input)) refl refl e)
     where
       never : {k p : ℕ} → ManySpeciesFault line k p → ⊥
       never (over-12 h) = let l = leb-true (length (names line)) programMost is in omega arith
@@ -243,11 +227,11 @@ module _ (input : List ℕ) where
   unfolding rosterTest
   says-roster true is e =
       says-first 1 (firstFault speciesMost line) e (roster-met line .found is) (λ j q f. let h = roster-met line .only f in (h .1, h .2))
-  says-roster false is e = says-later (passed-none (roster-met line) is) (says-species (leb (length (names line)) programMost) refl e)
+  says-roster false is e = names-later (passed-none (roster-met line) is) (says-species (leb (length (names line)) programMost) refl e)
 
   -- 2
   says-text : (b : Bool) → leb (length input) textMost ≡ b → program input ≡ onText b input → Says (program input) (ProgramFault input)
-  says-text true is e = says-later (λ k p f. never f) (says-roster (faulty speciesMost line) refl e)
+  says-text true is e = names-later (λ k p f. never f) (says-roster (faulty speciesMost line) refl e)
     where
       never : {k p : ℕ} → TextLengthFault input k p → ⊥
       never (too-long h) = let l = leb-true (length input) textMost is in omega arith

@@ -13,10 +13,10 @@ use Rattle.roster.specs.Verdict.{verdict}
 use Rattle.roster.specs.declared.Reply.{Reply}
 use Rattle.weights.specs.Count.{score}
 use Rattle.lineages.specs.Checks.{scoreTests}
+use Rattle.lineages.specs.InOrder.{GenesInOrder}
 use Rattle.lineages.specs.Promise.{Scores}
 use Rattle.demands.specs.CallFaults.{SpeciesRecordFault, ScoreFault}
 use Rattle.demands.specs.CallFaults.SpeciesRecordFault.{not-valid-or-binary}
-use Rattle.demands.specs.InOrder.{GenesInOrder}
 use Rattle.demands.specs.Scorable.{Scorable}
 use Rattle.demands.proofs.FirstFaults.{NoFault, none-first, none-later, none-of-both, none-exactly}
 use Rattle.demands.proofs.CallFaults.{score-exact}
@@ -28,9 +28,9 @@ module _ (n : ℕ) (genes : List ℕ) (count : ℕ) (species : List ℕ) where
   valid-and-binary g h = go (valid (whole n) species) (binary (whole n) species) refl refl
     where
       go : (a b : Bool) → valid (whole n) species ≡ a → binary (whole n) species ≡ b → SpeciesValid n species × BinaryOn (whole n) species
-      go true true v w = (valid-decides species (whole-below-sixteen n (g .few-species)) .holds v, binary-decides (whole n) species .holds w)
+      go true true v w = (valid-decides species (whole-below-sixteen n (g .shaped .few-species)) .holds v, binary-decides (whole n) species .holds w)
       go true false v w = absurd (h 16 0 (not-valid-or-binary (λ b. denied (binary-decides (whole n) species) w (b .1))))
-      go false b v w = absurd (h 16 0 (not-valid-or-binary (λ b. denied (valid-decides species (whole-below-sixteen n (g .few-species))) v (b .0))))
+      go false b v w = absurd (h 16 0 (not-valid-or-binary (λ b. denied (valid-decides species (whole-below-sixteen n (g .shaped .few-species))) v (b .0))))
 
   no-fault-scorable : NoFault (ScoreFault n genes count species) → Scorable n genes count species
   no-fault-scorable h =

@@ -244,6 +244,6 @@ pub score-over-gene-trees :
     × (r .value ≡ total (map (λ (a : ℕ). total (map (λ (t : Tree). lineages a t - 1) trees)) (listed species)))
 score-over-gene-trees n genes count species r p z =
     let h = scored-exactly n genes count species r p .0 z in
-    let d = gene-trees n (recordsIn count genes) (h .in-order .few-species) (h .in-order .genes-valid) in
+    let d = gene-trees n (recordsIn count genes) (h .in-order .shaped .few-species) (h .in-order .valid) in
     let e = scored-value n genes count species r p z ∙ score-drawn (d .1) species in
     (d .0, d .1, e, e ∙ score-down (d .1) species)

@@ -42,7 +42,7 @@ use Rattle.solver.specs.Best.{bestFor}
 use Rattle.solver.specs.declared.Found.{Found}
 use Rattle.printing.specs.Texts.{reportBytes}
 use Rattle.printing.specs.Words.{taxaText, genesText, scoreText, refusedText, atText, digitsTo, decimal}
-use Rattle.gather.specs.GeneTrees.{gatherTo, gather}
+use Rattle.gather.specs.GeneTrees.{gatherTo, walk, gather}
 use Rattle.report.specs.Input.{lineLength, firstLine, behindLine, endsInFeed, modePlace, treesPlace}
 use Rattle.report.specs.Program.{program}
 use Rattle.outcomes.specs.Outcome.{searched}
@@ -164,7 +164,7 @@ a-input : List ℕ
 a-input = 97 ∷ 10 ∷ 97 ∷ 108 ∷ 108 ∷ 10 ∷ 97 ∷ 59 ∷ 10 ∷ []
 
 a-output : output a-input ≡ taxaText ++ 49 ∷ genesText ++ 49 ∷ 10 ∷ scoreText ++ 48 ∷ 10 ∷ 97 ∷ 59 ∷ 10 ∷ []
-unfolding a-input lineLength firstLine behindLine endsInFeed modePlace treesPlace gatherTo gather searched program digitsTo decimal output ones onesIn
+unfolding a-input lineLength firstLine behindLine endsInFeed modePlace treesPlace gatherTo walk gather searched program digitsTo decimal output ones onesIn
     trailingZeros whole single union has within apart size lowest keep some insert sorted recordOf properly maximal every among rising singlesFrom
     nested valid validGene binary verdict lengthTest kOf extra total weight score pieces speciesTest countTest firstBad recordsTest shown marks upTo
     least clustersIn isLow lows each forks treesTo treesOn those all scoreOf treesOver leastTrees best allowedIn bestFor answerTo leafBy closingBy
@@ -174,7 +174,7 @@ unfolding a-input lineLength firstLine behindLine endsInFeed modePlace treesPlac
 a-output = refl
 
 no-output : output [] ≡ refusedText ++ 49 ∷ atText ++ 48 ∷ 10 ∷ []
-unfolding lineLength firstLine behindLine endsInFeed modePlace treesPlace gatherTo gather searched program digitsTo decimal output answerTo leafBy
+unfolding lineLength firstLine behindLine endsInFeed modePlace treesPlace gatherTo walk gather searched program digitsTo decimal output answerTo leafBy
     closingBy readTreeToBy readTreeBy readNodeBy nextIs nextLabel blanks skip number numberBehind numbers name innerName run bareLetters letters
     lettersFrom doubled rawTo told padded same position inQuotes begins beginnings nameAt names strayAt longAt manyAt againAt openAt faultAt
     firstFault faulty cluster clusters upTo least keep some

@@ -79,7 +79,7 @@ species-reads-back line {r} good v kind h = reads-back line good gene kind (spec
 
     species : (kind : Kind) → MayHave kind (length (names line)) (largest r)
     species Species = largest-of-valid v
-    species Gene = (gene .some-species, gene .of-roster)
+    species Gene = gene .of-roster
 
 -- ---- the three lines
 

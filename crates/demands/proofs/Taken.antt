@@ -30,7 +30,7 @@ use Rattle.demands.specs.GeneTrees.{RecordsOf}
 use Rattle.demands.specs.Input.{Holds}
 use Rattle.demands.specs.Signed.{Eligible, Solvable, Unsolvable}
 use Rattle.demands.proofs.Allowing.{modeWord}
-use Rattle.demands.proofs.Gathering.{each-on, gathers-standing}
+use Rattle.demands.proofs.Gathering.{standing-records, gathers-standing}
 use Rattle.demands.proofs.TwoLines.{good-line, mode-line, line-first, line-behind, line-feed-there, trees-behind}
 use Rattle.demands.proofs.Solved.{searched-none, speciesIn, program-reached}
 use Rattle.demands.proofs.Solved.Late.{no-tree}
@@ -65,7 +65,7 @@ module _ {input line mode : List ℕ} {trees : List Tree} (h : Holds input line 
   genes = map (λ (t : Tree). recordOf (clusters t)) trees
 
   records : RecordsOf (length (names line)) genes trees
-  records = record { records = refl; on = each-on (h .stand) }
+  records = standing-records (h .stand)
 
   gathers : gather (firstLine input) (drop (treesPlace input) input) ≡ gathered genes
   gathers = rw (first, text-there) (gathers-standing line (h .text) (h .stand) (h .few-trees))

@@ -1,9 +1,9 @@
 -- Each test of the calls finds its fault, where it stands, with its number and place.
-use Prim.Native.Nat.{ℕ, zero, suc, _^_, _≤_, _<_}
+use Prim.Native.Nat.{ℕ, suc, _^_, _≤_, _<_}
 use mathlib.Core.Path.{_≡_, refl, sym, ap}
 use mathlib.Core.Logic.{_⊎_, inl, inr, ⊎-elim}
 use mathlib.Core.Bool.{Bool, true, false, not, _&&_, true≢false}
-use mathlib.Core.List.{List, [], _∷_}
+use mathlib.Core.List.{List, []}
 use native.Mathlib.Omega.{arith}
 use lib.ListN.{length, getD}
 use lib.Dec.{leb, ltb}
@@ -21,8 +21,8 @@ use Rattle.roster.specs.Verdict.{lengthTest}
 use Rattle.roster.proofs.Least.{least-is, least-first}
 use Rattle.roster.proofs.Faults.{first-fault, fault-within}
 use Rattle.writer.specs.Promise.{rosterTest, recordTest}
-use Rattle.labels.specs.Bytes.{oneMore}
 use Rattle.lineages.specs.Checks.{speciesTest, countTest, speciesRecordTest, firstBad, recordsTest, clusterTest}
+use Rattle.lineages.proofs.FirstBad.{first-bad-means, first-bad-is}
 use Rattle.search.specs.Promise.{firstStrange, allowedTest}
 use Rattle.demands.specs.CallFaults.{RosterFault, SpeciesFault, CountFault, LengthFault, SpeciesRecordFault, RecordsFault, RecordFault, ClusterFault, AllowedFault}
 use Rattle.demands.specs.CallFaults.RosterFault.{roster-faulty}
@@ -147,46 +147,25 @@ module _ (n : ℕ) (few : n ≤ 16) where
   is-valid : (g : List ℕ) → Tells (validGene n g) (GeneValid n g)
   is-valid g = gene-decides g few
 
-  -- what the index says: that record is not valid, and those before it are
-  first-bad-means :
-      (genes : List (List ℕ)) → firstBad n genes < length genes
-      → (GeneValid n (getD genes (firstBad n genes) []) → ⊥) × ((j : ℕ) → j < firstBad n genes → GeneValid n (getD genes j []))
-  unfolding firstBad
-  first-bad-means [] h = absurd (omega arith)
-  first-bad-means (g ∷ l) h = go (validGene n g) refl h (first-bad-means l)
-    where
-      go : (b : Bool) → validGene n g ≡ b → oneMore b (firstBad n l) < suc (length l)
-          → (firstBad n l < length l → (GeneValid n (getD l (firstBad n l) []) → ⊥) × ((j : ℕ) → j < firstBad n l → GeneValid n (getD l j [])))
-          → (GeneValid n (getD (g ∷ l) (oneMore b (firstBad n l)) []) → ⊥) × ((j : ℕ) → j < oneMore b (firstBad n l) → GeneValid n (getD (g ∷ l) j []))
-      go true e h later = let k = later (omega arith) in (k .0, earlier (k .1))
-        where
-          earlier : ((j : ℕ) → j < firstBad n l → GeneValid n (getD l j [])) → (j : ℕ) → j < suc (firstBad n l) → GeneValid n (getD (g ∷ l) j [])
-          earlier f zero m = is-valid g .holds e
-          earlier f (suc j) m = f j (omega arith)
-      go false e h later = (denied (is-valid g) e, λ j m. absurd (omega arith))
-
-  -- and no other index is such a one
-  first-bad-is :
-      (genes : List (List ℕ)) (i : ℕ) → i < length genes → (GeneValid n (getD genes i []) → ⊥) → ((j : ℕ) → j < i → GeneValid n (getD genes j []))
-      → firstBad n genes ≡ i
-  unfolding firstBad
-  first-bad-is [] i h bad good = absurd (omega arith)
-  first-bad-is (g ∷ l) zero h bad good = rw (unless (validGene n g) (λ v. bad (is-valid g .holds v))) refl
-  first-bad-is (g ∷ l) (suc i) h bad good =
-      rw (is-valid g .told (good 0 (omega arith))) (ap suc (first-bad-is l i (omega arith) bad (λ j m. good (suc j) (omega arith))))
-
   -- "15 | a record not valid | index of the first"
   pub records-met : (genes : List (List ℕ)) → Meets (recordsTest n genes) (RecordsFault n genes)
   unfolding recordsTest
   records-met genes = record {
     numbered = λ z. omega arith;
-    found = λ e. let l = ltb-true (firstBad n genes) (length genes) e in let h = first-bad-means genes l in first-not-valid l (h .0) (h .1);
+    found = λ e.
+        let l = ltb-true (firstBad n genes) (length genes) e in
+        let h = first-bad-means n genes in
+        first-not-valid l (denied (is-valid (getD genes (firstBad n genes) [])) (h .0 l)) (λ j m. is-valid (getD genes j []) .holds (h .1 j m));
     only = only;
   }
     where
       only : {k p : ℕ} → RecordsFault n genes k p → (ltb (firstBad n genes) (length genes) ≡ true) × (k ≡ 15) × (p ≡ firstBad n genes)
       only (first-not-valid {i} l bad good) =
-          let e = first-bad-is genes i l bad good in (lt-ltb (firstBad n genes) (length genes) (omega arith), refl, sym e)
+          let e =
+          first-bad-is n genes i (omega arith) (λ m. unless (validGene n (getD genes i [])) (λ v. bad (is-valid (getD genes i []) .holds v)))
+          (λ j m. is-valid (getD genes j []) .told (good j m))
+          in
+          (lt-ltb (firstBad n genes) (length genes) (omega arith), refl, sym e)
 
 -- ---- 13: the allowed bytes
 

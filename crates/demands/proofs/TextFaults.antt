@@ -17,15 +17,19 @@ use Rattle.nodes.proofs.Answers.{refused-parsed}
 use Rattle.reader.specs.Promise.{textMost, needed, fromStart, inLimit, onRoster, answerTo}
 use Rattle.reader.specs.declared.Kind.{Kind}
 use Rattle.reader.specs.declared.Kind.the-variants.{Gene}
+use Rattle.writer.specs.Promise.{rosterTest}
 use Rattle.meanings.specs.Meaning.{Means}
 use Rattle.meanings.proofs.Refusals.{refusal-numbers, says-9}
 use Rattle.meanings.proofs.MeaningsDecide.{refusal-means, means-refusal}
 use Rattle.demands.specs.TextFaults.{TextFault}
-use Rattle.demands.specs.TextFaults.TextFault.{roster-faulty, too-long, beyond, as-met}
+use Rattle.demands.specs.TextFaults.TextFault.{of-roster, too-long, beyond, as-met}
+use Rattle.demands.specs.CallFaults.{RosterFault}
+use Rattle.demands.specs.CallFaults.RosterFault.{roster-faulty}
+use Rattle.demands.proofs.TestFaults.{roster-met}
 
 pub fault-of-refusal :
     (kind : Kind) (line text : List ℕ) (start number place : ℕ) → answerTo kind line text start ≡ refused number place → TextFault kind line text start number place
-unfolding answerTo
+unfolding answerTo rosterTest
 fault-of-refusal kind line text start number place = judged (faulty speciesMost line) refl
   where
     started :
@@ -53,19 +57,22 @@ fault-of-refusal kind line text start number place = judged (faulty speciesMost 
     judged true is e =
         let k : 1 ≡ number = cc in
         let q : firstFault speciesMost line ≡ place = cc in
-        rw (← k, ← q) (roster-faulty is)
+        rw (← k, ← q) (of-roster (roster-met line .found is))
     judged false is e = limited (leb (length text) textMost) refl is e
+
+roster-number : {line : List ℕ} {number place : ℕ} → RosterFault line number place → number ≡ 1
+roster-number (roster-faulty inside stands earlier) = refl
 
 -- the numbers are those from 1 to 10
 pub fault-numbers : {kind : Kind} {line text : List ℕ} {start number place : ℕ} → TextFault kind line text start number place → (1 ≤ number) × (number ≤ 10)
-fault-numbers (roster-faulty f) = omega arith
+fault-numbers (of-roster f) = let k = roster-number f in omega arith
 fault-numbers (too-long g l) = omega arith
 fault-numbers (beyond g l b) = omega arith
 fault-numbers (as-met g l b r) = let k = refusal-numbers (r .means) in omega arith
 
 -- "9 is shown never to occur for gene trees" (#104): it is no fault of one
 pub gene-fault-not-nine : {line text : List ℕ} {start number place : ℕ} → TextFault Gene line text start number place → number ≡ 9 → ⊥
-gene-fault-not-nine (roster-faulty f) nine = omega arith
+gene-fault-not-nine (of-roster f) nine = let k = roster-number f in omega arith
 gene-fault-not-nine (too-long g l) nine = omega arith
 gene-fault-not-nine (beyond g l b) nine = omega arith
 gene-fault-not-nine {line} {text} {start} (as-met g l b r) nine =
@@ -84,8 +91,8 @@ placeOf (refused number place) = place
 module _ {kind : Kind} {line text : List ℕ} {start : ℕ} where
   -- the fault that a text has is what is answered
   pub refusal-of-fault : {number place : ℕ} → TextFault kind line text start number place → answerTo kind line text start ≡ refused number place
-  unfolding answerTo
-  refusal-of-fault (roster-faulty f) = rw f refl
+  unfolding answerTo rosterTest
+  refusal-of-fault (of-roster f) = let h = roster-met line .only f in rw (h .0, h .1, h .2) refl
   refusal-of-fault (too-long good long) = rw (good, lt-leb (length text) textMost long) refl
   refusal-of-fault (beyond good short out) = rw (good, le-leb (length text) textMost short, lt-leb start (length text) out) refl
   refusal-of-fault (as-met good short inside r) =

@@ -7,7 +7,6 @@ use mathlib.Core.List.{List}
 use Rattle.clusters.specs.Sets.{whole}
 use Rattle.trees.specs.Lists.{Among, Sublist}
 use Rattle.trees.specs.Records.{listed, SpeciesValid, BinaryOn, recordsIn}
-use Rattle.trees.proofs.GeneRecords.{gene-decides}
 use Rattle.roster.specs.declared.Reply.{Reply}
 use Rattle.weights.specs.Count.{score}
 use Rattle.lineages.specs.Promise.{Scores}
@@ -23,18 +22,7 @@ use Rattle.demands.proofs.Scorable.{scored-exactly, scored-value}
 competitor-scorable :
     {n : ℕ} {genes : List ℕ} {count : ℕ} {allowed scores splits c : List ℕ}
     → Accepted n genes count allowed scores splits → Candidate n allowed c → Scorable n genes count c
-competitor-scorable {n} a k = record {
-  in-order = record {
-    some-species = a .some-species;
-    few-species = a .few-species;
-    some-genes = a .some-genes;
-    few-genes = a .few-genes;
-    genes-fit = a .genes-fit;
-    genes-valid = λ g m. gene-decides g (a .few-species) .holds (a .genes-valid g m);
-  };
-  species-valid = k .valid;
-  species-binary = k .binary;
-}
+competitor-scorable a k = record { in-order = a .in-order; species-valid = k .valid; species-binary = k .binary }
 
 -- ---- "For given gene trees and a given set of allowed clusters"
 

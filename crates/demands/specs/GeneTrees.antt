@@ -1,17 +1,16 @@
 -- Gene trees as drawn: the records that they have, and the score counted over them.
-use Prim.Native.Nat.{ℕ, _-_, _^_, _≤_, _<_}
+use Prim.Native.Nat.{ℕ, _-_}
 use mathlib.Core.Path.{_≡_}
 use mathlib.Core.List.{List, map, List·Memᴰ}
 use Rattle.trees.specs.Tree.{Tree, leaves, cluster, clusters}
-use Rattle.trees.specs.Records.{listed, recordOf}
+use Rattle.trees.specs.Records.{listed, recordOf, ClusterOf}
 use Rattle.trees.specs.Lists.{NoneTwice, total}
 use Rattle.weights.specs.Count.{kOf}
 
 -- a gene tree as drawn: each of its species is a leaf once, and these are some of n, at least one (#104)
 pub record OnSome (n : ℕ) (t : Tree) : Type 0 where
   pub once : NoneTwice (leaves t)
-  pub some-species : 1 ≤ cluster t
-  pub of-roster : cluster t < 2 ^ n
+  pub species : ClusterOf n (cluster t)
 
 -- the gene records are those of these drawn gene trees
 pub record RecordsOf (n : ℕ) (genes : List (List ℕ)) (trees : List Tree) : Type 0 where

@@ -18,12 +18,18 @@ use Rattle.gather.specs.GeneTrees.{genesMost}
 use Rattle.report.specs.Input.{allWord, genesWord}
 use Rattle.outcomes.specs.Outcome.{programMost}
 
--- "then trees until only blanks remain": gene trees (#104), each drawn from the offset just behind the one before it
-pub data TreesFrom (line text : List ℕ) : ℕ → List Tree → Type 0 where
-  only-blanks : {at : ℕ} → Blanks (drop at text) [] → TreesFrom line text at []
-  a-tree :
-      {at next : ℕ} {t : Tree} {rest : List ℕ} {trees : List Tree}
-      → Draws Gene line text at t rest → JustBehind text at rest next → TreesFrom line text next trees → TreesFrom line text at (t ∷ trees)
+-- "trees": gene trees (#104) stand one after the other, from the text's first byte up to an offset, each drawn from the offset just behind the one before it
+pub data TreesTo (line text : List ℕ) : List Tree → ℕ → Type 0 where
+  no-tree-yet : TreesTo line text [] 0
+  one-more :
+      {trees : List Tree} {at next : ℕ} {t : Tree} {rest : List ℕ}
+      → TreesTo line text trees at → Draws Gene line text at t rest → JustBehind text at rest next → TreesTo line text (trees ++ (t ∷ [])) next
+
+-- "then trees until only blanks remain"
+pub record TreesStand (line text : List ℕ) (trees : List Tree) : Type 0 where
+  pub end : ℕ
+  pub trees-to : TreesTo line text trees end
+  pub only-blanks : Blanks (drop end text) []
 
 -- "Standard input holds the roster line, a line that is exactly `all` or `genes`, then trees", inside the program's limits
 pub record Holds (input line mode : List ℕ) (trees : List Tree) : Type 0 where
@@ -37,7 +43,7 @@ pub record Holds (input line mode : List ℕ) (trees : List Tree) : Type 0 where
   -- "exactly `all` or `genes`"
   pub mode-word : (mode ≡ allWord) ⊎ (mode ≡ genesWord)
   -- gene trees stand behind the two lines, each drawn by the grammar with each of its species once, and nothing else
-  pub stand : TreesFrom line text 0 trees
+  pub stand : TreesStand line text trees
   pub some-trees : 1 ≤ length trees
   pub few-trees : length trees ≤ genesMost
 

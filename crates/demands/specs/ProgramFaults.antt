@@ -1,5 +1,5 @@
 -- The faults of the program's input, by number and place (01, "The program"): what each is, and which comes first.
-use Prim.Native.Nat.{ℕ, suc, _+_, _<_}
+use Prim.Native.Nat.{ℕ, _+_, _<_}
 use mathlib.Core.Path.{_≡_}
 use mathlib.Core.Bool.{false}
 use mathlib.Core.List.{List, [], _∷_, _++_}
@@ -11,11 +11,11 @@ use Rattle.nodes.specs.Grammar.{Blanks}
 use Rattle.reader.specs.Promise.{textMost, Reads}
 use Rattle.reader.specs.declared.Kind.the-variants.{Gene}
 use Rattle.reader.specs.declared.Reading.{Reading}
-use Rattle.reader.specs.Accepted.{Draws, JustBehind}
 use Rattle.gather.specs.GeneTrees.{genesMost}
 use Rattle.outcomes.specs.Outcome.{programMost}
 use Rattle.report.specs.Input.{firstLine, behindLine, modePlace, treesPlace, allWord, genesWord}
 use Rattle.demands.specs.CallFaults.{RosterFault, _before_}
+use Rattle.demands.specs.Input.{TreesTo}
 use Rattle.demands.specs.Signed.{Unsolvable}
 
 -- "2 | text over 65,536 bytes | 65,536"
@@ -36,17 +36,10 @@ pub data ModeFault (input : List ℕ) : ℕ → ℕ → Type 0 where
   another-word :
       (firstLine (behindLine input) ≡ allWord → ⊥) → (firstLine (behindLine input) ≡ genesWord → ⊥) → ModeFault input 3 (modePlace input)
 
--- "trees": m of them stand one after the other, from the text's first byte up to an offset
-pub data TreesTo (line text : List ℕ) : ℕ → ℕ → Type 0 where
-  no-tree-yet : TreesTo line text 0 0
-  one-more :
-      {m at next : ℕ} {t : Tree} {rest : List ℕ}
-      → TreesTo line text m at → Draws Gene line text at t rest → JustBehind text at rest next → TreesTo line text (suc m) next
-
--- "until only blanks remain": behind m trees more stands there, and begins at b, "its first byte that is no blank"
-pub record MoreBehind (line text : List ℕ) (m b : ℕ) : Type 0 where
+-- "until only blanks remain": behind these trees more stands there, and begins at b, "its first byte that is no blank"
+pub record MoreBehind (line text : List ℕ) (trees : List Tree) (b : ℕ) : Type 0 where
   pub at : ℕ
-  pub trees : TreesTo line text m at
+  pub trees-to : TreesTo line text trees at
   pub gap : Blanks (drop at text) (drop b text)
   pub inside : b < length text
   pub no-blank : isBlank (getD text b 0) ≡ false
@@ -55,10 +48,10 @@ pub record MoreBehind (line text : List ℕ) (m b : ℕ) : Type 0 where
 pub data TreesFault (line text : List ℕ) (shift : ℕ) : ℕ → ℕ → Type 0 where
   -- behind fewer than 512 trees stands what the reader refuses as a gene tree
   refused-tree :
-      {m b : ℕ} (r : Reading) → MoreBehind line text m b → m < genesMost → Reads Gene line text b r → (r .number ≡ 0 → ⊥)
+      {trees : List Tree} {b : ℕ} (r : Reading) → MoreBehind line text trees b → length trees < genesMost → Reads Gene line text b r → (r .number ≡ 0 → ⊥)
       → TreesFault line text shift (r .number) (shift + r .place)
   -- "a 513th tree is 17 at its first byte that is no blank, before it is read"
-  tree-513 : {b : ℕ} → MoreBehind line text genesMost b → TreesFault line text shift 17 (shift + b)
+  tree-513 : {trees : List Tree} {b : ℕ} → MoreBehind line text trees b → length trees ≡ genesMost → TreesFault line text shift 17 (shift + b)
 
 -- "11 | gene trees 0 .. | 0"
 pub data NoGeneTreeFault (text : List ℕ) : ℕ → ℕ → Type 0 where

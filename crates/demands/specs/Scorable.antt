@@ -3,7 +3,7 @@ use Prim.Native.Nat.{ℕ}
 use mathlib.Core.List.{List}
 use Rattle.clusters.specs.Sets.{whole}
 use Rattle.trees.specs.Records.{SpeciesValid, BinaryOn}
-use Rattle.demands.specs.InOrder.{GenesInOrder}
+use Rattle.lineages.specs.InOrder.{GenesInOrder}
 
 -- the gene trees are in order, and the species record is valid and binary
 pub record Scorable (n : ℕ) (genes : List ℕ) (count : ℕ) (species : List ℕ) : Type 0 where

@@ -1,19 +1,20 @@
 -- Why a text is turned away (01, "Numbers returned"): "Order for text: 1, 2, then as met".
 use Prim.Native.Nat.{ℕ, _≤_, _<_}
 use mathlib.Core.Path.{_≡_}
-use mathlib.Core.Bool.{true, false}
+use mathlib.Core.Bool.{false}
 use mathlib.Core.List.{List}
 use lib.ListN.{length, drop}
-use Rattle.roster.specs.Roster.{names, faulty, firstFault}
+use Rattle.roster.specs.Roster.{names, faulty}
 use Rattle.roster.specs.Judged.{speciesMost}
 use Rattle.reader.specs.Promise.{textMost, needed}
 use Rattle.reader.specs.declared.Kind.{Kind}
 use Rattle.meanings.specs.Meaning.{Refusal}
+use Rattle.demands.specs.CallFaults.{RosterFault}
 
 -- the fault of a text that is read from start on as a tree of the kind, by the number and the place that are given for it
 pub data TextFault (kind : Kind) (line text : List ℕ) (start : ℕ) : ℕ → ℕ → Type 0 where
   -- "1 | roster faulty | first byte at fault"
-  roster-faulty : faulty speciesMost line ≡ true → TextFault kind line text start 1 (firstFault speciesMost line)
+  of-roster : {number place : ℕ} → RosterFault line number place → TextFault kind line text start number place
   -- "2 | text over 65,536 bytes | 65,536"
   too-long : faulty speciesMost line ≡ false → textMost < length text → TextFault kind line text start 2 textMost
   -- "A start beyond the text gives 10": "text length"

@@ -9,14 +9,13 @@ use native.Mathlib.Nat.{le-of-lt, le-of-eq}
 use native.Mathlib.Omega.{arith}
 use lib.ListN.{length, drop, length-append, length-drop}
 use lib.Dec.{leb}
-use borrow.Author.Tests.{leb-false, le-leb}
+use borrow.Author.Tests.{leb-true, leb-false, le-leb}
 use Rattle.trees.specs.Tree.{Tree, clusters}
 use Rattle.trees.specs.Records.{GeneValid, recordOf, AllValid}
 use Rattle.roster.specs.Roster.{names, faulty}
 use Rattle.roster.specs.Judged.{speciesMost}
 use Rattle.tokens.specs.Answers.{Answer}
 use Rattle.tokens.specs.Answers.Answer.{parsed, refused as refusedAt}
-use Rattle.tokens.specs.Tokens.{blanks}
 use Rattle.nodes.specs.Reading.{readTree}
 use Rattle.meanings.specs.Meaning.{Means}
 use Rattle.reader.specs.Promise.{textMost, answerTo, readingOf}
@@ -26,56 +25,69 @@ use Rattle.reader.proofs.Replies.{refusal-some, draws-gene}
 use Rattle.reader.proofs.ByKind.{gene-never-nine}
 use Rattle.meanings.proofs.Meaning.{refusal-said}
 use Rattle.meanings.proofs.Refusals.{refusal-inside, refusal-numbers, says-10}
-use Rattle.gather.specs.GeneTrees.{Gathered, gatherOn, gatherAt, gatherMore, gatherTo, gather}
+use Rattle.gather.specs.GeneTrees.{Gathered, Walked, genesMost, gatherOn, gatherAt, gatherMore, begun, gatherTo, walk, gather}
 use Rattle.gather.specs.GeneTrees.Gathered.{gathered, stopped}
 
 -- ---- what holds of each turn holds of the whole
 
--- P of the gene trees, or Q of the number and place of a refusal
+-- R of the gene trees, or Q of the number and place of a refusal
 abbrev Holds : (List (List ℕ) → Type 0) → (ℕ → ℕ → Type 0) → Gathered → Type 0
-Holds P Q (gathered genes) = P genes
-Holds P Q (stopped number place) = Q number place
+Holds R Q (gathered genes) = R genes
+Holds R Q (stopped number place) = Q number place
 
-module _
-    (line trees : List ℕ) (P : List (List ℕ) → Type 0) (Q : ℕ → ℕ → Type 0)
-    (read :
-    (genes : List (List ℕ)) (p : ℕ) (t : Tree) (rest : List ℕ) (q : ℕ) → length genes < 512 → P genes → answerTo Gene line trees p ≡ parsed t rest q
-    → P (genes ++ (recordOf (clusters t) ∷ [])))
-    (many : (p : ℕ) → p < length trees → Q 17 p)
-    (refuse : (p number q : ℕ) → p < length trees → answerTo Gene line trees p ≡ refusedAt number q → (1 ≤ number) × Q number q)
-  where
-    -- at most k more turns keep it
-    abbrev Kept : ℕ → Type 0
-    Kept k = (genes : List (List ℕ)) (at : ℕ) → P genes → Holds P Q (gatherTo k line trees genes at)
+-- P holds of the gene trees that were read and the place behind them; then R of all of them, or Q of a refusal
+pub record Turns (line trees : List ℕ) (P : List (List ℕ) → ℕ → Type 0) (R : List (List ℕ) → Type 0) (Q : ℕ → ℕ → Type 0) : Type 0 where
+  pub begins : P [] 0
+  pub reads :
+      {genes : List (List ℕ)} {at : ℕ} {t : Tree} {rest : List ℕ} {q : ℕ} → P genes at → answerTo Gene line trees (begun trees at) ≡ parsed t rest q
+      → P (genes ++ (recordOf (clusters t) ∷ [])) q
+  pub ends : {genes : List (List ℕ)} {at : ℕ} → P genes at → length genes ≤ genesMost → length trees ≤ begun trees at → R genes
+  pub many : {genes : List (List ℕ)} {at : ℕ} → P genes at → length genes ≡ genesMost → begun trees at < length trees → Q 17 (begun trees at)
+  pub refuses :
+      {genes : List (List ℕ)} {at number place : ℕ} → P genes at → length genes < genesMost → begun trees at < length trees
+      → answerTo Gene line trees (begun trees at) ≡ refusedAt number place → Q number place
 
-    module _ (k : ℕ) (genes : List (List ℕ)) (p : ℕ) (holds : P genes) (later : Kept k) where
-      abbrev next : List ℕ → ℕ → Gathered
-      next numbers at = gatherTo k line trees (genes ++ (numbers ∷ [])) at
+module _ {line trees : List ℕ} {P : List (List ℕ) → ℕ → Type 0} {R : List (List ℕ) → Type 0} {Q : ℕ → ℕ → Type 0} (turns : Turns line trees P R Q) where
+  -- k more turns are enough
+  abbrev Kept : ℕ → Type 0
+  Kept k =
+      (genes : List (List ℕ)) (at : ℕ) → length genes ≤ genesMost → 513 ≤ length genes + k → P genes at → Holds R Q (gatherTo k line trees genes at .says)
 
-      answered :
-          p < length trees → length genes < 512 → (a : Answer Tree) → answerTo Gene line trees p ≡ a
-          → Holds P Q (gatherOn (readingOf p a .number) (readingOf p a) next)
-      answered inside few (parsed t rest q) e = later (genes ++ (recordOf (clusters t) ∷ [])) q (read genes p t rest q few holds e)
-      answered inside few (refusedAt zero q) e = absurd (omega (arith, refuse p zero q inside e .0))
-      answered inside few (refusedAt (suc number) q) e = refuse p (suc number) q inside e .1
+  module _ (k : ℕ) (genes : List (List ℕ)) (at : ℕ) (few : length genes ≤ genesMost) (enough : 513 ≤ length genes + suc k) (now : P genes at) (later : Kept k) where
+    abbrev next : List ℕ → ℕ → Walked
+    next numbers at = gatherTo k line trees (genes ++ (numbers ∷ [])) at
 
-      begun : p < length trees → (b : Bool) → leb 512 (length genes) ≡ b → Holds P Q (gatherAt b line trees p next)
-      begun inside true e = many p inside
-      begun inside false e = answered inside (leb-false 512 (length genes) e) (answerTo Gene line trees p) refl
+    answered :
+        begun trees at < length trees → length genes < genesMost → (a : Answer Tree) → answerTo Gene line trees (begun trees at) ≡ a
+        → Holds R Q (gatherOn (readingOf (begun trees at) a .number) (readingOf (begun trees at) a) genes next .says)
+    answered inside room (parsed t rest q) e =
+        let l = length-append genes (recordOf (clusters t) ∷ []) in
+        later (genes ++ (recordOf (clusters t) ∷ [])) q (omega arith) (omega arith) (turns .reads now e)
+    answered inside room (refusedAt zero q) e = absurd (omega (arith, refusal-some Gene line trees (begun trees at) e))
+    answered inside room (refusedAt (suc number) q) e = turns .refuses now room inside e
 
-      turned : (b : Bool) → leb (length trees) p ≡ b → Holds P Q (gatherMore b line trees genes p next)
-      turned true e = holds
-      turned false e = begun (leb-false (length trees) p e) (leb 512 (length genes)) refl
+    room : begun trees at < length trees → (b : Bool) → leb genesMost (length genes) ≡ b → Holds R Q (gatherAt b line trees genes (begun trees at) next .says)
+    room inside true e = let full = leb-true genesMost (length genes) e in turns .many now (omega arith) inside
+    room inside false e = answered inside (leb-false genesMost (length genes) e) (answerTo Gene line trees (begun trees at)) refl
 
-    gathers : (k : ℕ) → Kept k
-    unfolding gatherTo
-    gathers zero genes at holds = holds
-    gathers (suc k) genes at holds =
-        turned k genes (at + blanks (drop at trees)) holds (gathers k) (leb (length trees) (at + blanks (drop at trees))) refl
+    turned : (b : Bool) → leb (length trees) (begun trees at) ≡ b → Holds R Q (gatherMore b line trees genes (begun trees at) next .says)
+    turned true e = turns .ends now few (leb-true (length trees) (begun trees at) e)
+    turned false e = room (leb-false (length trees) (begun trees at) e) (leb genesMost (length genes)) refl
 
-    gather-holds : P [] → Holds P Q (gather line trees)
-    unfolding gather
-    gather-holds holds = gathers 514 [] 0 holds
+  kept : (k : ℕ) → Kept k
+  unfolding gatherTo
+  kept zero genes at few enough now = absurd (omega arith)
+  kept (suc k) genes at few enough now = turned k genes at few enough now (kept k) (leb (length trees) (begun trees at)) refl
+
+  gather-holds : Holds R Q (gather line trees)
+  unfolding gather walk
+  gather-holds = kept 514 [] 0 (omega arith) (omega arith) (turns .begins)
+
+  pub gathered-so : {genes : List (List ℕ)} → gathered genes ≡ gather line trees → R genes
+  gathered-so e = subst (Holds R Q) (sym e) gather-holds
+
+  pub stopped-so : {number place : ℕ} → stopped number place ≡ gather line trees → Q number place
+  stopped-so e = subst (Holds R Q) (sym e) gather-holds
 
 -- ---- the place of a refusal, and one more valid record
 
@@ -116,40 +128,35 @@ module _ (line trees : List ℕ) (good : faulty speciesMost line ≡ false) wher
 
 module _ (line trees : List ℕ) (good : faulty speciesMost line ≡ false) (short : length trees ≤ textMost) where
   -- valid records of gene trees, 512 at the most
-  abbrev Gathers : List (List ℕ) → Type 0
-  Gathers genes = (length genes ≤ 512) × AllValid (length (names line)) genes
-
-  whole-gathering : Holds Gathers (λ number place. place ≤ length trees) (gather line trees)
-  whole-gathering =
-      gather-holds line trees Gathers (λ number place. place ≤ length trees)
-      (λ genes p t rest q few holds e. (
-        omega (arith, length-append genes (recordOf (clusters t) ∷ [])),
-        λ g m. among (length (names line)) genes (recordOf (clusters t)) (holds .1) (read-valid line trees p e) g m,
-      ))
-      (λ p inside. omega arith)
-      (λ p number q inside e. let r = refused-inside line trees good p short inside e in (omega arith, r .1))
-      (omega arith, λ g m. absurd (List·Memᴰ·not-nil m))
+  turns :
+      Turns line trees (λ genes at. AllValid (length (names line)) genes) (λ genes. (length genes ≤ 512) × AllValid (length (names line)) genes)
+      (λ number place. place ≤ length trees)
+  turns = record {
+    begins = λ g m. absurd (List·Memᴰ·not-nil m);
+    reads = λ {genes} {at} {t} all e. among (length (names line)) genes (recordOf (clusters t)) all (read-valid line trees (begun trees at) e);
+    ends = λ all few none. (few, all);
+    many = λ all full inside. omega arith;
+    refuses = λ {genes} {at} all room inside e. refused-inside line trees good (begun trees at) short inside e .1;
+  }
 
   pub gathered-few : {genes : List (List ℕ)} → gathered genes ≡ gather line trees → length genes ≤ 512
-  gathered-few e = subst (Holds Gathers (λ number place. place ≤ length trees)) (sym e) whole-gathering .0
+  gathered-few e = gathered-so turns e .0
 
   pub gathered-valid : {genes : List (List ℕ)} → gathered genes ≡ gather line trees → AllValid (length (names line)) genes
-  gathered-valid e = subst (Holds Gathers (λ number place. place ≤ length trees)) (sym e) whole-gathering .1
+  gathered-valid e = gathered-so turns e .1
 
   pub stopped-inside : {number place : ℕ} → stopped number place ≡ gather line trees → place ≤ length trees
-  stopped-inside e = subst (Holds Gathers (λ number place. place ≤ length trees)) (sym e) whole-gathering
+  stopped-inside e = stopped-so turns e
 
 -- "9 is shown never to occur for gene trees" (#104): of the program's
 pub stopped-never-nine : (line trees : List ℕ) {number place : ℕ} → stopped number place ≡ gather line trees → number ≡ 9 → ⊥
-stopped-never-nine line trees e = subst (Holds (λ genes. Unit {0}) (λ number place. number ≡ 9 → ⊥)) (sym e) never
+stopped-never-nine line trees e = stopped-so turns e
   where
-    never : Holds (λ genes. Unit {0}) (λ number place. number ≡ 9 → ⊥) (gather line trees)
-    never =
-        gather-holds line trees (λ genes. Unit {0}) (λ number place. number ≡ 9 → ⊥)
-        (λ genes p t rest q few holds e. tt)
-        (λ p inside nine. omega arith)
-        (λ p number q inside e. (
-          refusal-some Gene line trees p e,
-          λ nine. gene-never-nine line trees p (e ∙ ap (λ (m : ℕ). refusedAt m q) nine),
-        ))
-        tt
+    turns : Turns line trees (λ genes at. Unit {0}) (λ genes. Unit {0}) (λ number place. number ≡ 9 → ⊥)
+    turns = record {
+      begins = tt;
+      reads = λ now e. tt;
+      ends = λ now few none. tt;
+      many = λ now full inside nine. omega arith;
+      refuses = λ {genes} {at} {number} {place} now room inside e nine. gene-never-nine line trees (begun trees at) (e ∙ ap (λ (m : ℕ). refusedAt m place) nine);
+    }

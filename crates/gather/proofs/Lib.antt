@@ -1,5 +1,4 @@
 -- The mathematics behind the proofs of this crate, and the laws that other crates cite.
 pub mod Kept
 pub mod Gathering
-pub mod Reading
 pub mod GeneTrees

@@ -14,34 +14,53 @@ pub data Gathered : Type 0 where
   gathered : List (List ℕ) → Gathered
   stopped : ℕ → ℕ → Gathered
 
+-- and with it the records of the trees that were read, up to the end or to one that is refused
+pub record Walked : Type 0 where
+  pub read : List (List ℕ)
+  pub says : Gathered
+
+abbrev pub ended : List (List ℕ) → Walked
+ended genes = record { read = genes; says = gathered genes }
+
+abbrev pub halted : List (List ℕ) → ℕ → ℕ → Walked
+halted genes number place = record { read = genes; says = stopped number place }
+
 -- "program: 512"
 abbrev pub genesMost : ℕ
 genesMost = 512
 
 -- a tree was read: the next ones follow; or it was refused
-abbrev pub gatherOn : ℕ → Reading → (List ℕ → ℕ → Gathered) → Gathered
-gatherOn zero r next = next (r .numbers) (r .next)
-gatherOn (suc number) r next = stopped (suc number) (r .place)
+abbrev pub gatherOn : ℕ → Reading → List (List ℕ) → (List ℕ → ℕ → Walked) → Walked
+gatherOn zero r genes next = next (r .numbers) (r .next)
+gatherOn (suc number) r genes next = halted genes (suc number) (r .place)
 
 -- a tree is to be read at p, unless 512 have been: "a 513th tree is 17 at its first byte that is no blank, before it is read"
-abbrev pub gatherAt : Bool → List ℕ → List ℕ → ℕ → (List ℕ → ℕ → Gathered) → Gathered
-gatherAt true line trees p next = stopped 17 p
-gatherAt false line trees p next =
-    gatherOn (readingOf p (answerTo Gene line trees p) .number) (readingOf p (answerTo Gene line trees p)) (λ numbers at. next numbers at)
+abbrev pub gatherAt : Bool → List ℕ → List ℕ → List (List ℕ) → ℕ → (List ℕ → ℕ → Walked) → Walked
+gatherAt true line trees genes p next = halted genes 17 p
+gatherAt false line trees genes p next =
+    gatherOn (readingOf p (answerTo Gene line trees p) .number) (readingOf p (answerTo Gene line trees p)) genes (λ numbers at. next numbers at)
 
 -- "then trees until only blanks remain"
-abbrev pub gatherMore : Bool → List ℕ → List ℕ → List (List ℕ) → ℕ → (List ℕ → ℕ → Gathered) → Gathered
-gatherMore true line trees genes p next = gathered genes
-gatherMore false line trees genes p next = gatherAt (leb genesMost (length genes)) line trees p (λ numbers at. next numbers at)
+abbrev pub gatherMore : Bool → List ℕ → List ℕ → List (List ℕ) → ℕ → (List ℕ → ℕ → Walked) → Walked
+gatherMore true line trees genes p next = ended genes
+gatherMore false line trees genes p next = gatherAt (leb genesMost (length genes)) line trees genes p (λ numbers at. next numbers at)
+
+-- the first byte from a place on that is no blank
+abbrev pub begun : List ℕ → ℕ → ℕ
+begun trees at = at + blanks (drop at trees)
 
 -- the gene trees from a place of the text `trees` on, behind those that were read; at most k more turns
-unfoldable pub gatherTo : ℕ → List ℕ → List ℕ → List (List ℕ) → ℕ → Gathered
-gatherTo zero line trees genes at = gathered genes
+unfoldable pub gatherTo : ℕ → List ℕ → List ℕ → List (List ℕ) → ℕ → Walked
+gatherTo zero line trees genes at = ended genes
 gatherTo (suc k) line trees genes at =
-    gatherMore (leb (length trees) (at + blanks (drop at trees))) line trees genes (at + blanks (drop at trees))
-    (λ numbers next. gatherTo k line trees (genes ++ (numbers ∷ [])) next)
+    gatherMore (leb (length trees) (begun trees at)) line trees genes (begun trees at) (λ numbers next. gatherTo k line trees (genes ++ (numbers ∷ [])) next)
 
--- all gene trees of the text; the 514 turns are never used up: the 513th finds only blanks or refuses a 513th tree
-unfoldable pub gather : List ℕ → List ℕ → Gathered
+-- the whole text; the 514 turns are never used up: the 513th finds only blanks or refuses a 513th tree
+unfoldable pub walk : List ℕ → List ℕ → Walked
 unfolding gatherTo
-gather line trees = gatherTo 514 line trees [] 0
+walk line trees = gatherTo 514 line trees [] 0
+
+-- all gene trees of the text
+unfoldable pub gather : List ℕ → List ℕ → Gathered
+unfolding walk
+gather line trees = walk line trees .says

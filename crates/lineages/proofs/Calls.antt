@@ -16,10 +16,11 @@ use Rattle.roster.specs.Judged.{refusal, done}
 use Rattle.roster.specs.Verdict.{Test, Verdict, verdict, lengthTest, replyOf}
 use Rattle.lineages.specs.Checks.{speciesRecordTest, firstBad, recordsTest, clusterTest, weightTests, scoreTests, markTests}
 use Rattle.lineages.specs.Promise.{marks, markedBy, Weighs, Scores, Marks}
+use Rattle.lineages.specs.InOrder.{Shaped}
 use Rattle.lineages.specs.Work.{shapeTests, said}
 use Rattle.weights.specs.Work.{marksBelow}
 use Rattle.trees.proofs.Lent.{length-recordsIn}
-use Rattle.lineages.proofs.Verdicts.{verdict-first, Shaped, shape-passed}
+use Rattle.lineages.proofs.Verdicts.{verdict-first, shape-passed}
 
 -- ---- replies
 

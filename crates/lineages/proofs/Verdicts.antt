@@ -9,6 +9,7 @@ use lib.ListN.{length}
 use borrow.Author.Tests.{lt-ltb, le-ltb, le-leb, lt-leb}
 use Rattle.roster.specs.Verdict.{Test, Verdict, verdictBy, verdict, lengthTest}
 use Rattle.lineages.specs.Checks.{speciesTest, countTest}
+use Rattle.lineages.specs.InOrder.{Shaped}
 use Rattle.lineages.specs.Work.{shapeTests, said}
 
 -- ---- the first fault
@@ -26,14 +27,6 @@ verdict-first (t ∷ l) k {number} {place} e f = go (t .fault) e (λ h. verdict-
     go false h ih = ih h
 
 -- ---- 1, 11 and 12
-
--- n, count and the lent entries have no fault
-pub record Shaped (n : ℕ) (genes : List ℕ) (count : ℕ) : Type 0 where
-  pub some-species : 1 ≤ n
-  pub few-species : n ≤ 16
-  pub some-genes : 1 ≤ count
-  pub few-genes : count ≤ 4096
-  pub fits : 32 * count ≤ length genes
 
 module _ (n : ℕ) (genes : List ℕ) (count : ℕ) where
   pub no-species : n < 1 → verdict (shapeTests n genes count) ≡ said 1 0

@@ -2,47 +2,43 @@
 use Prim.Native.Nat.{ℕ, zero, suc, _^_, _≤_, _<_}
 use mathlib.Core.Path.{_≡_, refl, sym, ap, _∙_}
 use mathlib.Core.Bool.{Bool, true, false}
-use mathlib.Core.List.{List, [], _∷_, _++_, map, append-nil, List·Memᴰ, List·Memᴰ·head as here, List·Memᴰ·tail as there}
+use mathlib.Core.List.{List, [], _∷_, _++_, map, append-nil}
 use native.Mathlib.Omega.{arith}
 use lib.ListN.{length, getD, drop, length-append, drop-of-length-le, getD-replicate, length-replicate}
-use Rattle.trees.specs.Valid.{validGene}
-use Rattle.trees.proofs.GeneRecords.{gene-decides}
 use Rattle.trees.specs.Lists.{upTo}
 use Rattle.roster.specs.declared.Reply.{Reply}
-use Rattle.trees.specs.Records.{recordsIn, AllValid}
-use Rattle.lineages.specs.Checks.{firstBad}
+use Rattle.trees.specs.Records.{recordsIn}
+use Rattle.lineages.specs.InOrder.{GenesInOrder}
 use Rattle.weights.specs.Marks.{shown, flag}
 use Rattle.lineages.specs.Promise.{marks, Marks}
 use Rattle.trees.proofs.Lent.{length-recordsIn}
-use Rattle.lineages.proofs.Verdicts.{Shaped}
+use Rattle.lineages.proofs.FirstBad.{all-valid-none-bad}
 use Rattle.lineages.proofs.Calls.{marks-below, marks-done}
 use Rattle.weights.proofs.Shown.{length-marks}
 use Rattle.lineages.proofs.Outcomes.{marks-once}
 use Rattle.outcomes.specs.Outcome.{allowedBy}
 use Rattle.outcomes.specs.Work.{Genes, Marked}
 
--- where every record is valid, the test of each passes, and none is the first bad one
-pub valid-tests : (n : ℕ) (genes : List (List ℕ)) → n ≤ 16 → AllValid n genes → (g : List ℕ) → List·Memᴰ g genes → validGene n g ≡ true
-valid-tests n genes few all g m = gene-decides g few .told (all g m)
-
-pub none-bad : (n : ℕ) (genes : List (List ℕ)) → n ≤ 16 → AllValid n genes → firstBad n genes ≡ length genes
-unfolding firstBad
-none-bad n [] few all = refl
-none-bad n (g ∷ l) few all = rw (valid-tests n (g ∷ l) few all g (here refl)) (ap suc (none-bad n l few (λ x m. all x (there m))))
+-- what the program hands on is in order
+pub genes-in-order : {n count : ℕ} {genes : List ℕ} → Genes n count genes → GenesInOrder n genes count
+genes-in-order g = record {
+  shaped = record {
+    some-species = g .some-species;
+    few-species = omega (arith, g .few-species);
+    some-genes = g .some;
+    few-genes = omega (arith, g .few);
+    fits = g .lent;
+  };
+  valid = g .valid;
+}
 
 -- what `mark` leaves in exactly 2^n bytes
 pub marked :
     {n count : ℕ} {genes out : List ℕ} {r : Reply} {after : List ℕ}
     → Genes n count genes → length out ≡ 2 ^ n → Marks n genes count out r after → after ≡ marks n (recordsIn count genes)
 marked {n} {count} {genes} {out} {r} {after} g e m =
-    let shaped : Shaped n genes count = record {
-      some-species = g .some-species;
-      few-species = omega (arith, g .few-species);
-      some-genes = g .some;
-      few-genes = omega (arith, g .few);
-      fits = g .lent;
-    } in
-    let bad = none-bad n (recordsIn count genes) (omega (arith, g .few-species)) (g .valid) in
+    let shaped = genes-in-order g .shaped in
+    let bad = all-valid-none-bad n (recordsIn count genes) (shaped .few-species) (g .valid) in
     let whole-text = marks-done n genes count out shaped (omega arith) refl (omega (arith, length-recordsIn count genes)) refl refl in
     marks-once m whole-text .1
     ∙ (ap (λ (k : List ℕ). k ++ drop (2 ^ n) out) (marks-below n (recordsIn count genes))

@@ -22,7 +22,7 @@ use Rattle.trees.proofs.Bounds.{whole-below-sixteen}
 use Rattle.outcomes.specs.Outcome.{outcomeOf, searched}
 use Rattle.outcomes.specs.Outcome.Outcome.{refused, solved}
 use Rattle.outcomes.specs.Work.{Genes, Marked}
-use Rattle.outcomes.proofs.Allowed.{valid-tests}
+use Rattle.outcomes.proofs.Allowed.{genes-in-order}
 
 -- the tables have room for twelve species
 pub entries-most : {n : ℕ} → n ≤ 12 → 2 ^ n ≤ 4096
@@ -33,15 +33,10 @@ module _ {n count : ℕ} {genes allowed scores splits : List ℕ} (g : Genes n c
   genes-accepted e f =
       let room = entries-most (g .few-species) in
       record {
-        some-species = g .some-species;
-        few-species = omega (arith, g .few-species);
-        some-genes = g .some;
-        few-genes = omega (arith, g .few);
-        genes-fit = g .lent;
+        in-order = genes-in-order g;
         allowed-fits = omega (arith, m .exact);
         scores-fit = omega arith;
         splits-fit = omega arith;
-        genes-valid = valid-tests n (recordsIn count genes) (omega (arith, g .few-species)) (g .valid);
         allowed-bytes = m .low;
       }
 

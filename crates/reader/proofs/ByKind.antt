@@ -24,29 +24,15 @@ use Rattle.reader.specs.Promise.{textMost, readingOf, fromStart, inLimit
 use Rattle.reader.specs.declared.Kind.the-variants.{Species, Gene}
 use Rattle.reader.specs.declared.Reading.{Reading}
 use Rattle.reader.proofs.Accepts.{accepted-derives}
-use Rattle.reader.proofs.Replies.{reads-zero}
+use Rattle.reader.proofs.Replies.{refusal-is, reads-zero}
 
 -- ---- 9
 
 -- "9 is shown never to occur for gene trees" (#104): of the reading
 pub gene-never-nine : (line text : List ℕ) (start : ℕ) {q : ℕ} → answerTo Gene line text start ≡ refused 9 q → ⊥
-unfolding answerTo
-gene-never-nine line text start {q} = judged (faulty speciesMost line)
-  where
-    other : {m p : ℕ} → _≡_ {A = Answer Tree} (refused m p) (refused 9 q) → m ≡ 9
-    other e = cc
-
-    started : (b : Bool) → fromStart Gene b (names line) text start ≡ refused 9 q → ⊥
-    started true e = none-needed-never-nine (names line) (drop start text) start e
-    started false e = let k = other e in omega arith
-
-    limited : (b : Bool) → inLimit Gene b (names line) text start ≡ refused 9 q → ⊥
-    limited true e = started (leb start (length text)) e
-    limited false e = let k = other e in omega arith
-
-    judged : (b : Bool) → onRoster Gene b line text start ≡ refused 9 q → ⊥
-    judged true e = let k = other e in omega arith
-    judged false e = limited (leb (length text) textMost) e
+gene-never-nine line text start {q} e =
+    refusal-is (λ n. n ≡ 9 → ⊥) (λ z. omega arith) (λ z. omega arith) (λ z. omega arith) Gene line text start
+    (λ e nine. none-needed-never-nine (names line) (drop start text) start e) e refl
 
 -- and of the call
 pub read-gene-never-nine : (line text : List ℕ) (start : ℕ) (r : Reading) → Reads Gene line text start r → r .number ≡ 9 → ⊥

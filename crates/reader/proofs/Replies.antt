@@ -18,6 +18,7 @@ use Rattle.roster.specs.Judged.{speciesMost}
 use Rattle.roster.proofs.Names.{names-count}
 use Rattle.tokens.specs.Answers.{Answer}
 use Rattle.tokens.specs.Answers.Answer.{parsed, refused}
+use Rattle.nodes.specs.Reading.{readTree}
 use Rattle.nodes.proofs.RefusedBy.{tree-numbered}
 use Rattle.reader.specs.Promise.{textMost, needed, fromStart, inLimit, onRoster, answerTo, Reads}
 use Rattle.reader.specs.Accepted.{MayHave, Draws}
@@ -26,26 +27,33 @@ use Rattle.reader.specs.declared.Kind.the-variants.{Species, Gene}
 use Rattle.reader.specs.declared.Reading.{Reading}
 use Rattle.reader.proofs.Accepts.{accepted-derives}
 
+-- a refusal is 1, 2 or 10, or one of the reading
+pub refusal-is :
+    (P : ℕ → Type 0) → P 1 → P 2 → P 10 → (kind : Kind) (line text : List ℕ) (start : ℕ) {n p : ℕ}
+    → (readTree (names line) (needed kind (length (names line))) (drop start text) start ≡ refused n p → P n) → answerTo kind line text start ≡ refused n p → P n
+unfolding answerTo
+refusal-is P one two ten kind line text start {n} {p} read = judged (faulty speciesMost line)
+  where
+    told : {m q : ℕ} → P m → _≡_ {A = Answer Tree} (refused m q) (refused n p) → P n
+    told {m} h e = let same : m ≡ n = cc in subst P same h
+
+    started : (b : Bool) → fromStart kind b (names line) text start ≡ refused n p → P n
+    started true e = read e
+    started false e = told ten e
+
+    limited : (b : Bool) → inLimit kind b (names line) text start ≡ refused n p → P n
+    limited true e = started (leb start (length text)) e
+    limited false e = told two e
+
+    judged : (b : Bool) → onRoster kind b line text start ≡ refused n p → P n
+    judged true e = told one e
+    judged false e = limited (leb (length text) textMost) e
+
 -- no refusal has number 0
 pub refusal-some : (kind : Kind) (line text : List ℕ) (start : ℕ) {n p : ℕ} → answerTo kind line text start ≡ refused n p → 1 ≤ n
-unfolding answerTo
-refusal-some kind line text start {n} {p} = judged (faulty speciesMost line)
-  where
-    told : {m q : ℕ} → _≡_ {A = Answer Tree} (refused m q) (refused n p) → m ≡ n
-    told e = cc
-
-    started : (b : Bool) → fromStart kind b (names line) text start ≡ refused n p → 1 ≤ n
-    started true e =
-        let k = tree-numbered (names line) (needed kind (length (names line))) (drop start text) start e in omega arith
-    started false e = let k = told e in omega arith
-
-    limited : (b : Bool) → inLimit kind b (names line) text start ≡ refused n p → 1 ≤ n
-    limited true e = started (leb start (length text)) e
-    limited false e = let k = told e in omega arith
-
-    judged : (b : Bool) → onRoster kind b line text start ≡ refused n p → 1 ≤ n
-    judged true e = let k = told e in omega arith
-    judged false e = limited (leb (length text) textMost) e
+refusal-some kind line text start =
+    refusal-is (λ n. 1 ≤ n) (omega arith) (omega arith) (omega arith) kind line text start
+    (λ e. let k = tree-numbered (names line) (needed kind (length (names line))) (drop start text) start e in omega arith)
 
 -- ---- the species of a tree of either kind are some of the roster's
 
@@ -62,7 +70,7 @@ draws-gene {kind} {line} {t = t} d =
     let few = names-count speciesMost line (d .good) .1 in
     let below = may-have-below kind n (cluster t) (d .species) in
     let v = valid-of-drawn {s = cluster t} (record { once = d .once; all = refl }) (omega (arith, below, pow-mono {i = n} {j = 16} few)) in
-    (gene-of-valid v (cluster-some t) below, largest-of-valid v)
+    (gene-of-valid v (cluster-some t, below), largest-of-valid v)
 
 -- ---- number 0
 

@@ -1,11 +1,12 @@
 -- Which texts are to be read: those that draw, by the grammar and within the limits, a tree with each of its species once, whose species are those that a tree of the kind may have.
-use Prim.Native.Nat.{ℕ, _^_, _≤_, _<_}
+use Prim.Native.Nat.{ℕ, _≤_, _<_}
 use mathlib.Core.Path.{_≡_}
 use mathlib.Core.Bool.{false}
 use mathlib.Core.List.{List}
 use lib.ListN.{length, drop}
 use Rattle.clusters.specs.Sets.{whole}
 use Rattle.trees.specs.Lists.{NoneTwice}
+use Rattle.trees.specs.Records.{ClusterOf}
 use Rattle.trees.specs.Tree.{Tree, leaves, cluster}
 use Rattle.roster.specs.Roster.{names, faulty}
 use Rattle.roster.specs.Judged.{speciesMost}
@@ -18,7 +19,7 @@ use Rattle.reader.specs.declared.Kind.the-variants.{Species, Gene}
 -- the species that a tree of the kind has, of n: "Species records still have every species", a gene tree may have lost some, but has one (#104)
 abbrev pub MayHave : Kind → ℕ → ℕ → Type 0
 MayHave Species n s = s ≡ whole n
-MayHave Gene n s = (1 ≤ s) × (s < 2 ^ n)
+MayHave Gene n s = ClusterOf n s
 
 -- from start on, the text draws the tree t of the kind, and rest is left behind its `;`: the roster is good, the limits are kept,
 -- the grammar has it, no species is a leaf twice, and its species are those of such a tree

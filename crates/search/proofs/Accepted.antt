@@ -1,19 +1,17 @@
 -- When the tests before the search all pass, and which numbers they can give.
-use Prim.Native.Nat.{ℕ, suc, _*_, _^_, _≤_, _<_}
-use mathlib.Core.Path.{_≡_, refl, ap, _∙_}
-use mathlib.Core.Logic.{_⊎_, inl, inr}
+use Prim.Native.Nat.{ℕ, _*_, _^_, _≤_, _<_}
+use mathlib.Core.Path.{_≡_, refl, ap}
 use mathlib.Core.Bool.{Bool, true, false, not, _&&_, true≢false}
-use mathlib.Core.List.{List, [], _∷_, List·Memᴰ, List·Memᴰ·head as here, List·Memᴰ·tail as there, List·Memᴰ·not-nil, List·Memᴰ·cases-cons}
+use mathlib.Core.List.{List, [], _∷_}
 use native.Mathlib.Omega.{arith}
 use lib.Dec.{leb}
 use lib.ListN.{length, getD}
 use borrow.Author.Tests.{ltb-false, leb-true, le-leb, le-ltb, not-false}
-use Rattle.labels.specs.Bytes.{oneMore}
-use Rattle.trees.specs.Valid.{validGene}
 use Rattle.roster.proofs.Least.{least-first, least-none}
 use Rattle.trees.specs.Records.{recordsIn}
 use Rattle.roster.specs.Verdict.{Test, verdict, verdictBy, lengthTest}
 use Rattle.lineages.specs.Checks.{speciesTest, countTest, firstBad, recordsTest}
+use Rattle.lineages.proofs.FirstBad.{none-bad, all-valid-none-bad}
 use Rattle.search.specs.Promise.{firstStrange, allowedTest, searchTests}
 use Rattle.search.specs.Candidates.{Accepted}
 
@@ -52,22 +50,6 @@ both true true e = (refl, refl)
 both true false e = absurd (true≢false e)
 both false b e = absurd (true≢false e)
 
-first-bad-all : (n : ℕ) (genes : List (List ℕ)) → length genes ≤ firstBad n genes → (g : List ℕ) → List·Memᴰ g genes → validGene n g ≡ true
-unfolding firstBad
-first-bad-all n [] h g m = absurd (List·Memᴰ·not-nil m)
-first-bad-all n (x ∷ l) h g m = go (validGene n x) refl h (List·Memᴰ·cases-cons m) (λ k p. first-bad-all n l k g p)
-  where
-    go : (b : Bool) → validGene n x ≡ b → suc (length l) ≤ oneMore b (firstBad n l) → (g ≡ x) ⊎ List·Memᴰ g l
-        → (length l ≤ firstBad n l → List·Memᴰ g l → validGene n g ≡ true) → validGene n g ≡ true
-    go true e k (inl p) ih = ap (validGene n) p ∙ e
-    go true e k (inr p) ih = ih (omega arith) p
-    go false e k p ih = absurd (omega arith)
-
-pub all-first-bad : (n : ℕ) (genes : List (List ℕ)) → ((g : List ℕ) → List·Memᴰ g genes → validGene n g ≡ true) → firstBad n genes ≡ length genes
-unfolding firstBad
-all-first-bad n [] h = refl
-all-first-bad n (x ∷ l) h = rw (h x (here refl)) (ap suc (all-first-bad n l (λ g m. h g (there m))))
-
 strange-none : (n : ℕ) (bytes : List ℕ) → 2 ^ n ≤ firstStrange n bytes → (a : ℕ) → a < 2 ^ n → getD bytes a 0 ≤ 1
 unfolding firstStrange
 strange-none n bytes h a l =
@@ -95,32 +77,38 @@ module _ (n : ℕ) (genes : List ℕ) (count : ℕ) (allowed scores splits : Lis
       let k = verdict-passed _ _ (λ z. omega arith) (h .1) in
       let species = both (leb 1 n) (leb n 16) (a .0) in
       let trees = both (leb 1 count) (leb count 4096) (b .0) in
+      let few = leb-true n 16 (species .1) in
       record {
-        some-species = leb-true 1 n (species .0);
-        few-species = leb-true n 16 (species .1);
-        some-genes = leb-true 1 count (trees .0);
-        few-genes = leb-true count 4096 (trees .1);
-        genes-fit = ltb-false (length genes) (32 * count) (c .0);
+        in-order = record {
+          shaped = record {
+            some-species = leb-true 1 n (species .0);
+            few-species = few;
+            some-genes = leb-true 1 count (trees .0);
+            few-genes = leb-true count 4096 (trees .1);
+            fits = ltb-false (length genes) (32 * count) (c .0);
+          };
+          valid = none-bad n (recordsIn count genes) few (ltb-false (firstBad n (recordsIn count genes)) (length (recordsIn count genes)) (h .0));
+        };
         allowed-fits = ltb-false (length allowed) (2 ^ n) (d .0);
         scores-fit = ltb-false (length scores) (2 ^ n) (f .0);
         splits-fit = ltb-false (length splits) (2 ^ n) (g .0);
-        genes-valid = first-bad-all n (recordsIn count genes) (ltb-false (firstBad n (recordsIn count genes)) (length (recordsIn count genes)) (h .0));
         allowed-bytes = strange-none n allowed (ltb-false (firstStrange n allowed) (2 ^ n) (k .0));
       }
 
   pub accepts : Accepted n genes count allowed scores splits → verdict (searchTests n genes count allowed scores splits) .number ≡ 0
   unfolding searchTests speciesTest countTest lengthTest recordsTest allowedTest verdict
   accepts a =
+      let s = a .in-order .shaped in
       rw (
-        le-leb 1 n (a .some-species),
-        le-leb n 16 (a .few-species),
-        le-leb 1 count (a .some-genes),
-        le-leb count 4096 (a .few-genes),
-        le-ltb (length genes) (32 * count) (a .genes-fit),
+        le-leb 1 n (s .some-species),
+        le-leb n 16 (s .few-species),
+        le-leb 1 count (s .some-genes),
+        le-leb count 4096 (s .few-genes),
+        le-ltb (length genes) (32 * count) (s .fits),
         le-ltb (length allowed) (2 ^ n) (a .allowed-fits),
         le-ltb (length scores) (2 ^ n) (a .scores-fit),
         le-ltb (length splits) (2 ^ n) (a .splits-fit),
-        le-ltb (firstBad n (recordsIn count genes)) (length (recordsIn count genes)) (let e = all-first-bad n (recordsIn count genes) (a .genes-valid) in omega arith),
+        le-ltb (firstBad n (recordsIn count genes)) (length (recordsIn count genes)) (let e = all-valid-none-bad n (recordsIn count genes) (s .few-species) (a .in-order .valid) in omega arith),
         le-ltb (firstStrange n allowed) (2 ^ n) (none-strange n allowed (a .allowed-bytes)),
       )
 

@@ -123,8 +123,8 @@ module _ {n : ℕ} {genes : List ℕ} {count : ℕ} {allowed scores splits : Lis
       subst (Replied n (recordsIn count genes) allowed) (sym (reply-accepted a)) (go (bestFor n (recordsIn count genes) allowed (whole n)) refl)
     where
       go : (o : Option Binary) → bestFor n (recordsIn count genes) allowed (whole n) ≡ o → Replied n (recordsIn count genes) allowed (foundBy o (recordsIn count genes))
-      go none e = nothing refl refl refl refl (none-competes n (recordsIn count genes) allowed (a .few-species) e)
-      go (some t) e = answered refl refl (found-answers n (recordsIn count genes) allowed (a .few-species) t e)
+      go none e = nothing refl refl refl refl (none-competes n (recordsIn count genes) allowed (a .in-order .shaped .few-species) e)
+      go (some t) e = answered refl refl (found-answers n (recordsIn count genes) allowed (a .in-order .shaped .few-species) t e)
 
   -- a test that finds a fault gives the reply its number
   refused-number : (k : ℕ) → verdict (searchTests n genes count allowed scores splits) .number ≡ suc k → r .number ≡ suc k

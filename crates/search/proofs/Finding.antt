@@ -14,8 +14,9 @@ use Rattle.roster.specs.Verdict.{Test, verdict, lengthTest}
 use Rattle.weights.specs.Count.{weight}
 use Rattle.trees.specs.Records.{recordsIn}
 use Rattle.lineages.specs.Checks.{firstBad, recordsTest}
+use Rattle.lineages.specs.InOrder.{Shaped}
 use Rattle.lineages.specs.Work.{shapeTests, said}
-use Rattle.lineages.proofs.Verdicts.{verdict-first, Shaped, shape-passed}
+use Rattle.lineages.proofs.Verdicts.{verdict-first, shape-passed}
 use Rattle.lineages.proofs.FirstBad.{checked-countable}
 use Rattle.splits.specs.Least.{scoreEntry, splitEntry}
 use Rattle.search.specs.Promise.{firstStrange, allowedTest, searchTests, foundOr, filledBy, Finds}

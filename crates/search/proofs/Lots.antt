@@ -1,44 +1,23 @@
 -- Numbers added up over lots: the whole's least number against the sum of the lots' least numbers, and what is least; then the scores of lots of gene trees.
 use Prim.Native.Nat.{ℕ, zero, suc, _^_, _≤_, _<_}
-use mathlib.Core.Path.{_≡_, refl, sym, ap, _∙_}
-use mathlib.Core.Logic.{_⊎_, inl, inr, _↔_}
-use mathlib.Core.List.{List, [], _∷_, map, List·Memᴰ, List·Memᴰ·head as here, List·Memᴰ·tail as there, List·Memᴰ·not-nil, List·Memᴰ·cases-cons}
+use mathlib.Core.Path.{_≡_, refl, sym, _∙_}
+use mathlib.Core.Logic.{_↔_}
+use mathlib.Core.List.{List, [], _∷_, map, List·Memᴰ, List·Memᴰ·head as here}
 use native.Mathlib.Omega.{arith}
 use lib.ListN.{length, getD}
 use Rattle.clusters.proofs.Sets.{below-of-within}
 use Rattle.trees.specs.Lists.{total}
 use Rattle.trees.specs.Records.{recordsIn}
-use Rattle.trees.proofs.Totals.{total-same}
+use Rattle.trees.proofs.Totals.{total-same, total-le, total-tight}
 use Rattle.weights.specs.Count.{score}
 use Rattle.weights.proofs.Sums.{score-append}
 use Rattle.splits.specs.BinaryTrees.{each}
-use Rattle.tables.specs.Allowed.{allowedIn}
 use Rattle.solver.specs.declared.Found.{Found}
 use Rattle.search.specs.Promise.{Finds}
 use Rattle.search.specs.Candidates.{Candidate, SameAllowed}
 use Rattle.search.specs.LeastAmong.{LeastAmong, LeastNumber}
 use Rattle.search.proofs.Demand.{answer}
-
--- ---- sums that are compared part by part
-
-module _ {A : Type 0} (f g : A → ℕ) where
-  total-le : (l : List A) → ((x : A) → List·Memᴰ x l → f x ≤ g x) → total (map f l) ≤ total (map g l)
-  unfolding total
-  total-le [] h = omega arith
-  total-le (x ∷ l) h = omega (arith, h x (here refl), total-le l (λ y m. h y (there m)))
-
-  -- where the sums are equal, so are all parts
-  total-tight :
-      (l : List A) → ((x : A) → List·Memᴰ x l → f x ≤ g x) → total (map f l) ≡ total (map g l) → (x : A) → List·Memᴰ x l → f x ≡ g x
-  unfolding total
-  total-tight [] h e x m = absurd (List·Memᴰ·not-nil m)
-  total-tight (y ∷ l) h e x m = go (List·Memᴰ·cases-cons m) (λ k. total-tight l (λ z n. h z (there n)) (omega (arith, h y (here refl), total-le l (λ z n. h z (there n)))) x k)
-    where
-      go : (x ≡ y) ⊎ List·Memᴰ x l → (List·Memᴰ x l → f x ≡ g x) → f x ≡ g x
-      go (inl k) later =
-          let here-equal : f y ≡ g y = omega (arith, h y (here refl), total-le l (λ z n. h z (there n))) in
-          ap f k ∙ here-equal ∙ ap g (sym k)
-      go (inr k) later = later k
+use Rattle.search.proofs.Unread.{same-allowed-in}
 
 -- ---- what is least, by the least number
 
@@ -150,14 +129,10 @@ reply-is-least {r = r} f z =
 module _ {n : ℕ} {allowed other : List ℕ} (same : SameAllowed n allowed other) where
   -- what competes over the one competes over the other
   pub competes-too : (c : List ℕ) → Candidate n allowed c → Candidate n other c
-  unfolding allowedIn
   competes-too c k = record {
     valid = k .valid;
     binary = k .binary;
-    over = λ a m.
-        let i = k .valid .inside a m in
-        let b = same .clusters a (i .0) (below-of-within n (i .1)) in
-        rw (← b) (k .over a m);
+    over = λ a m. let i = k .valid .inside a m in sym (same-allowed-in same a (i .0) (below-of-within n (i .1))) ∙ k .over a m;
   }
 
   -- and the bytes of both are judged alike

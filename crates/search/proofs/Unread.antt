@@ -32,6 +32,11 @@ use Rattle.search.proofs.Demand.{accepted-of}
 
 -- ---- allowed sets that say the same
 
+-- they allow the same clusters
+pub same-allowed-in : {n : ℕ} {allowed other : List ℕ} → SameAllowed n allowed other → (a : ℕ) → 1 ≤ a → a < 2 ^ n → allowedIn n allowed a ≡ allowedIn n other a
+unfolding allowedIn
+same-allowed-in same a s l = rw (same .clusters a s l)
+
 -- where all bytes are 0 or 1, it is enough that they agree on the clusters
 pub zeros-and-ones-same :
     (n : ℕ) (allowed other : List ℕ) → 2 ^ n ≤ length allowed → 2 ^ n ≤ length other
@@ -130,14 +135,10 @@ module _ (n count : ℕ) (genes genes′ allowed allowed′ scores scores′ spl
         same-strange,
       )
 
-  same-allowed-in : (a : ℕ) → 1 ≤ a → a < 2 ^ n → allowedIn n allowed a ≡ allowedIn n allowed′ a
-  unfolding allowedIn
-  same-allowed-in a s l = rw (same-allowed .clusters a s l)
-
   same-best : (a : ℕ) → a < 2 ^ n → bestFor n (recordsIn count genes) allowed a ≡ bestFor n (recordsIn count genes′) allowed′ a
   unfolding bestFor
   same-best a l =
-      best-local (weight (recordsIn count genes)) (allowedIn n allowed) (allowedIn n allowed′) a (λ x s m. same-allowed-in x s (let k = within-le m in omega arith))
+      best-local (weight (recordsIn count genes)) (allowedIn n allowed) (allowedIn n allowed′) a (λ x s m. same-allowed-in same-allowed x s (let k = within-le m in omega arith))
       ∙ ap (λ g. best (weight g) (allowedIn n allowed′) a) same-records
 
   -- "byte 0 has no meaning", "Entries beyond the need are not read": their replies are equal, and where the tables are filled so are the entries

@@ -1,14 +1,14 @@
 -- What a search accepts, which records compete, and what the tree that is found has over the others.
-use Prim.Native.Nat.{ℕ, _*_, _^_, _≤_, _<_}
+use Prim.Native.Nat.{ℕ, _^_, _≤_, _<_}
 use mathlib.Core.Path.{_≡_}
 use mathlib.Core.Logic.{_⊎_, _↔_}
 use mathlib.Core.Bool.{true}
-use mathlib.Core.List.{List, List·Memᴰ}
+use mathlib.Core.List.{List}
 use lib.ListN.{length, getD, take, drop}
 use Rattle.clusters.specs.Sets.{whole}
 use Rattle.trees.specs.Lists.{Among}
-use Rattle.trees.specs.Records.{listed, recordOf, ValidOn, BinaryOn, recordsIn}
-use Rattle.trees.specs.Valid.{validGene}
+use Rattle.trees.specs.Records.{listed, recordOf, ValidOn, BinaryOn}
+use Rattle.lineages.specs.InOrder.{GenesInOrder}
 use Rattle.weights.specs.Count.{score}
 use Rattle.splits.specs.BinaryTrees.{Binary, clustersIn}
 use Rattle.splits.specs.Order.{Earlier}
@@ -18,15 +18,10 @@ use Rattle.solver.specs.declared.Found.{Found}
 
 -- no test finds a fault
 pub record Accepted (n : ℕ) (genes : List ℕ) (count : ℕ) (allowed scores splits : List ℕ) : Type 0 where
-  pub some-species : 1 ≤ n
-  pub few-species : n ≤ 16
-  pub some-genes : 1 ≤ count
-  pub few-genes : count ≤ 4096
-  pub genes-fit : 32 * count ≤ length genes
+  pub in-order : GenesInOrder n genes count
   pub allowed-fits : 2 ^ n ≤ length allowed
   pub scores-fit : 2 ^ n ≤ length scores
   pub splits-fit : 2 ^ n ≤ length splits
-  pub genes-valid : (g : List ℕ) → List·Memᴰ g (recordsIn count genes) → validGene n g ≡ true
   pub allowed-bytes : (a : ℕ) → a < 2 ^ n → getD allowed a 0 ≤ 1
 
 -- a valid binary species record, all of whose clusters are allowed

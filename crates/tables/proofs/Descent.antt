@@ -179,7 +179,7 @@ module _ {splits : List ℕ} {a next : ℕ} {after : List ℕ} (lent : List ℕ)
   front-below k l =
       let inside : k < length (clustersIn (h .tree)) = omega (arith, count) in
       let e = ap (λ r. getD r k 0) (front (h .tree) (h .rooted) (h .chosen)) ∙ List·getD-append (clustersIn (h .tree)) (drop (length (clustersIn (h .tree))) lent) 0 k inside in
-      omega (arith, e, h .rooted, clusters-le splits (h .tree) (h .chosen) (getD (clustersIn (h .tree)) k 0) (at-among (clustersIn (h .tree)) k inside))
+      omega (arith, e, h .rooted, clusters-le splits (h .tree) (h .chosen) (getD (clustersIn (h .tree)) k 0) (at-among (clustersIn (h .tree)) 0 k inside))
 
   pub front-clusters : (t : Binary) → root t ≡ a → Chosen splits t → take next after ≡ clustersIn t
   front-clusters t e c =

@@ -129,7 +129,7 @@ module _ (names : List (List ℕ)) {r : List ℕ} (few : length names ≤ 16) (g
   on-largest = drawn-on (g .valid) (gene-small few g)
 
   leaves-named : LeavesBelow (length names) (leaves tree)
-  leaves-named i m = has-below (length names) (g .of-roster) (rw (on-largest .all) at (leaf-has tree i m))
+  leaves-named i m = has-below (length names) (g .of-roster .1) (rw (on-largest .all) at (leaf-has tree i m))
 
   -- two bytes for each cluster less one for each species, and the labels
   pub text-length : length (written names r) + size (largest r) ≡ labelsIn names (largest r) (length names) + 2 * count r
@@ -165,14 +165,14 @@ module _ (names : List (List ℕ)) {r : List ℕ} (few : length names ≤ 16) (g
     pub text-most : length (written names r) ≤ 558
     text-most =
         let a = text-bound 32 (λ i h. label-short (getD names i []) (each i h .short)) in
-        let b = size-le (length names) (g .of-roster) in
+        let b = size-le (length names) (g .of-roster .1) in
         omega arith
 
     -- "never passes 286 bytes": on names of letters and digits, which are written as they are
     pub text-of-letters : ((i : ℕ) → i < length names → All isName (getD names i [])) → length (written names r) ≤ 286
     text-of-letters letters =
         let a = text-bound 15 (λ i h. rw (label-as-it-is (letters i h)) (each i h .short)) in
-        let b = size-le (length names) (g .of-roster) in
+        let b = size-le (length names) (g .of-roster .1) in
         omega arith
 
     module _ (distinct : Distinct names) where
@@ -208,5 +208,5 @@ module _ (names : List (List ℕ)) {r : List ℕ} (few : length names ≤ 16) (g
           let l = labels-within (set names longest nextLongest) 31 others-short in
           let k = labels-shorter names (largest r) longest nextLongest (rw next-longest longest-label) (length names) (omega arith) in
           let a = text-within (suc (size (largest r) * 31)) (omega arith) in
-          let b = size-le (length names) (g .of-roster) in
+          let b = size-le (length names) (g .of-roster .1) in
           omega arith

@@ -14,7 +14,7 @@ use Rattle.clusters.specs.Sets.{whole}
 use Rattle.clusters.proofs.Sets.{within-le, whole-below, whole-some}
 use Rattle.trees.specs.Lists.{Among, Rising}
 use Rattle.trees.specs.Tree.{Tree, On, clusters}
-use Rattle.trees.specs.Records.{count, listed, recordOf, largest, Form, ValidOn, SpeciesValid, GeneValid}
+use Rattle.trees.specs.Records.{count, listed, recordOf, largest, Form, ValidOn, SpeciesValid, ClusterOf, GeneValid}
 use Rattle.trees.specs.Valid.{valid, validGene}
 use Rattle.trees.specs.Drawn.{Alike, drawn}
 use Rattle.trees.proofs.Booleans.{both}
@@ -32,7 +32,7 @@ rising-places : (l : List ℕ) → Rising l → (i j : ℕ) → i < j → j < le
 unfolding Rising
 rising-places [] r i j p q = absurd (omega arith)
 rising-places (x ∷ l) r i zero p q = absurd (omega arith)
-rising-places (x ∷ l) r zero (suc j) p q = rising-below l r (at-among l j (omega arith))
+rising-places (x ∷ l) r zero (suc j) p q = rising-below l r (at-among l 0 j (omega arith))
 rising-places (x ∷ l) r (suc i) (suc j) p q = rising-places l (r .1) i j (omega arith) (omega arith)
 
 -- the largest cluster is listed
@@ -75,8 +75,7 @@ pub gene-of-species : {n : ℕ} {r : List ℕ} → 1 ≤ n → SpeciesValid n r 
 gene-of-species {n} {r} some v =
     let e = largest-of-valid v in
     record {
-      some-species = omega (arith, whole-some n some);
-      of-roster = omega (arith, whole-below n);
+      of-roster = (omega (arith, whole-some n some), omega (arith, whole-below n));
       valid = subst (λ (s : ℕ). ValidOn s r) (sym e) v;
     }
 
@@ -84,18 +83,18 @@ pub species-of-gene : {n : ℕ} {r : List ℕ} → GeneValid n r → largest r �
 species-of-gene {n} {r} g e = subst (λ (s : ℕ). ValidOn s r) e (g .valid)
 
 -- a valid record on a set of species of the roster is a gene record
-pub gene-of-valid : {n s : ℕ} {r : List ℕ} → ValidOn s r → 1 ≤ s → s < 2 ^ n → GeneValid n r
-gene-of-valid {n} {s} {r} v some below =
+pub gene-of-valid : {n s : ℕ} {r : List ℕ} → ValidOn s r → ClusterOf n s → GeneValid n r
+gene-of-valid {n} {s} {r} v some =
     let e = largest-of-valid v in
-    record { some-species = omega arith; of-roster = omega arith; valid = subst (λ (s : ℕ). ValidOn s r) (sym e) v }
+    record { of-roster = subst (λ (s : ℕ). ClusterOf n s) (sym e) some; valid = subst (λ (s : ℕ). ValidOn s r) (sym e) v }
 
 -- its species are sixteen bits
 pub gene-small : {n : ℕ} {r : List ℕ} → n ≤ 16 → GeneValid n r → largest r < 2 ^ 16
-gene-small {n} few g = omega (arith, g .of-roster, pow-mono {i = n} {j = 16} few)
+gene-small {n} few g = omega (arith, g .of-roster .1, pow-mono {i = n} {j = 16} few)
 
 -- each of its clusters is a cluster of n species
-pub gene-cluster-below : {n : ℕ} {r : List ℕ} → GeneValid n r → (x : ℕ) → Among x (listed r) → (1 ≤ x) × (x < 2 ^ n)
-gene-cluster-below {n} {r} g x m = let k = g .valid .inside x m in (k .0, omega (arith, within-le (k .1), g .of-roster))
+pub gene-cluster-below : {n : ℕ} {r : List ℕ} → GeneValid n r → (x : ℕ) → Among x (listed r) → ClusterOf n x
+gene-cluster-below {n} {r} g x m = let k = g .valid .inside x m in (k .0, omega (arith, within-le (k .1), g .of-roster .1))
 
 -- ---- the test
 
@@ -110,21 +109,20 @@ gene-decides {n} r few = record { holds = holds; told = told }
         let b = both (leb 1 (largest r)) (ltb (largest r) (2 ^ n)) (k .0) in
         let below = ltb-true (largest r) (2 ^ n) (b .1) in
         record {
-          some-species = leb-true 1 (largest r) (b .0);
-          of-roster = below;
+          of-roster = (leb-true 1 (largest r) (b .0), below);
           valid = valid-decides {s = largest r} r (omega (arith, below, pow-mono {i = n} {j = 16} few)) .holds (k .1);
         }
 
     told : GeneValid n r → (leb 1 (largest r) && ltb (largest r) (2 ^ n) && valid (largest r) r) ≡ true
-    told g = rw (le-leb 1 (largest r) (g .some-species), lt-ltb (largest r) (2 ^ n) (g .of-roster)) (valid-decides r (gene-small few g) .told (g .valid))
+    told g = rw (le-leb 1 (largest r) (g .of-roster .0), lt-ltb (largest r) (2 ^ n) (g .of-roster .1)) (valid-decides r (gene-small few g) .told (g .valid))
 
 -- ---- drawn trees
 
 -- a gene record is valid exactly when it is the record of a drawn tree on some of the species, at least one
-pub gene-exactly : {n : ℕ} {r : List ℕ} → n ≤ 16 → GeneValid n r ↔ ((s : ℕ) × (1 ≤ s) × (s < 2 ^ n) × ((t : Tree) × On s t × (recordOf (clusters t) ≡ r)))
+pub gene-exactly : {n : ℕ} {r : List ℕ} → n ≤ 16 → GeneValid n r ↔ ((s : ℕ) × ClusterOf n s × ((t : Tree) × On s t × (recordOf (clusters t) ≡ r)))
 gene-exactly {n} {r} few = (
-  λ g. (largest r, g .some-species, g .of-roster, (drawn (listed r) (largest r), drawn-on (g .valid) (gene-small few g), drawn-record (g .valid) (gene-small few g))),
-  λ k. gene-of-valid (subst (λ (r : List ℕ). ValidOn (k .0) r) (k .3 .2) (valid-of-drawn (k .3 .1) (omega (arith, k .2, pow-mono {i = n} {j = 16} few)))) (k .1) (k .2),
+  λ g. (largest r, g .of-roster, (drawn (listed r) (largest r), drawn-on (g .valid) (gene-small few g), drawn-record (g .valid) (gene-small few g))),
+  λ k. gene-of-valid (subst (λ (r : List ℕ). ValidOn (k .0) r) (k .2 .2) (valid-of-drawn (k .2 .1) (omega (arith, k .1 .1, pow-mono {i = n} {j = 16} few)))) (k .1),
 )
 
 -- that tree is unique up to the order of children: trees with one record are on the same species, and alike

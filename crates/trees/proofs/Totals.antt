@@ -1,7 +1,8 @@
 -- Sums over a list.
-use Prim.Native.Nat.{ℕ, _+_}
-use mathlib.Core.Path.{_≡_, refl, ap₂}
-use mathlib.Core.List.{List, [], _∷_, _++_, map, List·Memᴰ, List·Memᴰ·head as here, List·Memᴰ·tail as there}
+use Prim.Native.Nat.{ℕ, _+_, _≤_}
+use mathlib.Core.Path.{_≡_, refl, sym, ap, ap₂, _∙_}
+use mathlib.Core.Logic.{_⊎_, inl, inr}
+use mathlib.Core.List.{List, [], _∷_, _++_, map, List·Memᴰ, List·Memᴰ·head as here, List·Memᴰ·tail as there, List·Memᴰ·not-nil, List·Memᴰ·cases-cons}
 use native.Mathlib.Omega.{arith}
 use Rattle.trees.specs.Lists.{total}
 
@@ -14,3 +15,34 @@ pub total-same : {A : Type 0} (f g : A → ℕ) (l : List A) → ((x : A) → Li
 unfolding total
 total-same f g [] h = refl
 total-same f g (x ∷ l) h = ap₂ _+_ (h x (here refl)) (total-same f g l (λ y m. h y (there m)))
+
+-- none is more than all together
+pub one-le-total : {A : Type 0} (f : A → ℕ) (l : List A) (x : A) → List·Memᴰ x l → f x ≤ total (map f l)
+unfolding total
+one-le-total f [] x m = absurd (List·Memᴰ·not-nil m)
+one-le-total f (y ∷ l) x m = go (List·Memᴰ·cases-cons m) (one-le-total f l x)
+  where
+    go : (x ≡ y) ⊎ List·Memᴰ x l → (List·Memᴰ x l → f x ≤ total (map f l)) → f x ≤ f y + total (map f l)
+    go (inl e) later = omega (arith, ap f e)
+    go (inr k) later = omega (arith, later k)
+
+-- ---- sums that are compared part by part
+
+module _ {A : Type 0} (f g : A → ℕ) where
+  pub total-le : (l : List A) → ((x : A) → List·Memᴰ x l → f x ≤ g x) → total (map f l) ≤ total (map g l)
+  unfolding total
+  total-le [] h = omega arith
+  total-le (x ∷ l) h = omega (arith, h x (here refl), total-le l (λ y m. h y (there m)))
+
+  -- where the sums are equal, so are all parts
+  pub total-tight :
+      (l : List A) → ((x : A) → List·Memᴰ x l → f x ≤ g x) → total (map f l) ≡ total (map g l) → (x : A) → List·Memᴰ x l → f x ≡ g x
+  unfolding total
+  total-tight [] h e x m = absurd (List·Memᴰ·not-nil m)
+  total-tight (y ∷ l) h e x m = go (List·Memᴰ·cases-cons m) (λ k. total-tight l (λ z n. h z (there n)) (omega (arith, h y (here refl), total-le l (λ z n. h z (there n)))) x k)
+    where
+      go : (x ≡ y) ⊎ List·Memᴰ x l → (List·Memᴰ x l → f x ≡ g x) → f x ≡ g x
+      go (inl k) later =
+          let here-equal : f y ≡ g y = omega (arith, h y (here refl), total-le l (λ z n. h z (there n))) in
+          ap f k ∙ here-equal ∙ ap g (sym k)
+      go (inr k) later = later k

@@ -46,10 +46,13 @@ SpeciesValid n r = ValidOn (whole n) r
 abbrev pub largest : List ℕ → ℕ
 largest r = getD r (count r) 0
 
+-- "A cluster is a number from 1 to 2^n - 1": some of n species, at least one
+abbrev pub ClusterOf : ℕ → ℕ → Type 0
+ClusterOf n a = (1 ≤ a) × (a < 2 ^ n)
+
 -- a valid record of a gene tree for n species: "its clusters lie within its largest one, whose species are each there singly" (#104)
 pub record GeneValid (n : ℕ) (r : List ℕ) : Type 0 where
-  pub some-species : 1 ≤ largest r
-  pub of-roster : largest r < 2 ^ n
+  pub of-roster : ClusterOf n (largest r)
   pub valid : ValidOn (largest r) r
 
 -- "m = 2n - 1 exactly when the tree is binary"

@@ -3,13 +3,13 @@ use Prim.Native.Nat.{ℕ, _+_, _-_, _*_, _≤_, _<_}
 use mathlib.Core.Path.{_≡_}
 use mathlib.Core.List.{List}
 use native.Mathlib.Omega.{arith}
-use lib.ListN.{take, drop, getD, length-take}
+use lib.ListN.{take, drop, getD}
 use Rattle.trees.specs.Records.{count as countOf, listed, Form, recordsIn}
 use Rattle.weights.specs.Count.{extra, weight, score}
 use Rattle.weights.specs.Work.{AllCountable}
 use Rattle.trees.proofs.Lent.{length-recordsIn, recordsFrom, records-from-first, records-next, records-from-last}
-use Rattle.weights.proofs.Sums.{weight-none, weight-cons, weight-le, weights, weights-none, weights-cons, weights-le, score-weights}
-use Rattle.weights.proofs.Checked.{listed-from, listed-none, extra-le}
+use Rattle.weights.proofs.Sums.{weight-none, weight-cons, weight-bound, weights, weights-none, weights-cons, score-bound, score-weights}
+use Rattle.weights.proofs.Checked.{listed-from, listed-none}
 
 -- ---- the weight of a
 
@@ -42,7 +42,7 @@ module _ {genes : List ℕ} {count a sum i : ℕ} (now : WeighedTo genes count a
 -- no weight passes 15 times the gene trees
 pub weight-small : {count : ℕ} (genes : List ℕ) (a : ℕ) → count ≤ 4096 → AllCountable (recordsIn count genes) → weight (recordsIn count genes) a ≤ 61440
 weight-small {count} genes a few can =
-    omega (arith, weight-le 15 (recordsIn count genes) a (λ g m. extra-le a (can g m)), length-recordsIn count genes)
+    omega (arith, weight-bound (recordsIn count genes) a can, length-recordsIn count genes)
 
 pub weighed-fits :
     {genes : List ℕ} {count a sum i e : ℕ} → WeighedTo genes count a sum i → count ≤ 4096 → AllCountable (recordsIn count genes) → i ≤ count
@@ -76,10 +76,7 @@ module _ {genes : List (List ℕ)} {species : List ℕ} {sum i : ℕ} (now : Sco
 pub score-small :
     {count : ℕ} (genes : List ℕ) {species : List ℕ} → count ≤ 4096 → AllCountable (recordsIn count genes) → Form species
     → score (recordsIn count genes) species ≤ 1904640
-score-small {count} genes {species} few can form =
-    let b = weights-le 61440 (recordsIn count genes) (listed species) (λ a. weight-small genes a few can) in
-    let c = form .counted in
-    omega (arith, score-weights (recordsIn count genes) species, length-take (countOf species) (drop 1 species))
+score-small {count} genes {species} few can form = omega (arith, score-bound (recordsIn count genes) (omega (arith, length-recordsIn count genes)) can form)
 
 pub scored-fits :
     {count sum i w : ℕ} (genes : List ℕ) {species : List ℕ} → ScoredTo (recordsIn count genes) species sum i → count ≤ 4096

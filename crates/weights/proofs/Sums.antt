@@ -7,13 +7,14 @@ use native.Mathlib.Omega.{arith}
 use lib.ListN.{length, drop, length-take}
 use Rattle.clusters.specs.Sets.{whole, single}
 use Rattle.clusters.proofs.Sets.{within-whole}
-use Rattle.clusters.proofs.Sizes.{size-le}
-use Rattle.trees.specs.Records.{count, listed, largest, SpeciesValid, AllValid}
+use Rattle.trees.specs.Records.{count, listed, largest, Form, SpeciesValid, AllValid}
 use Rattle.trees.specs.Lists.{total, InAnyOrder}
 use Rattle.trees.specs.Lists.InAnyOrder.{nothing, put}
 use Rattle.trees.proofs.GeneRecords.{gene-small}
 use Rattle.weights.specs.Count.{extra, weight, score}
-use Rattle.weights.proofs.Bounds.{extra-of-single, extra-of-holder, extra-lt-all}
+use Rattle.weights.specs.Work.{AllCountable}
+use Rattle.weights.proofs.Bounds.{extra-of-single, extra-of-holder}
+use Rattle.weights.proofs.Checked.{extra-le}
 
 -- ---- the weight of a cluster
 
@@ -95,7 +96,7 @@ singles-weigh-nothing n i genes few v =
     weight-of-nothing genes (single i) (λ g m. extra-of-single (v g m .valid) (gene-small few (v g m)) i)
 
 pub whole-weighs-nothing : (n : ℕ) (genes : List (List ℕ)) → AllValid n genes → weight genes (whole n) ≡ 0
-whole-weighs-nothing n genes v = weight-of-nothing genes (whole n) (λ g m. extra-of-holder (v g m .valid) (whole n) (within-whole n (v g m .of-roster)))
+whole-weighs-nothing n genes v = weight-of-nothing genes (whole n) (λ g m. extra-of-holder (v g m .valid) (whole n) (within-whole n (v g m .of-roster .1)))
 
 -- ---- bounds
 
@@ -109,22 +110,22 @@ weights-le b genes [] f = omega (arith, weights-none genes)
 weights-le b genes (a ∷ cs) f = omega (arith, weights-cons genes a cs, f a, weights-le b genes cs f, mul-suc b (length cs))
 
 -- a gene tree adds at most 15 to a weight
-pub weight-bound : {n : ℕ} (genes : List (List ℕ)) (a : ℕ) → n ≤ 16 → AllValid n genes → weight genes a ≤ 15 * length genes
-weight-bound {n} genes a l v =
-    weight-le 15 genes a
-    (λ g m. let small = gene-small l (v g m) in omega (arith, extra-lt-all (v g m .valid) small a, size-le {a = largest g} 16 small))
+pub weight-bound : (genes : List (List ℕ)) (a : ℕ) → AllCountable genes → weight genes a ≤ 15 * length genes
+weight-bound genes a can = weight-le 15 genes a (λ g m. extra-le a (can g m))
 
 -- inside the limits a score is at most 31 times 61,440
-pub score-bound :
-    {n : ℕ} (genes : List (List ℕ)) (species : List ℕ) → n ≤ 16 → length genes ≤ 4096 → AllValid n genes → SpeciesValid n species
-    → score genes species ≤ 31 * 61440
-score-bound {n} genes species l few v s =
-    let b = weights-le 61440 genes (listed species) (λ a. omega (arith, weight-bound genes a l v)) in
-    let c = s .form .counted in
+pub score-bound : (genes : List (List ℕ)) {species : List ℕ} → length genes ≤ 4096 → AllCountable genes → Form species → score genes species ≤ 31 * 61440
+score-bound genes {species} few can form =
+    let b = weights-le 61440 genes (listed species) (λ a. omega (arith, weight-bound genes a can)) in
+    let c = form .counted in
     omega (arith, score-weights genes species, length-take (count species) (drop 1 species))
+
+-- valid gene records can be counted
+pub valid-countable : {n : ℕ} {genes : List (List ℕ)} → n ≤ 16 → AllValid n genes → AllCountable genes
+valid-countable few all g m = let v = all g m in record { species = largest g; valid = v .valid; small = gene-small few v }
 
 -- so no score is the mark of a cluster without a tree
 pub no-score-reaches-the-mark :
     {n : ℕ} (genes : List (List ℕ)) (species : List ℕ) → n ≤ 16 → length genes ≤ 4096 → AllValid n genes → SpeciesValid n species
     → score genes species < 4294967295
-no-score-reaches-the-mark genes species l few v s = omega (arith, score-bound genes species l few v s)
+no-score-reaches-the-mark genes species l few v s = omega (arith, score-bound genes few (valid-countable l v) (s .form))

@@ -118,5 +118,5 @@ unfolding written treeText
 derives-written names {r} g v =
     let n = length names in
     let h = hierarchy-of-valid (v .valid) (gene-small (g .few) v) in
-    let l : size (largest r) ≤ suc openMost = let e = size-le n (v .of-roster) in let f = g .few in omega arith in
-    text (node-derives g (59 ∷ []) (drawn-plain h n (v .of-roster) openMost (largest r) (v .valid .all) l)) none
+    let l : size (largest r) ≤ suc openMost = let e = size-le n (v .of-roster .1) in let f = g .few in omega arith in
+    text (node-derives g (59 ∷ []) (drawn-plain h n (v .of-roster .1) openMost (largest r) (v .valid .all) l)) none

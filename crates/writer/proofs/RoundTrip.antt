@@ -66,7 +66,7 @@ module _ (line : List ℕ) {r : List ℕ} (good : faulty speciesMost line ≡ fa
   -- as a gene tree: whatever species it has
   pub reads-back-gene : {q : Reading} → Reads Gene line (written (names line) r) 0 q
       → q ≡ record { number = 0; place = 0; next = length (written (names line) r); numbers = r }
-  reads-back-gene h = reads-back Gene (v .some-species, v .of-roster) h
+  reads-back-gene h = reads-back Gene (v .of-roster) h
 
   -- as species text, where it lacks a species: 9 at its `;`, the last byte
   pub reads-back-lacking : (largest r ≡ whole (length (names line)) → ⊥) → {q : Reading} → Reads Species line (written (names line) r) 0 q
@@ -101,7 +101,7 @@ pub write-read-gene :
     {line r out : List ℕ} {p : Reply} {after : List ℕ} {q : Reading}
     → Writes line r out p after → p .number ≡ 0 → Reads Gene line (take (p .value) after) 0 q
     → q ≡ record { number = 0; place = 0; next = p .value; numbers = r }
-write-read-gene w z h = let v = writes-zero w z .valid in write-read Gene w z (v .some-species, v .of-roster) h
+write-read-gene w z h = let v = writes-zero w z .valid in write-read Gene w z (v .of-roster) h
 
 -- as species text, where it lacks a species: 9 at its `;`
 pub write-read-lacking :

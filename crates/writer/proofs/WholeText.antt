@@ -122,7 +122,7 @@ module _ {line : List ℕ} {n : ℕ} {tb : List ℕ} (g : Given line n tb) where
           (ap (λ (s : List ℕ). s ++ 59 ∷ [])
           (node-agrees (namesIn 32 (table ns)) ns t
           (λ i h.
-          let b = has-below (length ns) (given-valid .of-roster) (rw (o .all) at (leaf-has t i h)) in
+          let b = has-below (length ns) (given-valid .of-roster .1) (rw (o .all) at (leaf-has t i h)) in
           let f = named .few in
           names-at 32 (table ns) i (omega arith) ∙ table-name ns (names-fit speciesMost line (g .good)) i b)))
 

@@ -2,12 +2,11 @@
 use Prim.Native.Nat.{_-_}
 use borrow.Author.Needs.{needs}
 use Rattle.gather.proofs.Gathering.{Left, left-begins, left-done, left-full, left-stops, left-goes}
-use Rattle.gather.proofs.Reading.{Stored, stored-begins, stored-done, stored-full, stored-stops, stored-goes}
 use Rattle.gather.proofs.gather.Statement.{statement}
 use Rattle.gather.proofs.gather.Tie as tie
 
 abbrev Inv-loop : tie.InvT-loop
-Inv-loop line trees genes₀ count₀ at₀ genes count at = Left line trees count genes at × Stored line trees genes₀ count genes at
+Inv-loop line trees genes₀ count₀ at₀ genes count at = Left line trees genes₀ count genes at
 
 abbrev μ-loop : tie.MeasureT-loop
 μ-loop line trees genes₀ count₀ at₀ genes count at = 513 - count
@@ -16,15 +15,13 @@ blanks-requires : tie.Need-blanks-requires Inv-loop μ-loop
 blanks-requires c κs = search needs
 
 loop-holds : tie.Need-loop-holds Inv-loop μ-loop
-loop-holds c = (left-begins (c .before .before .before .before .pre) (c .blanks .ensures), stored-begins (c .blanks .ensures))
+loop-holds c = left-begins (c .before .before .before .before .pre) (c .blanks .ensures)
 
 same-length : tie.Need-same-length Inv-loop μ-loop
 same-length c = search needs
 
 returns : tie.Need-returns Inv-loop μ-loop
-returns c =
-    let now = c .before .before .loop .inv in
-    record { answer = left-full (now .0) (c .before .loop-test .taken) (c .if1 .taken); numbers = stored-full (now .1) (c .if1 .taken) }
+returns c = left-full (c .before .before .loop .inv) (c .before .loop-test .taken) (c .if1 .taken)
 
 read-requires : tie.Need-read-requires Inv-loop μ-loop
 read-requires c κs = search needs
@@ -35,12 +32,8 @@ same-length-2 c = search needs
 returns-2 : tie.Need-returns-2 Inv-loop μ-loop
 returns-2 c =
     let test = c .before .before .before in
-    let now = test .before .before .loop .inv in
     let reading = c .before .before .read in
-    record {
-      answer = left-stops (now .0) (reading .result) (test .before .loop-test .taken) (test .if1 .left) (reading .ensures) (c .if2 .taken);
-      numbers = stored-stops (now .1) (reading .result) (test .before .loop-test .taken) (reading .ensures) (c .if2 .taken);
-    }
+    left-stops (test .before .before .loop .inv) (reading .result) (test .before .loop-test .taken) (test .if1 .left) (reading .ensures) (c .if2 .taken)
 
 put-requires : tie.Need-put-requires Inv-loop μ-loop
 put-requires c κs = search needs
@@ -60,20 +53,14 @@ loop-again c =
     let told = put .before .before .before in
     let read = told .before .before in
     let test = read .before in
-    let now = test .before .before .loop .inv in (
-      left-goes (now .0) (read .read .result) (test .before .loop-test .taken) (test .if1 .left) (read .read .ensures) (told .if2 .left)
-          (put .put .ensures .0) (put .put .ensures .1) (c .blanks2 .ensures),
-      stored-goes (now .1) (read .read .result) (now .0 .few) (test .if1 .left) (test .before .loop-test .taken) (read .read .ensures) (told .if2 .left)
-          (put .put .ensures .0) (put .put .ensures .1) (c .blanks2 .ensures),
-    )
+    left-goes (test .before .before .loop .inv) (read .read .result) (test .before .loop-test .taken) (test .if1 .left) (read .read .ensures) (told .if2 .left)
+    (put .put .ensures .0) (put .put .ensures .1) (c .blanks2 .ensures)
 
 same-length-3 : tie.Need-same-length-3 Inv-loop μ-loop
 same-length-3 c = search needs
 
 returns-3 : tie.Need-returns-3 Inv-loop μ-loop
-returns-3 c =
-    let now = c .before .loop .inv in
-    record { answer = left-done (now .0) (c .loop-test .left); numbers = stored-done (now .1) (c .loop-test .left) }
+returns-3 c = left-done (c .before .loop .inv) (c .loop-test .left)
 
 pub gather-spec : {M : Type 1} → statement M
 gather-spec =

@@ -4,7 +4,8 @@ use mathlib.Core.Path.{_≡_, refl}
 use borrow.Author.Needs.{needs}
 use native.Mathlib.Omega.{arith}
 use Rattle.clusters.specs.Sets.{single}
-use Rattle.lineages.proofs.Verdicts.{Shaped, shaped-at}
+use Rattle.lineages.specs.InOrder.{Shaped}
+use Rattle.lineages.proofs.Verdicts.{shaped-at}
 use Rattle.lineages.proofs.FirstBad.{checked-markable}
 use Rattle.lineages.proofs.Calls.{marks-shape, marks-short, marks-bad, marks-done}
 use Rattle.lineages.proofs.mark.Statement.{statement}

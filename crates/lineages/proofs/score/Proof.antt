@@ -2,7 +2,8 @@
 use mathlib.Core.Path.{sym, _∙_}
 use borrow.Author.Needs.{needs}
 use native.Mathlib.Omega.{arith}
-use Rattle.lineages.proofs.Verdicts.{Shaped, shaped-at}
+use Rattle.lineages.specs.InOrder.{Shaped}
+use Rattle.lineages.proofs.Verdicts.{shaped-at}
 use Rattle.lineages.proofs.FirstBad.{checked-countable}
 use Rattle.lineages.proofs.Told.{species-form}
 use Rattle.lineages.proofs.Calls.{scores-shape, scores-no-tree, scores-bad, scores-done}

@@ -2,7 +2,8 @@
 use mathlib.Core.Path.{sym, _∙_}
 use borrow.Author.Needs.{needs}
 use native.Mathlib.Omega.{arith}
-use Rattle.lineages.proofs.Verdicts.{Shaped, shaped-at}
+use Rattle.lineages.specs.InOrder.{Shaped}
+use Rattle.lineages.proofs.Verdicts.{shaped-at}
 use Rattle.lineages.proofs.FirstBad.{checked-countable}
 use Rattle.lineages.proofs.Told.{cluster-small}
 use Rattle.lineages.proofs.Calls.{weighs-shape, weighs-bad, weighs-no-cluster, weighs-done}

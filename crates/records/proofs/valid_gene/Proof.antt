@@ -27,17 +27,17 @@ returns c =
     let start = c .before .before .before .before .before .before .before .before in
     let most = c .before .before .before .before .before .before .whole .ensures in
     decides-also (c .valid .result)
-    (λ valid. record { some-species = omega arith; of-roster = omega (arith, most, pow-pos (start .args .n)); valid = valid })
+    (λ valid. record { of-roster = (omega arith, omega (arith, most, pow-pos (start .args .n))); valid = valid })
     (λ gene. gene .valid) (c .valid .ensures)
 
 returns-2 : tie.Need-returns-2
 unfolding whole
 returns-2 c gene =
     let most = c .before .before .before .before .before .whole .ensures in
-    omega (arith, most, gene .of-roster)
+    omega (arith, most, gene .of-roster .1)
 
 returns-3 : tie.Need-returns-3
-returns-3 c gene = omega (arith, gene .some-species)
+returns-3 c gene = omega (arith, gene .of-roster .0)
 
 returns-4 : tie.Need-returns-4
 returns-4 c gene = omega (arith, gene .valid .form .counted)

@@ -5,7 +5,8 @@ use borrow.Author.Needs.{needs}
 use borrow.Author.Tests.{not-true, not-false}
 use native.Mathlib.Omega.{arith}
 use Rattle.clusters.specs.Sets.{single}
-use Rattle.lineages.proofs.Verdicts.{Shaped, shaped-at}
+use Rattle.lineages.specs.InOrder.{Shaped}
+use Rattle.lineages.proofs.Verdicts.{shaped-at}
 use Rattle.solver.specs.Work.{LongEnough}
 use Rattle.search.proofs.Finding.{strange-is, checked, finds-shape, finds-short, finds-bad, finds-strange, finds-solved}
 use Rattle.search.proofs.search.Statement.{statement}
