@@ -56,3 +56,10 @@ pub unexpected-refused :
     {A : Type 0} (s : List ℕ) (p : ℕ) {n q : ℕ} → _≡_ {A = Answer A} (unexpected s p) (refused n q) → AtEnd s p n q ⊎ AtByte s p n q
 unexpected-refused [] p e = inl (record { ends = refl; number = cc; place = cc })
 unexpected-refused (b ∷ s) p e = inr (record { byte = b; behind = s; stands = refl; number = cc; place = cc })
+
+-- pieces behind one another, bracketed either way
+pub andThen-assoc :
+    {A B C : Type 0} (a : Answer A) (f : A → List ℕ → ℕ → Answer B) (g : B → List ℕ → ℕ → Answer C)
+    → andThen (andThen a f) g ≡ andThen a (λ x s p. andThen (f x s p) g)
+andThen-assoc (parsed x s p) f g = refl
+andThen-assoc (refused n q) f g = refl

@@ -1,6 +1,7 @@
 pub mod Answers
 pub mod Complete
 pub mod Derivations
+pub mod DrawnValues
 pub mod Exact
 pub mod Fronts
 pub mod Fuel

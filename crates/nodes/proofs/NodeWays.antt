@@ -1,7 +1,7 @@
 -- The ways through reading a node and a list of nodes: what each call told, and what the whole then answers.
 use Prim.Native.Nat.{ℕ, suc, _+_, _-_, _*_, _^_, _≤_, _<_}
 use native.Mathlib.Omega.{arith}
-use mathlib.Core.Path.{_≡_, refl, sym, ap, ap₂, _∙_}
+use mathlib.Core.Path.{_≡_, sym, ap, ap₂, _∙_}
 use mathlib.Core.Bool.{true, false}
 use mathlib.Core.List.{List, _++_}
 use lib.ListN.{length, drop, length-append, length-drop}
@@ -14,7 +14,7 @@ use Rattle.trees.specs.Tree.{Forest, cluster, clusterOf, clusters, clustersOf}
 use Rattle.trees.specs.Tree.Tree.{node}
 use Rattle.trees.specs.Tree.Forest.{last, more}
 use Rattle.tokens.specs.Answers.{Answer, andThen}
-use Rattle.tokens.specs.Answers.Answer.{parsed, refused}
+use Rattle.tokens.specs.Answers.Answer.{parsed}
 use Rattle.tokens.specs.Tokens.{blanks, skip, numbers, innerName}
 use Rattle.tokens.specs.Says.{strayAt, behindSays, innerWord}
 use Rattle.tokens.specs.declared.answer.Refusal.{Refusal}
@@ -25,6 +25,7 @@ use Rattle.nodes.specs.declared.answer.Cursor.{Cursor}
 use Rattle.nodes.specs.declared.answer.NodeRead.{NodeRead}
 use Rattle.nodes.specs.declared.answer.NodeRead.the-variants.{Node, Refused as NoNode}
 use Rattle.tokens.proofs.Places.{next-is-inside}
+use Rattle.nodes.proofs.Answers.{andThen-assoc}
 use Rattle.nodes.proofs.Growth.{Fresh, readNode-fresh, readForest-fresh}
 use Rattle.nodes.proofs.NodeAnswers.{node-refused, list-refused, refused-node, refused-list, TreeRead, ForestRead, list-read, read-node, read-list, node-ended}
 use Rattle.nodes.proofs.NodeSteps.{node-is-leaf, node-stray, node-full, node-opened, comma-follows, comma-missing, list-begins, list-goes-on, list-closes, list-stray}
@@ -77,13 +78,6 @@ counts-joined :
     (stored stored₁ stored₂ : ℕ) (cs ds : List ℕ)
     → stored₁ ≡ stored + length cs → stored₂ ≡ stored₁ + length ds → stored₂ ≡ stored + length (cs ++ ds)
 counts-joined stored stored₁ stored₂ cs ds a b = omega (arith, length-append cs ds)
-
--- pieces behind one another, bracketed either way
-andThen-assoc :
-    {A B C : Type 0} (a : Answer A) (f : A → List ℕ → ℕ → Answer B) (g : B → List ℕ → ℕ → Answer C)
-    → andThen (andThen a f) g ≡ andThen a (λ x s p. andThen (f x s p) g)
-andThen-assoc (parsed x s p) f g = refl
-andThen-assoc (refused n q) f g = refl
 
 -- ---- what a call is handed and answers
 

@@ -1,4 +1,5 @@
 pub mod Reading
+pub mod Worth
 pub mod Grammar
 pub mod Letters
 pub mod Deciding

@@ -29,14 +29,14 @@ pub(crate) fn ended(
     ensures { λ r. ⌜ r ≡ endedAs mask seen stored read ⌝ }
     ensures { λ _. ⌜ now (found .exit) ≡ keptAs mask stored (now (found .entry)) read ⌝ }
 {
-    let BehindRead::Behind(extents) = read else {
+    let BehindRead::Behind(figures) = read else {
         return NodeRead::Refused(behind_refusal(read));
     };
     found[stored] = mask;
     NodeRead::Node {
         mask: mask,
         next: Cursor {
-            at: extents.next,
+            at: figures.next,
             seen: seen,
             stored: stored + 1,
         },

@@ -6,4 +6,5 @@ pub mod Accepted
 pub mod Demand
 pub mod Lots
 pub mod Unread
+pub mod Dropped
 pub mod Finding

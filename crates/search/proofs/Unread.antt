@@ -76,6 +76,17 @@ leb-same x y m h = go (decLe x m) (decLe y m)
     go (no p) (yes q) = absurd (p (h .1 q))
     go (no p) (no q) = lt-leb x m (omega arith) ∙ sym (lt-leb y m (omega arith))
 
+-- two lists that are long enough, or not, alike
+pub both-fit : (need : ℕ) (l k : List ℕ) → (need ≤ length l) ↔ (need ≤ length k) → lengthTest (length l) need ≡ lengthTest (length k) need
+unfolding lengthTest
+both-fit need l k h = go (decLe need (length l)) (decLe need (length k))
+  where
+    go : Dec (need ≤ length l) → Dec (need ≤ length k)
+        → _≡_ {A = Test} (record { fault = ltb (length l) need; number = 12; place = 0 }) (record { fault = ltb (length k) need; number = 12; place = 0 })
+    go (yes p) d = rw (le-ltb (length l) need p, le-ltb (length k) need (h .0 p))
+    go (no p) (yes q) = absurd (p (h .1 q))
+    go (no p) (no q) = rw (lt-ltb (length l) need (omega arith), lt-ltb (length k) need (omega arith))
+
 -- two tables that are filled with the same entries
 filled-same :
     (n k k′ : ℕ) (entry entry′ : ℕ → ℕ) (lent after lent′ after′ : List ℕ) → after ≡ filledBy k n entry lent → after′ ≡ filledBy k′ n entry′ lent′
@@ -104,16 +115,6 @@ module _ (n count : ℕ) (genes genes′ allowed allowed′ scores scores′ spl
   unfolding lengthTest
   needed-fit need l k e =
       ap (λ b. record { fault = b; number = 12; place = 0 }) (sym (short-needed need l) ∙ ap (λ m. ltb (length m) need) e ∙ short-needed need k)
-
-  both-fit : (need : ℕ) (l k : List ℕ) → (need ≤ length l) ↔ (need ≤ length k) → lengthTest (length l) need ≡ lengthTest (length k) need
-  unfolding lengthTest
-  both-fit need l k h = go (decLe need (length l)) (decLe need (length k))
-    where
-      go : Dec (need ≤ length l) → Dec (need ≤ length k)
-          → _≡_ {A = Test} (record { fault = ltb (length l) need; number = 12; place = 0 }) (record { fault = ltb (length k) need; number = 12; place = 0 })
-      go (yes p) d = rw (le-ltb (length l) need p, le-ltb (length k) need (h .0 p))
-      go (no p) (yes q) = absurd (p (h .1 q))
-      go (no p) (no q) = rw (lt-ltb (length l) need (omega arith), lt-ltb (length k) need (omega arith))
 
   same-strange : firstStrange n allowed ≡ firstStrange n allowed′
   unfolding firstStrange

@@ -6,19 +6,26 @@ use mathlib.Core.Bool.{true, false}
 use mathlib.Core.List.{List, []}
 use lib.ListN.{drop}
 use lib.Seq.{drop-drop}
-use Rattle.labels.specs.Bytes.{nextIs, nextLabel}
+use Rattle.labels.specs.Bytes.{run, nextIs, nextLabel}
 use Rattle.labels.specs.Labels.{letters, Told, told, scannedBy, scannedAt}
 use Rattle.labels.specs.Labels.Told.{ended, faulty}
 use Rattle.tokens.specs.Answers.{andThen}
 use Rattle.tokens.specs.Answers.Answer.{parsed}
 use Rattle.tokens.specs.Tokens.{blanks, skip, number, numberBehind, secondNumber, firstNumber, numbers, nameBy, name, innerName}
-use Rattle.tokens.specs.Says.{between, nameSays, innerWord}
-use Rattle.tokens.specs.declared.answer.Extent.{Extent}
+use Rattle.tokens.specs.Values.{leading, decimals, tooFine, thousandths}
+use Rattle.tokens.specs.Says.{between, Valued, nameSays, innerWord}
+use Rattle.tokens.specs.declared.answer.Figure.{Figure}
+use Rattle.tokens.specs.declared.answer.Value.the-variants.{NoValue}
 use Rattle.tokens.proofs.Places.{skip-to, tail-at}
 
 -- no bytes
-pub between-none : (text : List ℕ) (p : ℕ) → between text (record { from = p; to = p }) ≡ []
+pub between-none : (text : List ℕ) (p : ℕ) → between text (record { from = p; to = p; value = NoValue }) ≡ []
 between-none text p = let e : p - p ≡ 0 = omega arith in rw e
+
+-- have no value
+pub none-valued : (text : List ℕ) (p : ℕ) → Valued text (record { from = p; to = p; value = NoValue })
+unfolding thousandths tooFine decimals leading run
+none-valued text p = rw (between-none text p)
 
 -- the blanks from `at` on end at `colon`
 module _ (text : List ℕ) (at colon : ℕ) (skipped : colon ≡ at + blanks (drop at text)) where
@@ -56,7 +63,7 @@ module _ (text : List ℕ) (at colon : ℕ) (skipped : colon ≡ at + blanks (dr
 
     -- a second colon: the support alone
     pub support-alone :
-        (none : Extent) → none ≡ record { from = second; to = second } → nextIs 58 (drop second text) ≡ true
+        (none : Figure) → none ≡ record { from = second; to = second; value = NoValue } → nextIs 58 (drop second text) ≡ true
         → andThen (numberBehind (drop (second + 1) text) (second + 1))
         (λ b s p. parsed (record { name = w; distance = between text none; support = b }) s p)
         ≡ numbers w (drop at text) at

@@ -13,13 +13,14 @@ use Rattle.tokens.specs.Answers.Answer.{parsed, refused}
 use Rattle.tokens.specs.Tokens.{numeral, pointed, digits, number}
 use Rattle.tokens.specs.Says.{refusal, strayAt, between}
 use Rattle.tokens.specs.declared.answer.Refusal.{Refusal}
+use Rattle.tokens.specs.declared.answer.Value.{Value}
 use Rattle.tokens.proofs.Places.{stray-unexpected}
 
 module _ (text : List ℕ) (at n : ℕ) where
   -- n bytes are few enough, or too many
   pub numeral-short :
-      n ≤ 12 → parsed (between text (record { from = at; to = at + n })) (drop (at + n) text) (at + n) ≡ numeral n (drop at text) at
-  numeral-short h = let e : at + n - at ≡ n = omega arith in rw (e, le-leb n 12 h, drop-drop n at text)
+      (v : Value) → n ≤ 12 → parsed (between text (record { from = at; to = at + n; value = v })) (drop (at + n) text) (at + n) ≡ numeral n (drop at text) at
+  numeral-short v h = let e : at + n - at ≡ n = omega arith in rw (e, le-leb n 12 h, drop-drop n at text)
 
   pub numeral-long : 12 < n → refused 4 (at + 12) ≡ numeral n (drop at text) at
   numeral-long h = rw (lt-leb n 12 h)

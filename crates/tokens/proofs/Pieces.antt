@@ -9,7 +9,7 @@ use Rattle.tokens.specs.Answers.{Answer, andThen}
 use Rattle.tokens.specs.Answers.Answer.{parsed, refused}
 use Rattle.tokens.specs.Says.{refusal, between, numberSays, numberFault, nameSays, nameFault}
 use Rattle.tokens.specs.declared.answer.Refusal.{Refusal}
-use Rattle.tokens.specs.declared.answer.Extent.{Extent}
+use Rattle.tokens.specs.declared.answer.Figure.{Figure}
 use Rattle.tokens.specs.declared.answer.NumberRead.{NumberRead}
 use Rattle.tokens.specs.declared.answer.NumberRead.the-variants.{Number, Refused as NoNumber}
 
@@ -21,7 +21,7 @@ module _ (text : List ℕ) (r : NumberRead) (answer : Answer (List ℕ)) (says :
       rw (g, ← s)
 
   pub number-read :
-      {B : Type 0} (next : List ℕ → List ℕ → ℕ → Answer B) (x : Extent) → r ≡ Number x → next (between text x) (drop (x .to) text) (x .to) ≡ andThen answer next
+      {B : Type 0} (next : List ℕ → List ℕ → ℕ → Answer B) (x : Figure) → r ≡ Number x → next (between text x) (drop (x .to) text) (x .to) ≡ andThen answer next
   number-read next x told =
       let s : parsed (between text x) (drop (x .to) text) (x .to) ≡ answer = rw told at says in
       rw (← s)

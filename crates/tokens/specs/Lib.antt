@@ -1,3 +1,4 @@
 pub mod Answers
 pub mod Tokens
+pub mod Values
 pub mod Says

@@ -1,5 +1,6 @@
 -- What the code's answers say of the text: the number and the place of a fault, or what was read and where reading goes on.
 use Prim.Native.Nat.{ℕ, _-_}
+use mathlib.Core.Path.{_≡_}
 use mathlib.Core.Bool.{Bool, true, false}
 use mathlib.Core.List.{List, [], _∷_}
 use lib.ListN.{take, drop}
@@ -11,8 +12,9 @@ use Rattle.trees.specs.Tree.{Behind}
 use Rattle.tokens.specs.Answers.{Answer}
 use Rattle.tokens.specs.Answers.Answer.{parsed, refused}
 use Rattle.tokens.specs.Tokens.{skip}
+use Rattle.tokens.specs.Values.{thousandths}
 use Rattle.tokens.specs.declared.answer.Refusal.{Refusal}
-use Rattle.tokens.specs.declared.answer.Extent.{Extent}
+use Rattle.tokens.specs.declared.answer.Figure.{Figure}
 use Rattle.tokens.specs.declared.answer.NumberRead.{NumberRead}
 use Rattle.tokens.specs.declared.answer.NumberRead.the-variants.{Number, Refused as NoNumber}
 use Rattle.tokens.specs.declared.answer.BehindRead.{BehindRead}
@@ -31,14 +33,23 @@ abbrev pub strayAt : List ℕ → ℕ → Refusal
 strayAt [] p = record { number = 10; place = p }
 strayAt (b ∷ s) p = record { number = 3; place = p }
 
--- the bytes of a text from one place up to another
-abbrev pub between : List ℕ → Extent → List ℕ
-between text e = take (e .to - e .from) (drop (e .from) text)
+-- the bytes of a number in the text
+abbrev pub between : List ℕ → Figure → List ℕ
+between text f = take (f .to - f .from) (drop (f .from) text)
+
+-- "yields whole thousandths, .., in everything that reads tree text" (#113): a number's value is that of its bytes
+abbrev pub Valued : List ℕ → Figure → Type 0
+Valued text f = f .value ≡ thousandths (between text f)
 
 -- a number was read, or a fault was met
 abbrev pub numberSays : List ℕ → NumberRead → Answer (List ℕ)
-numberSays text (Number e) = parsed (between text e) (drop (e .to) text) (e .to)
+numberSays text (Number f) = parsed (between text f) (drop (f .to) text) (f .to)
 numberSays text (NoNumber e) = refusal e
+
+-- a number that was read has its value
+abbrev pub numberValued : List ℕ → NumberRead → Type 0
+numberValued text (Number f) = Valued text f
+numberValued text (NoNumber e) = Unit {0}
 
 -- the refusal of a number
 abbrev pub numberFault : NumberRead → Refusal
@@ -50,6 +61,11 @@ abbrev pub behindSays : List ℕ → List ℕ → BehindRead → Answer Behind
 behindSays text w (Extended e) =
     parsed (record { name = w; distance = between text (e .distance); support = between text (e .support) }) (drop (e .next) text) (e .next)
 behindSays text w (NotExtended e) = refusal e
+
+-- both numbers behind a node have their values
+abbrev pub behindValued : List ℕ → BehindRead → Type 0
+behindValued text (Extended e) = Valued text (e .distance) × Valued text (e .support)
+behindValued text (NotExtended e) = Unit {0}
 
 -- the refusal of what stands behind a node
 abbrev pub behindFault : BehindRead → Refusal

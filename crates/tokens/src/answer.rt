@@ -9,26 +9,33 @@ pub struct Refusal {
     pub place: usize,
 }
 
-// The bytes from `from` up to `to`; none where the two are equal.
-pub struct Extent {
+// What a number is worth, in whole thousandths; none where it has more than three decimals, or is not written.
+pub enum Value {
+    Thousandths { amount: usize },
+    NoValue,
+}
+
+// A number: its bytes from `from` up to `to`, none where the two are equal, and what they are worth.
+pub struct Figure {
     pub from: usize,
     pub to: usize,
+    pub value: Value,
 }
 
 pub enum NumberRead {
-    Number(Extent),
+    Number(Figure),
     Refused(Refusal),
 }
 
-// Where the two numbers behind a node stand, with no bytes where one is not written, and the place behind them.
-pub struct Extents {
-    pub distance: Extent,
-    pub support: Extent,
+// The two numbers behind a node, with no bytes where one is not written, and the place behind them.
+pub struct Figures {
+    pub distance: Figure,
+    pub support: Figure,
     pub next: usize,
 }
 
 pub enum BehindRead {
-    Behind(Extents),
+    Behind(Figures),
     Refused(Refusal),
 }
 

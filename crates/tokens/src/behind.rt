@@ -6,12 +6,14 @@ ghost use lib.ListN.{drop};
 ghost use Rattle.labels.specs.Bytes.{nextIs};
 ghost use Rattle.tokens.specs.Answers.{andThen};
 ghost use Rattle.tokens.specs.Answers.Answer.{parsed};
-ghost use Rattle.tokens.specs.Says.{between, behindSays, nameSays, innerWord};
+ghost use Rattle.tokens.specs.Says.{between, Valued, behindSays, behindValued, nameSays, innerWord};
+ghost use Rattle.tokens.specs.declared.answer.Value.the-variants.{NoValue};
 ghost use Rattle.tokens.specs.Tokens.{skip, number as Tokens·number, numberBehind, secondNumber, numbers, innerName};
 use crate::answer::BehindRead;
-use crate::answer::Extent;
-use crate::answer::Extents;
+use crate::answer::Figure;
+use crate::answer::Figures;
 use crate::answer::NumberRead;
+use crate::answer::Value;
 use crate::answer::label_refusal;
 use crate::answer::number_refusal;
 use crate::cursor::blanks;
@@ -22,22 +24,28 @@ use labels::Label;
 use labels::scan;
 
 // No bytes.
-fn nothing(at: usize) -> Extent
-    ensures { λ r. ⌜ r ≡ record { from = at; to = at } ⌝ }
+fn nothing(at: usize) -> Figure
+    ensures { λ r. ⌜ r ≡ record { from = at; to = at; value = NoValue } ⌝ }
 {
-    Extent { from: at, to: at }
+    Figure {
+        from: at,
+        to: at,
+        value: Value::NoValue,
+    }
 }
 
 // The support, behind the colon that ends at `at`; the distance stood before it.
-fn support(text: &[u8], at: usize, distance: Extent) -> BehindRead
+fn support(text: &[u8], at: usize, distance: Figure) -> BehindRead
+    requires { ⌜ Valued (now text) distance ⌝ }
     ensures { λ r. ⌜ ((w : List ℕ) → behindSays (now (text .entry)) w r
         ≡ andThen (numberBehind (drop at (now (text .entry))) at) (λ b s p. parsed (record { name = w; distance = between (now (text .entry)) distance; support = b }) s p)) ⌝ }
+    ensures { λ r. ⌜ behindValued (now (text .entry)) r ⌝ }
 {
     let read = number(text, blanks(text, at));
     let NumberRead::Number(support) = read else {
         return BehindRead::Refused(number_refusal(read));
     };
-    BehindRead::Behind(Extents {
+    BehindRead::Behind(Figures {
         distance: distance,
         support: support,
         next: support.to,
@@ -47,6 +55,7 @@ fn support(text: &[u8], at: usize, distance: Extent) -> BehindRead
 // The distance, which begins at `at`, and the support if one follows.
 fn distance(text: &[u8], at: usize) -> BehindRead
     ensures { λ r. ⌜ ((w : List ℕ) → behindSays (now (text .entry)) w r ≡ andThen (Tokens·number (drop at (now (text .entry))) at) (λ d s p. secondNumber (nextIs 58 (skip s)) w d s p)) ⌝ }
+    ensures { λ r. ⌜ behindValued (now (text .entry)) r ⌝ }
 {
     let read = number(text, at);
     let NumberRead::Number(distance) = read else {
@@ -57,7 +66,7 @@ fn distance(text: &[u8], at: usize) -> BehindRead
     if next_is(text, colon, b':') {
         return support(text, colon + 1, distance);
     }
-    BehindRead::Behind(Extents {
+    BehindRead::Behind(Figures {
         distance: distance,
         support: nothing(end),
         next: end,
@@ -67,10 +76,11 @@ fn distance(text: &[u8], at: usize) -> BehindRead
 // The numbers behind a node that ends at `at`.
 pub fn behind(text: &[u8], at: usize) -> BehindRead
     ensures { λ r. ⌜ ((w : List ℕ) → behindSays (now (text .entry)) w r ≡ numbers w (drop at (now (text .entry))) at) ⌝ }
+    ensures { λ r. ⌜ behindValued (now (text .entry)) r ⌝ }
 {
     let colon = blanks(text, at);
     if !next_is(text, colon, b':') {
-        return BehindRead::Behind(Extents {
+        return BehindRead::Behind(Figures {
             distance: nothing(at),
             support: nothing(at),
             next: at,
@@ -98,6 +108,7 @@ fn inner_name(text: &[u8], at: usize) -> Label
 // What stands behind a closing parenthesis: an optional name, and numbers.
 pub fn closing(text: &[u8], at: usize) -> BehindRead
     ensures { λ r. ⌜ behindSays (now (text .entry)) (innerWord (drop at (now (text .entry)))) r ≡ andThen (innerName (drop at (now (text .entry))) at) (λ w s p. numbers w s p) ⌝ }
+    ensures { λ r. ⌜ behindValued (now (text .entry)) r ⌝ }
 {
     let label = inner_name(text, at);
     let Label::Ended { next } = label else {

@@ -3,11 +3,13 @@ mod answer;
 pub mod behind;
 mod cursor;
 mod number;
+mod value;
 
 pub use answer::BehindRead;
-pub use answer::Extent;
-pub use answer::Extents;
+pub use answer::Figure;
+pub use answer::Figures;
 pub use answer::Refusal;
+pub use answer::Value;
 pub use answer::behind_refusal;
 pub use answer::label_refusal;
 pub use cursor::blanks;

@@ -1,20 +1,20 @@
 // A number: digits, or digits, a point and digits.
 ghost use mathlib.Core.Path.{_≡_};
-ghost use mathlib.Core.List.{List};
-ghost use Prim.Native.Nat.{ℕ, _+_, _^_, _<_};
-ghost use lib.ListN.{drop};
+ghost use Prim.Native.Nat.{_+_, _≤_};
+ghost use lib.ListN.{length, drop};
 ghost use Rattle.labels.specs.Bytes.{isDigit, run};
-ghost use Rattle.tokens.specs.Says.{numberSays};
+ghost use Rattle.tokens.specs.Says.{numberSays, numberValued};
 ghost use Rattle.tokens.specs.Tokens.{numeral, number as Tokens·number};
-use crate::answer::Extent;
+use crate::answer::Figure;
 use crate::answer::NumberRead;
 use crate::answer::Refusal;
 use crate::cursor::next_is;
 use crate::cursor::stray;
+use crate::value::thousandths;
 use labels::is_digit;
 
 // How many digits stand from `at` on, up to the first other byte.
-fn digits(text: &[u8], at: usize) -> usize
+pub(crate) fn digits(text: &[u8], at: usize) -> usize
     ensures { λ r. ⌜ r ≡ run isDigit (drop at (now (text .entry))) ⌝ }
 {
     let mut i = at;
@@ -28,14 +28,17 @@ fn digits(text: &[u8], at: usize) -> usize
 }
 
 // The `bytes` bytes from `at` on are a number, unless they are too many: a number has at most 12, and the thirteenth is refused.
-fn limited(at: usize, bytes: usize) -> NumberRead
-    requires { ⌜ at + bytes < 2 ^ 64 ⌝ }
-    ensures { λ r. ⌜ ((text : List ℕ) → numberSays text r ≡ numeral bytes (drop at text) at) ⌝ }
+fn limited(text: &[u8], at: usize, bytes: usize) -> NumberRead
+    requires { ⌜ at + bytes ≤ length (now text) ⌝ }
+    ensures { λ r. ⌜ numberSays (now (text .entry)) r ≡ numeral bytes (drop at (now (text .entry))) at ⌝ }
+    ensures { λ r. ⌜ numberValued (now (text .entry)) r ⌝ }
 {
     if bytes <= 12 {
-        return NumberRead::Number(Extent {
+        let end = at + bytes;
+        return NumberRead::Number(Figure {
             from: at,
-            to: at + bytes,
+            to: end,
+            value: thousandths(&text[at..end]),
         });
     }
     NumberRead::Refused(Refusal {
@@ -44,9 +47,10 @@ fn limited(at: usize, bytes: usize) -> NumberRead
     })
 }
 
-// The number that begins at `at`.
+// The number that begins at `at`, and what it is worth.
 pub fn number(text: &[u8], at: usize) -> NumberRead
     ensures { λ r. ⌜ numberSays (now (text .entry)) r ≡ Tokens·number (drop at (now (text .entry))) at ⌝ }
+    ensures { λ r. ⌜ numberValued (now (text .entry)) r ⌝ }
 {
     let whole = digits(text, at);
     if whole == 0 {
@@ -54,7 +58,7 @@ pub fn number(text: &[u8], at: usize) -> NumberRead
     }
     let point = at + whole;
     if !next_is(text, point, b'.') {
-        return limited(at, whole);
+        return limited(text, at, whole);
     }
     let part = digits(text, point + 1);
     if part == 0 {
@@ -62,7 +66,7 @@ pub fn number(text: &[u8], at: usize) -> NumberRead
             return NumberRead::Refused(stray(text, point + 1));
         }
         // the point is itself a byte too many
-        return limited(at, whole + 1);
+        return limited(text, at, whole + 1);
     }
-    limited(at, whole + 1 + part)
+    limited(text, at, whole + 1 + part)
 }

@@ -9,7 +9,9 @@ pub mod GeneRecords
 pub mod Lent
 pub mod Likeness
 pub mod Listing
+pub mod LostNodes
 pub mod LowestOrder
+pub mod Matched
 pub mod Nodes
 pub mod Order
 pub mod Places
@@ -17,5 +19,6 @@ pub mod Present
 pub mod Recorded
 pub mod ValidTest
 pub mod Stores
+pub mod Thinned
 pub mod Totals
 pub mod UpTo

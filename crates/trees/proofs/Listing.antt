@@ -1,10 +1,12 @@
--- Lists of numbers: what stands in them, which of them pass a test, and lists that hold no number twice.
+-- Lists of numbers: what stands in them, which of them pass a test, lists that hold no number twice, and lists that are others with some left out.
 use Prim.Native.Nat.{ℕ}
 use mathlib.Core.Path.{_≡_, refl, sym, ap, _∙_}
 use mathlib.Core.Logic.{_⊎_, inl, inr}
 use mathlib.Core.Bool.{Bool, true, false, _||_, true≢false, false≢true}
-use mathlib.Core.List.{List, [], _∷_, _++_, List·Memᴰ·head as here, List·Memᴰ·tail as there, List·Memᴰ·not-nil, List·Memᴰ·cases-cons, List·Memᴰ·append-cases, Memᴰ·cast, Memᴰ·append-left, Memᴰ·append-right}
-use Rattle.trees.specs.Lists.{Among, keepIf, keep, some, NoneTwice}
+use mathlib.Core.List.{List, [], _∷_, _++_}
+use mathlib.Core.List.{List·Memᴰ, List·Memᴰ·head as here, List·Memᴰ·tail as there, List·Memᴰ·not-nil, List·Memᴰ·cases-cons, List·Memᴰ·append-cases, Memᴰ·cast, Memᴰ·append-left, Memᴰ·append-right}
+use Rattle.trees.specs.Lists.{Among, keepIf, keep, some, NoneTwice, Sublist}
+use Rattle.trees.specs.Lists.Sublist.{ends, kept, added}
 
 -- ---- the numbers of a list that pass a test
 
@@ -50,6 +52,16 @@ of-some test (y ∷ l) e = go (test y) refl e (λ k. of-some test l k)
     go : (b : Bool) → test y ≡ b → (b || some test l) ≡ true → (some test l ≡ true → (x : ℕ) × Among x l × (test x ≡ true)) → (x : ℕ) × Among x (y ∷ l) × (test x ≡ true)
     go true p e ih = (y, here refl, p)
     go false p e ih = let r = ih e in (r .0, there (r .1), r .2)
+
+-- what each of two lists passes on, they pass on one behind the other
+pub append-passes :
+    {A B : Type 0} {x : A} {y : B} (l k : List A) (l′ k′ : List B) → (List·Memᴰ x l → List·Memᴰ y l′) → (List·Memᴰ x k → List·Memᴰ y k′)
+    → List·Memᴰ x (l ++ k) → List·Memᴰ y (l′ ++ k′)
+append-passes {A} {B} {x} {y} l k l′ k′ f g m = go (List·Memᴰ·append-cases l m)
+  where
+    go : List·Memᴰ x l ⊎ List·Memᴰ x k → List·Memᴰ y (l′ ++ k′)
+    go (inl h) = Memᴰ·append-left k′ (f h)
+    go (inr h) = Memᴰ·append-right l′ (g h)
 
 -- ---- lists that hold no number twice
 
@@ -104,3 +116,29 @@ none-twice-keep test (y ∷ l) p = go (test y) (none-twice-keep test l (p .1))
 pub none-twice-one : (x : ℕ) → NoneTwice (x ∷ [])
 unfolding NoneTwice
 none-twice-one x = (λ h. List·Memᴰ·not-nil h, tt)
+
+-- ---- lists that are others with some left out
+
+pub sublist-append : {a b c d : List ℕ} → Sublist a b → Sublist c d → Sublist (a ++ c) (b ++ d)
+sublist-append ends k = k
+sublist-append (kept h) k = kept (sublist-append h k)
+sublist-append (added h) k = added (sublist-append h k)
+
+pub sublist-same : (l : List ℕ) → Sublist l l
+sublist-same [] = ends
+sublist-same (x ∷ l) = kept (sublist-same l)
+
+pub sublist-among : {l k : List ℕ} → Sublist l k → (x : ℕ) → Among x l → Among x k
+sublist-among ends x m = m
+sublist-among (kept {x = y} {l = l} {k = k} h) x m = go (List·Memᴰ·cases-cons m) (λ i. sublist-among h x i)
+  where
+    go : (x ≡ y) ⊎ Among x l → (Among x l → Among x k) → Among x (y ∷ k)
+    go (inl e) later = here e
+    go (inr i) later = there (later i)
+sublist-among (added h) x m = there (sublist-among h x m)
+
+pub sublist-once : {l k : List ℕ} → Sublist l k → NoneTwice k → NoneTwice l
+unfolding NoneTwice
+sublist-once ends p = tt
+sublist-once (kept {x = y} h) p = (λ m. p .0 (sublist-among h y m), sublist-once h (p .1))
+sublist-once (added h) p = sublist-once h (p .1)

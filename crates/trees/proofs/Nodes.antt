@@ -12,7 +12,7 @@ use Rattle.trees.specs.Records.{Nested}
 use Rattle.trees.specs.Tree.{Tree, Forest, leaves, leavesOf, cluster, clusterOf, clusters, clustersOf}
 use Rattle.trees.specs.Tree.Tree.{leaf, node}
 use Rattle.trees.specs.Tree.Forest.{last, more}
-use Rattle.trees.proofs.Listing.{none-twice-append, none-twice-left, none-twice-right, none-twice-parts, none-twice-one}
+use Rattle.trees.proofs.Listing.{append-passes, none-twice-append, none-twice-left, none-twice-right, none-twice-parts, none-twice-one}
 
 -- ---- the species of a tree's cluster are its leaves
 
@@ -149,12 +149,6 @@ unfolding cluster clusterOf clusters clustersOf
 whole-among (leaf i b) = here refl
 whole-among (node t f b) = Memᴰ·append-right (clusters t ++ clustersOf f) (here refl)
 
-single-either :
-    (t : Tree) (f : Forest) {i : ℕ} → (Among i (leaves t) → Among (single i) (clusters t)) → (Among i (leavesOf f) → Among (single i) (clustersOf f))
-    → Among i (leaves t) ⊎ Among i (leavesOf f) → Among (single i) (clusters t ++ clustersOf f)
-single-either t f p q (inl h) = Memᴰ·append-left (clustersOf f) (p h)
-single-either t f p q (inr h) = Memᴰ·append-right (clusters t) (q h)
-
 mutual
   unfolding leaves leavesOf clusters clustersOf
 
@@ -162,11 +156,11 @@ mutual
   single-among (leaf j b) i h = here (ap single (List·Memᴰ·eq-of-singleton h))
   single-among (node t f b) i h =
       Memᴰ·append-left (union (cluster t) (clusterOf f) ∷ [])
-      (single-either t f (λ k. single-among t i k) (λ k. single-amongOf f i k) (List·Memᴰ·append-cases (leaves t) h))
+      (append-passes (leaves t) (leavesOf f) (clusters t) (clustersOf f) (λ k. single-among t i k) (λ k. single-amongOf f i k) h)
 
   pub single-amongOf : (f : Forest) (i : ℕ) → Among i (leavesOf f) → Among (single i) (clustersOf f)
   single-amongOf (last t) i h = single-among t i h
-  single-amongOf (more t f) i h = single-either t f (λ k. single-among t i k) (λ k. single-amongOf f i k) (List·Memᴰ·append-cases (leaves t) h)
+  single-amongOf (more t f) i h = append-passes (leaves t) (leavesOf f) (clusters t) (clustersOf f) (λ k. single-among t i k) (λ k. single-amongOf f i k) h
 
 -- ---- the clusters of a tree are nested, and none comes twice
 

@@ -4,3 +4,4 @@ pub mod Records
 pub mod Drawn
 pub mod Valid
 pub mod Decides
+pub mod Thinned

@@ -42,7 +42,7 @@ le-alone : (b : Bool) (l d : ℕ) → (b ≡ true → d ≡ 1) → l ≤ d → o
 le-alone true l d held le = omega (arith, held refl)
 le-alone false l d held le = omega arith
 
-le-one-or : (b : Bool) (x y : ℕ) → x ≤ y → oneOr b x ≤ oneOr b y
+pub le-one-or : (b : Bool) (x y : ℕ) → x ≤ y → oneOr b x ≤ oneOr b y
 le-one-or true x y h = omega arith
 le-one-or false x y h = h
 

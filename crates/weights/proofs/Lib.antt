@@ -7,6 +7,7 @@ pub mod Compared
 pub mod Bounds
 pub mod Sums
 pub mod Lost
+pub mod Dropped
 pub mod Pass
 pub mod Checked
 pub mod RunningSums

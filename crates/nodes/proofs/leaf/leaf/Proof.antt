@@ -102,7 +102,7 @@ returns-4 c = λ names holds.
     leaf-read (start .args .text .now) (start .args .c .at) (scan .result) (scan .ensures) names (start .args .c .seen)
     (start .args .count) (start .args .table .now) holds _ (species .result) (label .given .1) (species .ensures) (if1 .left)
     (start .args .c .stored) (start .args .found .now) _ (single .result) (union .result) (behind .result) (ended .result)
-    (single .ensures) (sym (apart .ensures) ∙ not-false _ (if2 .left)) (union .ensures) (behind .ensures)
+    (single .ensures) (sym (apart .ensures) ∙ not-false _ (if2 .left)) (union .ensures) (behind .ensures .0)
     (ended .ensures .0) (ended .ensures .1)
 
 pub leaf-spec : {M : Type 1} → statement M

@@ -463,7 +463,7 @@ node-returns-7 t c = λ names holds k deep.
     let told = c .before .before .before .before .before .before .before .others in
     node-way (node-asked t start) names holds (node-opening t opened) k deep (node-first t first) (node-followed t behind) (node-comma t comma)
     (node-others t others) _ _ (told .given .1)
-    (union .result) (closing .result) _ (ended .result) (union .ensures) (closing .ensures) (ended .ensures .0) (ended .ensures .1)
+    (union .result) (closing .result) _ (ended .result) (union .ensures) (closing .ensures .0) (ended .ensures .0) (ended .ensures .1)
 
 pub +list+node-spec : {M : Type 1} → statement M
 +list+node-spec = close μ-list μ-node (λ t. list-lts.spec (list-calls t) (list-at t) list.Post

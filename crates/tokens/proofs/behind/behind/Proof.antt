@@ -4,7 +4,7 @@ use native.Mathlib.Omega.{arith}
 use mathlib.Core.Path.{sym, _∙_}
 use borrow.Author.Tests.{not-true, not-false}
 use Rattle.tokens.proofs.Places.{next-is-inside}
-use Rattle.tokens.proofs.BehindNodes.{between-none, numbers-missing, support-alone, distance-first}
+use Rattle.tokens.proofs.BehindNodes.{between-none, none-valued, numbers-missing, support-alone, distance-first}
 use Rattle.tokens.proofs.behind.behind.Statement.{statement}
 use Rattle.tokens.proofs.behind.behind.Tie as tie
 
@@ -21,13 +21,16 @@ nothing-requires-2 : tie.Need-nothing-requires-2
 nothing-requires-2 c κs = search needs
 
 returns : tie.Need-returns
-returns c = λ w.
+returns c =
     let start = c .before .before .before .before .before .before in
     let blanks = c .before .before .before .before .blanks in
     let text = start .args .text .now in
-    let at = start .args .at in
-    rw (c .nothing2 .ensures, c .before .nothing .ensures, between-none text at)
-    (numbers-missing text at (blanks .result) (blanks .ensures) w (sym (c .before .before .before .next-is .ensures) ∙ not-true _ (c .before .before .if1 .taken)))
+    let at = start .args .at in (
+      λ w.
+          rw (c .nothing2 .ensures, c .before .nothing .ensures, between-none text at)
+          (numbers-missing text at (blanks .result) (blanks .ensures) w (sym (c .before .before .before .next-is .ensures) ∙ not-true _ (c .before .before .if1 .taken))),
+      (rw (c .before .nothing .ensures) (none-valued text at), rw (c .nothing2 .ensures) (none-valued text at)),
+    )
 
 add-blanks : tie.Need-add-blanks
 add-blanks c =
@@ -51,33 +54,41 @@ nothing-requires-3 : tie.Need-nothing-requires-3
 nothing-requires-3 c κs = search needs
 
 support-requires : tie.Need-support-requires
-support-requires c κs = search needs
+support-requires c κs =
+    let start = c .before .before .before .before .before .before .before .before in
+    rw (c .nothing3 .ensures) (none-valued (start .args .text .now) (c .before .before .before .blanks2 .result))
 
 returns-2 : tie.Need-returns-2
-returns-2 c = λ w.
+returns-2 c =
     let start = c .before .before .before .before .before .before .before .before .before in
     let blanks2 = c .before .before .before .before .blanks2 in
     let if1 = c .before .before .before .before .before .if1 in
     let next-is = c .before .before .before .before .before .before .next-is in
-    let blanks = c .before .before .before .before .before .before .before .blanks in
-    c .support .ensures w
-    ∙ support-alone (start .args .text .now) (start .args .at) (blanks .result) (blanks .ensures) (blanks2 .result) (blanks2 .ensures) w
-    (sym (next-is .ensures) ∙ not-false _ (if1 .left)) (c .before .nothing3 .result) (c .before .nothing3 .ensures)
-    (sym (c .before .before .before .next-is2 .ensures) ∙ c .before .before .if2 .taken)
+    let blanks = c .before .before .before .before .before .before .before .blanks in (
+      λ w.
+          c .support .ensures .0 w
+          ∙ support-alone (start .args .text .now) (start .args .at) (blanks .result) (blanks .ensures) (blanks2 .result) (blanks2 .ensures) w
+          (sym (next-is .ensures) ∙ not-false _ (if1 .left)) (c .before .nothing3 .result) (c .before .nothing3 .ensures)
+          (sym (c .before .before .before .next-is2 .ensures) ∙ c .before .before .if2 .taken),
+      c .support .ensures .1,
+    )
 
 distance-requires : tie.Need-distance-requires
 distance-requires c κs = search needs
 
 returns-3 : tie.Need-returns-3
-returns-3 c = λ w.
+returns-3 c =
     let start = c .before .before .before .before .before .before .before .before in
     let blanks2 = c .before .before .before .blanks2 in
     let if1 = c .before .before .before .before .if1 in
     let next-is = c .before .before .before .before .before .next-is in
-    let blanks = c .before .before .before .before .before .before .blanks in
-    c .distance .ensures w
-    ∙ distance-first (start .args .text .now) (start .args .at) (blanks .result) (blanks .ensures) (blanks2 .result) (blanks2 .ensures) w
-    (sym (next-is .ensures) ∙ not-false _ (if1 .left)) (sym (c .before .before .next-is2 .ensures) ∙ c .before .if2 .left)
+    let blanks = c .before .before .before .before .before .before .blanks in (
+      λ w.
+          c .distance .ensures .0 w
+          ∙ distance-first (start .args .text .now) (start .args .at) (blanks .result) (blanks .ensures) (blanks2 .result) (blanks2 .ensures) w
+          (sym (next-is .ensures) ∙ not-false _ (if1 .left)) (sym (c .before .before .next-is2 .ensures) ∙ c .before .if2 .left),
+      c .distance .ensures .1,
+    )
 
 pub behind-spec : {M : Type 1} → statement M
 behind-spec =

@@ -24,7 +24,7 @@ returns : tie.Need-returns
 returns c =
     let start = c .before .before .before .before .before in
     let inner-name = c .before .before .before .inner-name in
-    name-refused (start .args .text .now) _ (inner-name .result) _ (inner-name .ensures) _ _ _ _ (c .before .enum-told .given .1) (c .label-refusal .ensures)
+    (name-refused (start .args .text .now) _ (inner-name .result) _ (inner-name .ensures) _ _ _ _ (c .before .enum-told .given .1) (c .label-refusal .ensures), tt)
 
 behind-requires : tie.Need-behind-requires
 behind-requires c κs = search needs
@@ -33,10 +33,12 @@ returns-2 : tie.Need-returns-2
 returns-2 c =
     let start = c .before .before .before .before .before .before in
     let inner-name = c .before .before .before .before .inner-name in
-    let text = start .args .text .now in
-    c .behind .ensures (innerWord (drop (start .args .at) text))
-    ∙ name-read text (innerWord (drop (start .args .at) text)) (inner-name .result) _ (inner-name .ensures) (λ w s p. numbers w s p) _
-    (c .before .before .label .given .1)
+    let text = start .args .text .now in (
+      c .behind .ensures .0 (innerWord (drop (start .args .at) text))
+          ∙ name-read text (innerWord (drop (start .args .at) text)) (inner-name .result) _ (inner-name .ensures) (λ w s p. numbers w s p) _
+          (c .before .before .label .given .1),
+      c .behind .ensures .1,
+    )
 
 pub closing-spec : {M : Type 1} → statement M
 closing-spec =

@@ -23,25 +23,31 @@ number-refusal-requires : tie.Need-number-refusal-requires
 number-refusal-requires c κs = search needs
 
 returns : tie.Need-returns
-returns c = λ w.
+returns c =
     let start = c .before .before .before .before .before .before in
     let number = c .before .before .before .number in
     let blanks = c .before .before .before .before .blanks in
-    let text = start .args .text .now in
-    rw (number-behind text (start .args .at) (blanks .result) (blanks .ensures))
-    (number-refused text (number .result) _ (number .ensures) _ _ _ (c .before .enum-told .given .1) (c .number-refusal .ensures))
+    let text = start .args .text .now in (
+      λ w.
+          rw (number-behind text (start .args .at) (blanks .result) (blanks .ensures))
+          (number-refused text (number .result) _ (number .ensures .0) _ _ _ (c .before .enum-told .given .1) (c .number-refusal .ensures)),
+      tt,
+    )
 
 returns-2 : tie.Need-returns-2
-returns-2 c = λ w.
+returns-2 c =
     let start = c .before .before .before .before .before .before in
     let number = c .before .before .before .number in
     let blanks = c .before .before .before .before .blanks in
-    let text = start .args .text .now in
-    rw (number-behind text (start .args .at) (blanks .result) (blanks .ensures))
-    (number-read text (number .result) _ (number .ensures)
-    (λ b s p. parsed (record { name = w; distance = between text (start .args .distance); support = b }) s p)
-    _
-    (c .before .read .given .1))
+    let text = start .args .text .now in (
+      λ w.
+          rw (number-behind text (start .args .at) (blanks .result) (blanks .ensures))
+          (number-read text (number .result) _ (number .ensures .0)
+          (λ b s p. parsed (record { name = w; distance = between text (start .args .distance); support = b }) s p)
+          _
+          (c .before .read .given .1)),
+      (start .pre, rw (c .before .read .given .1) at (number .ensures .1)),
+    )
 
 pub support-spec : {M : Type 1} → statement M
 support-spec =

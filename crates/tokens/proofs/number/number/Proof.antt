@@ -63,7 +63,7 @@ stray-requires c κs = search needs
 returns : tie.Need-returns
 returns c =
     let start = c .before .before .before .before in
-    no-digits (start .args .text .now) (start .args .at) _ (c .before .before .digits .ensures) (c .stray .result) (c .stray .ensures) (c .before .if1 .taken)
+    (no-digits (start .args .text .now) (start .args .at) _ (c .before .before .digits .ensures) (c .stray .result) (c .stray .ensures) (c .before .if1 .taken), tt)
 
 add-point : tie.Need-add-point
 add-point c = let e = ends c in omega arith
@@ -76,10 +76,11 @@ limited-requires c κs = let e = ends (c .before .before) in omega arith
 
 returns-2 : tie.Need-returns-2
 returns-2 c =
-    let begun = c .before .before .before in
-    let start = begun .before .before .before in
-    c .limited .ensures (start .args .text .now)
-    ∙ whole-number _ _ _ (begun .before .digits .ensures) (some begun) (sym (c .before .before .next-is .ensures) ∙ not-true _ (c .before .if2 .taken))
+    let begun = c .before .before .before in (
+      c .limited .ensures .0
+          ∙ whole-number _ _ _ (begun .before .digits .ensures) (some begun) (sym (c .before .before .next-is .ensures) ∙ not-true _ (c .before .if2 .taken)),
+      c .limited .ensures .1,
+    )
 
 add-digits : tie.Need-add-digits
 add-digits c = let e = point-ends c in omega arith
@@ -96,10 +97,12 @@ stray-requires-2 c κs = search needs
 returns-3 : tie.Need-returns-3
 returns-3 c =
     let point = c .before .before .before .before in
-    let begun = point .before .before in
-    open-point _ _ _ (begun .before .digits .ensures) (some begun) (pointed point) _ (c .before .before .before .digits2 .ensures) (c .stray2 .result)
-    (c .stray2 .ensures)
-    (c .before .before .if3 .taken) (c .before .if4 .taken)
+    let begun = point .before .before in (
+      open-point _ _ _ (begun .before .digits .ensures) (some begun) (pointed point) _ (c .before .before .before .digits2 .ensures) (c .stray2 .result)
+          (c .stray2 .ensures)
+          (c .before .before .if3 .taken) (c .before .if4 .taken),
+      tt,
+    )
 
 add-limited : tie.Need-add-limited
 add-limited c = let e = point-ends (c .before .before .before) in omega arith
@@ -110,11 +113,12 @@ limited-requires-2 c κs = let e = point-ends (c .before .before .before) in ome
 returns-4 : tie.Need-returns-4
 returns-4 c =
     let point = c .before .before .before .before in
-    let begun = point .before .before in
-    let start = begun .before .before .before in
-    c .limited2 .ensures (start .args .text .now)
-    ∙ point-too-long _ _ _ (begun .before .digits .ensures) (some begun) (pointed point) _ (c .before .before .before .digits2 .ensures)
-    (c .before .before .if3 .taken) (c .before .if4 .left)
+    let begun = point .before .before in (
+      c .limited2 .ensures .0
+          ∙ point-too-long _ _ _ (begun .before .digits .ensures) (some begun) (pointed point) _ (c .before .before .before .digits2 .ensures)
+          (c .before .before .if3 .taken) (c .before .if4 .left),
+      c .limited2 .ensures .1,
+    )
 
 add-limited-2 : tie.Need-add-limited-2
 add-limited-2 c = let e = part-ends (c .before) in omega arith
@@ -128,10 +132,11 @@ limited-requires-3 c κs = let e = part-ends (c .before) in omega arith
 returns-5 : tie.Need-returns-5
 returns-5 c =
     let point = c .before .before .before in
-    let begun = point .before .before in
-    let start = begun .before .before .before in
-    c .limited3 .ensures (start .args .text .now)
-    ∙ decimal-number _ _ _ (begun .before .digits .ensures) (some begun) (pointed point) _ (c .before .before .digits2 .ensures) (omega arith)
+    let begun = point .before .before in (
+      c .limited3 .ensures .0
+          ∙ decimal-number _ _ _ (begun .before .digits .ensures) (some begun) (pointed point) _ (c .before .before .digits2 .ensures) (omega arith),
+      c .limited3 .ensures .1,
+    )
 
 pub number-spec : {M : Type 1} → statement M
 number-spec =

@@ -1,0 +1,87 @@
+-- The values that the code answers behind a node are those of the bytes in the drawn tree; and which numbers of the grammar have a value.
+use Prim.Native.Nat.{ℕ, _^_, _<_}
+use mathlib.Core.Path.{_≡_, refl, sym, _∙_}
+use mathlib.Core.Bool.{true, false≢true}
+use mathlib.Core.Logic.{_⊎_, inl, inr}
+use mathlib.Core.List.{List, [], _∷_, _++_, append-nil}
+use lib.ListN.{length, drop}
+use borrow.Author.Tests.{ltb-true}
+use Rattle.labels.proofs.RunRules.{run-some, run-all}
+use Rattle.trees.specs.Tree.{Tree, Forest, Behind}
+use Rattle.trees.specs.Tree.Tree.{leaf, node}
+use Rattle.tokens.specs.Answers.{Answer, andThen}
+use Rattle.tokens.specs.Answers.Answer.{parsed}
+use Rattle.tokens.specs.Tokens.{numbers, innerName}
+use Rattle.tokens.specs.Values.{tooFine, thousandths}
+use Rattle.tokens.specs.Says.{between, behindSays, behindValued, innerWord}
+use Rattle.tokens.specs.declared.answer.Value.the-variants.{Thousandths}
+use Rattle.tokens.specs.declared.answer.Figures.{Figures}
+use Rattle.tokens.specs.declared.answer.BehindRead.the-variants.{Behind as Extended}
+use Rattle.tokens.proofs.Values.{digits-begin, whole-not-fine, fine-by-decimals, NoneWhereFine, none-where-fine, value-below}
+use Rattle.nodes.specs.Grammar.{strict, Number, ColonNumber, Numbers}
+use Rattle.nodes.specs.Grammar.Number.{whole, decimal}
+use Rattle.nodes.specs.Grammar.ColonNumber.{colon}
+use Rattle.nodes.specs.Grammar.Numbers.{nothing, distance, both, support}
+use Rattle.nodes.specs.Reading.{leafNew, closingBy, closing}
+use Rattle.nodes.specs.Worth.{behindOf, distanceValue, supportValue, Worth}
+use Rattle.nodes.proofs.Answers.{andThen-assoc}
+
+-- what stands behind a node was read, and the node was drawn with it
+drawn-worth :
+    (text w : List ℕ) (e : Figures) (answer : Answer Behind) (make : Behind → Tree) (t : Tree) {rest : List ℕ} {q : ℕ}
+    → ((b : Behind) → behindOf (make b) ≡ b) → behindSays text w (Extended e) ≡ answer → behindValued text (Extended e)
+    → andThen answer (λ b s p. parsed (make b) s p) ≡ parsed t rest q → Worth e t
+unfolding distanceValue supportValue
+drawn-worth text w e answer make t {rest} {q} made says values is =
+    let b : Behind = record { name = w; distance = between text (e .distance); support = between text (e .support) } in
+    let read : parsed (make b) (drop (e .next) text) (e .next) ≡ parsed t rest q = rw (← says) at is in
+    let drawn : make b ≡ t = cc in
+    let behind : behindOf t ≡ b = rw drawn at (made b) in
+    record { distance-is = rw behind (values .0); support-is = rw behind (values .1) }
+
+-- of a leaf, by the promise of `behind`
+pub leaf-worth :
+    (text : List ℕ) (i begun next : ℕ) (e : Figures) (t : Tree) {rest : List ℕ} {q : ℕ}
+    → ((w : List ℕ) → behindSays text w (Extended e) ≡ numbers w (drop next text) next) → behindValued text (Extended e)
+    → leafNew true i begun (drop next text) next ≡ parsed t rest q → Worth e t
+leaf-worth text i begun next e t says values is = drawn-worth text [] e (numbers [] (drop next text) next) (λ b. leaf i b) t (λ b. refl) (says []) values is
+
+-- of an inner node, by the promise of `closing`
+pub inner-worth :
+    (text : List ℕ) (at : ℕ) (first : Tree) (others : Forest) (e : Figures) (t : Tree) {rest : List ℕ} {q : ℕ}
+    → behindSays text (innerWord (drop at text)) (Extended e) ≡ andThen (innerName (drop at text) at) (λ w s p. numbers w s p)
+    → behindValued text (Extended e) → closing first others (drop at text) at ≡ parsed t rest q → Worth e t
+unfolding closingBy
+inner-worth text at first others e t says values is =
+    drawn-worth text (innerWord (drop at text)) e (andThen (innerName (drop at text) at) (λ w s p. numbers w s p)) (λ b. node first others b) t (λ b. refl) says values
+    (andThen-assoc (innerName (drop at text) at) (λ w s p. numbers w s p) (λ b s p. parsed (node first others b) s p) ∙ is)
+
+-- ---- which numbers of the grammar have a value
+
+-- "a longer one no value" (#113): a number has none exactly where it has more than three decimals
+pub number-none : {w s rest : List ℕ} → Number w s rest → NoneWhereFine w
+number-none {w = w} (whole r) = none-where-fine w (rw (append-nil w) at (digits-begin (run-all r) (run-some r) []))
+number-none (decimal {v = v} {w = w} r u) = none-where-fine (v ++ 46 ∷ w) (digits-begin (run-all r) (run-some r) (46 ∷ w))
+
+-- its decimals are those behind its point
+pub number-fine : {w s rest : List ℕ} → Number w s rest → tooFine w ≡ true → (v ds : List ℕ) × (w ≡ v ++ 46 ∷ ds) × (3 < length ds)
+number-fine {w = w} (whole r) fine = absurd (false≢true (sym (whole-not-fine w (run-all r) (run-some r)) ∙ fine))
+number-fine (decimal {v = v} {w = w} r u) fine =
+    (v, w, refl, ltb-true 3 (length w) (sym (fine-by-decimals v w (run-all r) (run-some r) (run-all u)) ∙ fine))
+
+-- ---- both numbers behind a node that is drawn
+
+-- a number within twelve bytes: none exactly where it is too fine, else less than 10 ^ 15 thousandths
+pub record Sized (w : List ℕ) : Type 0 where
+  pub none : NoneWhereFine w
+  pub below : (n : ℕ) → thousandths w ≡ Thousandths n → n < 10 ^ 15
+
+colon-sized : (names : List (List ℕ)) {w s rest : List ℕ} → ColonNumber (strict names) w s rest → Sized w
+colon-sized names {w = w} (colon first second number short) = record { none = number-none number; below = λ n is. value-below w n short is }
+
+-- each is not written, or such a number
+pub numbers-sized : (names : List (List ℕ)) {d b s rest : List ℕ} → Numbers (strict names) d b s rest → ((d ≡ []) ⊎ Sized d) × ((b ≡ []) ⊎ Sized b)
+numbers-sized names nothing = (inl refl, inl refl)
+numbers-sized names (distance d) = (inr (colon-sized names d), inl refl)
+numbers-sized names (both d b) = (inr (colon-sized names d), inr (colon-sized names b))
+numbers-sized names (support blanks b) = (inl refl, inr (colon-sized names b))

@@ -1,0 +1,161 @@
+-- Records that lost clusters (#113): what is left of a valid gene record, singles and the whole set kept, is a valid gene record on the same species; so is what is left of a drawn tree.
+use Prim.Native.Nat.{ℕ, _^_, _≤_, _<_}
+use mathlib.Core.Path.{_≡_, refl, sym, ap, ap₂, _∙_, subst}
+use mathlib.Core.Bool.{Bool, true, false, false≢true}
+use mathlib.Core.List.{List, [], _∷_, _++_, List·Memᴰ·head as here, List·Memᴰ·eq-of-singleton, Memᴰ·append-left}
+use native.Mathlib.Omega.{arith}
+use lib.Pow.{pow-mono}
+use Rattle.clusters.specs.Sets.{Has, single, union}
+use Rattle.trees.specs.Lists.{Among, NoneTwice, Sublist}
+use Rattle.trees.specs.Lists.Sublist.{ends, kept, added}
+use Rattle.trees.specs.Records.{listed, recordOf, largest, ValidOn, GeneValid}
+use Rattle.trees.specs.Tree.{Tree, Forest, Behind, On, leaves, leavesOf, cluster, clusterOf, clusters, clustersOf}
+use Rattle.trees.specs.Tree.Tree.{leaf, node}
+use Rattle.trees.specs.Tree.Forest.{last, more}
+use Rattle.trees.specs.Thinned.{Thinned, unlessLost, leftBelow, leftBelowOf, clustersLeft}
+use Rattle.trees.proofs.Listing.{append-passes, sublist-append, sublist-same, sublist-among, sublist-once}
+use Rattle.trees.proofs.Nodes.{has-leaf, clusters-once, cluster-some}
+use Rattle.trees.proofs.LostNodes.{root-left}
+use Rattle.trees.proofs.Matched.{fewer-le}
+use Rattle.trees.proofs.Recorded.{length-listed, record-form, among-record, record-among, valid-of-drawn}
+use Rattle.trees.proofs.GeneRecords.{largest-of-valid, gene-of-valid}
+
+-- ---- what is left of a record
+
+-- some of the clusters of a record on the species of s, each once, with all singles and the whole set
+pub record Left (s : ℕ) (r cs : List ℕ) : Type 0 where
+  pub once : NoneTwice cs
+  pub fewer : (x : ℕ) → Among x cs → Among x (listed r)
+  pub singles : (i : ℕ) → Has s i → Among (single i) cs
+  pub all : Among s cs
+
+-- their record is valid on the same species
+pub left-valid : {s : ℕ} {r cs : List ℕ} → ValidOn s r → Left s r cs → ValidOn s (recordOf cs)
+left-valid {s} {r} {cs} v l = record {
+  form = record-form cs (l .once) (let most = v .form .counted in omega (arith, fewer-le cs (listed r) (l .once) (l .fewer), length-listed r (v .form)));
+  singles = λ i h. record-among cs (l .singles i h);
+  all = record-among cs (l .all);
+  inside = λ a m. v .inside a (l .fewer a (among-record cs m));
+  nested = λ a b m k. v .nested a b (l .fewer a (among-record cs m)) (l .fewer b (among-record cs k));
+}
+
+-- and it is the first one thinned
+pub left-thinned : {s : ℕ} {r cs : List ℕ} → ValidOn s r → Left s r cs → Thinned r (recordOf cs)
+left-thinned {s} {r} {cs} v l = record {
+  same-species = largest-of-valid (left-valid v l) ∙ sym (largest-of-valid v);
+  fewer = λ x m. l .fewer x (among-record cs m);
+}
+
+-- what is left of a valid gene record is a valid gene record
+pub gene-left : {n : ℕ} {r cs : List ℕ} → GeneValid n r → Left (largest r) r cs → GeneValid n (recordOf cs) × Thinned r (recordOf cs)
+gene-left g l = (gene-of-valid (left-valid (g .valid) l) (g .of-roster), left-thinned (g .valid) l)
+
+-- ---- what is left of a drawn tree
+
+module _ (weak weaker : Behind → Bool) (also : (b : Behind) → weak b ≡ true → weaker b ≡ true) where
+  -- what is lost at first is lost with more that are weak
+  lost-too : (b c : Bool) (x : ℕ) → (b ≡ true → c ≡ true) → Sublist (unlessLost c x) (unlessLost b x)
+  lost-too true true x h = ends
+  lost-too true false x h = absurd (false≢true (h refl))
+  lost-too false true x h = added ends
+  lost-too false false x h = kept ends
+
+  mutual
+    unfolding leftBelow leftBelowOf
+
+    below-fewer : (t : Tree) → Sublist (leftBelow weaker t) (leftBelow weak t)
+    below-fewer (leaf i b) = sublist-same (single i ∷ [])
+    below-fewer (node t f b) =
+        sublist-append (sublist-append (below-fewer t) (belowOf-fewer f)) (lost-too (weak b) (weaker b) (union (cluster t) (clusterOf f)) (also b))
+
+    belowOf-fewer : (f : Forest) → Sublist (leftBelowOf weaker f) (leftBelowOf weak f)
+    belowOf-fewer (last t) = below-fewer t
+    belowOf-fewer (more t f) = sublist-append (below-fewer t) (belowOf-fewer f)
+
+  -- where more nodes are weak, no cluster is left that was lost
+  pub left-fewer : (t : Tree) → Sublist (clustersLeft weaker t) (clustersLeft weak t)
+  unfolding clustersLeft
+  left-fewer (leaf i b) = sublist-same (single i ∷ [])
+  left-fewer (node t f b) = sublist-append (sublist-append (below-fewer t) (belowOf-fewer f)) (sublist-same (union (cluster t) (clusterOf f) ∷ []))
+
+module _ (weak : Behind → Bool) (never : (b : Behind) → weak b ≡ false) where
+  mutual
+    unfolding leftBelow leftBelowOf clusters clustersOf
+
+    below-all : (t : Tree) → leftBelow weak t ≡ clusters t
+    below-all (leaf i b) = refl
+    below-all (node t f b) = rw (never b) (ap₂ (λ (l k : List ℕ). l ++ k ++ (union (cluster t) (clusterOf f) ∷ [])) (below-all t) (belowOf-all f))
+
+    belowOf-all : (f : Forest) → leftBelowOf weak f ≡ clustersOf f
+    belowOf-all (last t) = below-all t
+    belowOf-all (more t f) = ap₂ _++_ (below-all t) (belowOf-all f)
+
+  -- where none is weak, all clusters are left
+  pub left-all : (t : Tree) → clustersLeft weak t ≡ clusters t
+  unfolding clustersLeft clusters
+  left-all (leaf i b) = refl
+  left-all (node t f b) = ap₂ (λ (l k : List ℕ). l ++ k ++ (union (cluster t) (clusterOf f) ∷ [])) (below-all t) (belowOf-all f)
+
+module _ (weak : Behind → Bool) where
+  mutual
+    unfolding leaves leavesOf leftBelow leftBelowOf
+
+    below-single : (t : Tree) (i : ℕ) → Among i (leaves t) → Among (single i) (leftBelow weak t)
+    below-single (leaf j b) i h = here (ap single (List·Memᴰ·eq-of-singleton h))
+    below-single (node t f b) i h =
+        Memᴰ·append-left (unlessLost (weak b) (union (cluster t) (clusterOf f)))
+        (append-passes (leaves t) (leavesOf f) (leftBelow weak t) (leftBelowOf weak f) (λ k. below-single t i k) (λ k. belowOf-single f i k) h)
+
+    belowOf-single : (f : Forest) (i : ℕ) → Among i (leavesOf f) → Among (single i) (leftBelowOf weak f)
+    belowOf-single (last t) i h = below-single t i h
+    belowOf-single (more t f) i h =
+        append-passes (leaves t) (leavesOf f) (leftBelow weak t) (leftBelowOf weak f) (λ k. below-single t i k) (λ k. belowOf-single f i k) h
+
+  -- the root keeps its cluster
+  below-in-left : (t : Tree) → Sublist (leftBelow weak t) (clustersLeft weak t)
+  unfolding clustersLeft leftBelow
+  below-in-left (leaf i b) = sublist-same (single i ∷ [])
+  below-in-left (node t f b) =
+      sublist-append (sublist-same (leftBelow weak t ++ leftBelowOf weak f)) (kept-at-root (weak b) (union (cluster t) (clusterOf f)))
+    where
+      kept-at-root : (b : Bool) (x : ℕ) → Sublist (unlessLost b x) (x ∷ [])
+      kept-at-root true x = added ends
+      kept-at-root false x = kept ends
+
+  -- each is a cluster of the tree
+  pub left-of-all : (t : Tree) → Sublist (clustersLeft weak t) (clusters t)
+  left-of-all t = subst (Sublist (clustersLeft weak t)) (left-all (λ b. false) (λ b. refl) t) (left-fewer (λ b. false) weak (λ b e. absurd (false≢true e)) t)
+
+-- ---- a drawn tree on at most 16 species
+
+module _ {n s : ℕ} {t : Tree} (few : n ≤ 16) (o : On s t) (below : s < 2 ^ n) where
+  small : s < 2 ^ 16
+  small = omega (arith, pow-mono {i = n} {j = 16} few)
+
+  drawn-left : (weak : Behind → Bool) → Left s (recordOf (clusters t)) (clustersLeft weak t)
+  drawn-left weak = record {
+    once = sublist-once (left-of-all weak t) (clusters-once t (o .once));
+    fewer = λ x m. record-among (clusters t) (sublist-among (left-of-all weak t) x m);
+    singles = λ i h. sublist-among (below-in-left weak t) (single i) (below-single weak t i (has-leaf t i (rw (o .all) h)));
+    all = rw (← o .all) (root-left weak t);
+  }
+
+  left-on : (weak : Behind → Bool) → ValidOn s (recordOf (clustersLeft weak t))
+  left-on weak = left-valid (valid-of-drawn o small) (drawn-left weak)
+
+  -- whatever inner nodes lose their clusters, what is left is a valid gene record
+  pub drawn-left-valid : (weak : Behind → Bool) → GeneValid n (recordOf (clustersLeft weak t))
+  drawn-left-valid weak = gene-of-valid (left-on weak) (rw (← o .all) (cluster-some t), below)
+
+  -- on the tree's species, with some of its clusters
+  pub drawn-thinned : (weak : Behind → Bool) → Thinned (recordOf (clusters t)) (recordOf (clustersLeft weak t))
+  drawn-thinned weak = left-thinned (valid-of-drawn o small) (drawn-left weak)
+
+  -- "never leaves a cluster that a lower one dropped" (#113): where more nodes are weak, the record is thinner
+  pub weaker-thinned :
+      (weak weaker : Behind → Bool) → ((b : Behind) → weak b ≡ true → weaker b ≡ true)
+      → Thinned (recordOf (clustersLeft weak t)) (recordOf (clustersLeft weaker t))
+  weaker-thinned weak weaker also = record {
+    same-species = largest-of-valid (left-on weaker) ∙ sym (largest-of-valid (left-on weak));
+    fewer = λ x m. record-among (clustersLeft weak t) (sublist-among (left-fewer weak weaker also t) x (among-record (clustersLeft weaker t) m));
+  }
