@@ -19,9 +19,11 @@ pub record Walked : Type 0 where
   pub read : List (List ℕ)
   pub says : Gathered
 
+-- all trees were read
 abbrev pub ended : List (List ℕ) → Walked
 ended genes = record { read = genes; says = gathered genes }
 
+-- reading stopped, with number and place
 abbrev pub halted : List (List ℕ) → ℕ → ℕ → Walked
 halted genes number place = record { read = genes; says = stopped number place }
 

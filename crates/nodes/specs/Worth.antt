@@ -19,7 +19,7 @@ distanceValue t = thousandths (behindOf t .distance)
 unfoldable pub supportValue : Tree → Value
 supportValue t = thousandths (behindOf t .support)
 
--- what the code answers for both: "yields whole thousandths, .., in everything that reads tree text" (#113)
+-- what is answered for both behind one node: "yields whole thousandths, .., in everything that reads tree text" (#113)
 pub record Worth (e : Figures) (t : Tree) : Type 0 where
   pub distance-is : e .distance .value ≡ distanceValue t
   pub support-is : e .support .value ≡ supportValue t

@@ -16,7 +16,7 @@ mostDecimals = 3
 unfoldable pub leading : List ℕ → List ℕ
 leading w = take (run isDigit w) w
 
--- the digits behind its point; none where it has no point
+-- the digits behind the byte that ends these: in a number, behind its point; none where it has none
 unfoldable pub decimals : List ℕ → List ℕ
 decimals w = leading (drop (run isDigit w + 1) w)
 

@@ -40,7 +40,7 @@ fn filled(value: usize, count: usize) -> usize
     value
 }
 
-// What a number's bytes are worth; none where it has more than three decimals.
+// What a number's bytes are worth; none where it has more than three decimals, or no digit.
 pub(crate) fn thousandths(bytes: &[u8]) -> Value
     requires { ⌜ length (now bytes) ≤ 12 ⌝ }
     ensures { λ r. ⌜ r ≡ Values·thousandths (now (bytes .entry)) ⌝ }

@@ -10,7 +10,7 @@ use Rattle.trees.specs.Tree.{Tree, Forest, Behind, cluster, clusterOf}
 use Rattle.trees.specs.Tree.Tree.{leaf, node}
 use Rattle.trees.specs.Tree.Forest.{last, more}
 
--- r′ is what is left of r where nodes lose their clusters, "not the root" (#113): the whole set is the same, and each cluster of r′ is one of r
+-- for valid records: r′ is what is left of r where nodes lose their clusters, "not the root" (#113): the whole set is the same, and each cluster of r′ is one of r
 pub record Thinned (r r′ : List ℕ) : Type 0 where
   pub same-species : largest r′ ≡ largest r
   pub fewer : (x : ℕ) → Among x (listed r′) → Among x (listed r)
