@@ -109,10 +109,11 @@ pub fn answer(case: &[u8]) -> Vec<u8> {
     let mut line = String::new();
     match case[0] {
         b'J' => reply(&mut line, &roster::names(&bytes(field[0])).map(|names| names.len())),
-        b'R' | b'G' => {
+        b'R' | b'G' | b'T' => {
             let kind = if case[0] == b'R' { Kind::Species } else { Kind::Gene };
             let start = number(field[2]);
-            match reader::read(kind, &bytes(field[0]), &bytes(field[1]), start) {
+            let threshold = (case[0] == b'T').then(|| number(field[3]));
+            match reader::read(kind, threshold, &bytes(field[0]), &bytes(field[1]), start) {
                 Ok((record, next)) => {
                     write!(line, "0 0 {next}").unwrap();
                     listed(&mut line, &record);

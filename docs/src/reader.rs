@@ -10,10 +10,22 @@ pub enum Kind {
     Gene,
 }
 
+/// What reading may be given (02, #113), in whole thousandths: inner nodes with a support below it lose their clusters.
+pub type Threshold = Option<usize>;
+
+/// A number's value in whole thousandths, which it has with at most three decimals (02, #113).
+pub fn thousandths(number: &[u8]) -> Option<usize> {
+    let mut parts = number.split(|&b| b == b'.');
+    let (whole, decimals) = (parts.next().unwrap_or_default(), parts.next().unwrap_or_default());
+    let zeros = b"000".get(decimals.len()..)?;
+    Some([whole, decimals, zeros].concat().iter().fold(0, |value, b| value * 10 + (b - b'0') as usize))
+}
+
 struct Reader<'a> {
     text: &'a [u8],
     at: usize,
     names: &'a [Vec<u8>],
+    threshold: Threshold,
     seen: u32,
     clusters: Vec<u16>,
 }
@@ -43,7 +55,8 @@ impl Reader<'_> {
         Ok(name)
     }
 
-    fn number(&mut self) -> Read<()> {
+    /// The value of the number that begins here, where it has one.
+    fn number(&mut self) -> Read<Option<usize>> {
         let from = self.at;
         let (mut point, mut digit) = (false, false);
         loop {
@@ -55,7 +68,7 @@ impl Reader<'_> {
             };
             if !goes_on {
                 return match (digit, byte) {
-                    (true, _) => Ok(()),
+                    (true, _) => Ok(thousandths(&self.text[from..self.at])),
                     (false, None) => Err((10, self.text.len())),
                     (false, Some(_)) => Err((3, self.at)),
                 };
@@ -73,22 +86,35 @@ impl Reader<'_> {
         }
     }
 
-    /// `:d`, `:d:b` or `::b`, where one follows.
-    fn behind(&mut self) -> Read<()> {
+    /// `:d`, `:d:b` or `::b`, where one follows: the support, where there is one with a value.
+    fn behind(&mut self) -> Read<Option<usize>> {
         if !self.colon() {
-            return Ok(());
+            return Ok(None);
         }
         if self.colon() {
-            self.next()?;
-            return self.number();
+            return self.support();
         }
         self.next()?;
         self.number()?;
         if self.colon() {
-            self.next()?;
-            self.number()?;
+            return self.support();
         }
-        Ok(())
+        Ok(None)
+    }
+
+    /// The value of the b that follows; 18 where a threshold is given and there is none.
+    fn support(&mut self) -> Read<Option<usize>> {
+        self.next()?;
+        let from = self.at;
+        match self.number()? {
+            None if self.threshold.is_some() => Err((18, from)),
+            value => Ok(value),
+        }
+    }
+
+    /// The support is strictly below the threshold.
+    fn weak(&self, support: Option<usize>) -> bool {
+        matches!((support, self.threshold), (Some(b), Some(threshold)) if b < threshold)
     }
 
     /// Takes a colon behind blanks, if one stands there.
@@ -134,8 +160,11 @@ impl Reader<'_> {
         } else {
             return Err((3, self.at));
         };
-        self.behind()?;
-        self.clusters.push(cluster);
+        let support = self.behind()?;
+        let (inner, root) = (first == b'(', open == 0);
+        if !(inner && !root && self.weak(support)) {
+            self.clusters.push(cluster);
+        }
         Ok(cluster)
     }
 
@@ -162,7 +191,7 @@ impl Reader<'_> {
 }
 
 /// The record of the tree that begins at `start`, and the offset behind its `;`.
-pub fn read(kind: Kind, line: &[u8], text: &[u8], start: usize) -> Result<(Record, usize), Refusal> {
+pub fn read(kind: Kind, threshold: Threshold, line: &[u8], text: &[u8], start: usize) -> Result<(Record, usize), Refusal> {
     let names = names(line)?;
     if text.len() > TEXT {
         return Err((2, TEXT));
@@ -170,7 +199,7 @@ pub fn read(kind: Kind, line: &[u8], text: &[u8], start: usize) -> Result<(Recor
     if start > text.len() {
         return Err((10, text.len()));
     }
-    let mut reader = Reader { text, at: start, names: &names, seen: 0, clusters: Vec::new() };
+    let mut reader = Reader { text, at: start, names: &names, threshold, seen: 0, clusters: Vec::new() };
     let cluster = reader.node(0)?;
     if reader.next()? != b';' {
         return Err((3, reader.at));

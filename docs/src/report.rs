@@ -41,7 +41,7 @@ fn solve(input: &[u8]) -> Result<Vec<u8>, Refusal> {
         if count == 512 {
             return Err((17, at));
         }
-        let (record, next) = read(Kind::Gene, line, input, at)?;
+        let (record, next) = read(Kind::Gene, None, line, input, at)?;
         genes.extend_from_slice(&record);
         count += 1;
         at = next;

@@ -40,6 +40,34 @@ const NAME_BYTES: [&[u8]; 3] = [b"ab 0Z", b"''a _b", b"(),:;[]'. _"];
 const BARE_INNER: &[&[u8]] = &[b"x", b"a", b"7", b"Inner15bytesLng"];
 const INNER: &[&[u8]] = &[b"_", b"a_b", b"'a b'", b"''''", b"'(a,b);'", b"'it''s : inner '", b"'fifteen bytes''['", b"_fifteen_bytes_"];
 
+/// Numbers at the thresholds and beside them (#113), and some among which two have no value.
+const SUPPORTS: &[&[u8]] = &[
+    b"0", b"0.0", b"0.001", b"0.499", b"0.5", b"0.50", b"00.500", b"0.501", b"0.95", b"1", b"1.250", b"6.999", b"07", b"7.0", b"7.001", b"70", b"100", b"99999999.999", b"999999999999",
+];
+const LONG_SUPPORTS: &[&[u8]] = &[b"0", b"0.499", b"0.5", b"0.501", b"0.95", b"1.250", b"7", b"7.000", b"70", b"100", b"0.5000", b"1234567.1234"];
+
+/// Labels of inner nodes that look like supports (#113), and others.
+const SUPPORT_INNER: &[&[u8]] = &[b"0", b"7", b"70", b"'0.5'", b"'::0'", b"'1.2345'", b"''''", b"a_b", b"x"];
+
+const THRESHOLDS: &[usize] = &[
+    0, 1, 499, 500, 501, 950, 951, 1250, 1251, 7000, 7001, 70_000, 70_001, 100_001, 99_999_999_999, 100_000_000_000, 999_999_999_999_000, 999_999_999_999_001, usize::MAX,
+];
+
+/// How a text is drawn: the labels of inner nodes, the colons before each number behind a node, and the numbers (none for any).
+struct Style {
+    inner: &'static [&'static [u8]],
+    behind: [&'static [usize]; 6],
+    numbers: &'static [&'static [u8]],
+}
+
+const SOME_NUMBERS: [&[usize]; 6] = [&[1], &[1, 1], &[2], &[], &[], &[]];
+const MANY_SUPPORTS: [&[usize]; 6] = [&[1], &[1, 1], &[1, 1], &[2], &[2], &[]];
+
+const BARE: Style = Style { inner: BARE_INNER, behind: SOME_NUMBERS, numbers: &[] };
+const LABELLED: Style = Style { inner: INNER, behind: SOME_NUMBERS, numbers: &[] };
+const SUPPORTED: Style = Style { inner: SUPPORT_INNER, behind: MANY_SUPPORTS, numbers: SUPPORTS };
+const LONG_SUPPORTED: Style = Style { inner: SUPPORT_INNER, behind: MANY_SUPPORTS, numbers: LONG_SUPPORTS };
+
 /// A source of numbers that a seed fixes.
 pub struct Seeded {
     seed: u64,
@@ -135,18 +163,22 @@ impl Seeded {
         }
     }
 
-    fn behind(&mut self, text: &mut Vec<u8>) {
-        for colons in [&[1usize][..], &[1, 1], &[2], &[], &[], &[]][self.below(6)] {
+    fn behind(&mut self, style: &Style, text: &mut Vec<u8>) {
+        for colons in style.behind[self.below(6)] {
             for _ in 0..*colons {
                 self.blanks(text);
                 text.push(b':');
             }
             self.blanks(text);
-            self.number(text);
+            if style.numbers.is_empty() || self.one_in(4) {
+                self.number(text);
+            } else {
+                text.extend_from_slice(style.numbers[self.below(style.numbers.len())]);
+            }
         }
     }
 
-    fn draw(&mut self, labels: &[Vec<u8>], inner: &[&[u8]], tree: &Tree, text: &mut Vec<u8>) {
+    fn draw(&mut self, labels: &[Vec<u8>], style: &Style, tree: &Tree, text: &mut Vec<u8>) {
         self.blanks(text);
         match tree {
             Tree::Leaf(i) => text.extend_from_slice(&labels[*i]),
@@ -157,17 +189,17 @@ impl Seeded {
                         self.blanks(text);
                         text.push(b',');
                     }
-                    self.draw(labels, inner, child, text);
+                    self.draw(labels, style, child, text);
                 }
                 self.blanks(text);
                 text.push(b')');
                 if self.one_in(4) {
                     self.blanks(text);
-                    text.extend_from_slice(inner[self.below(inner.len())]);
+                    text.extend_from_slice(style.inner[self.below(style.inner.len())]);
                 }
             }
         }
-        self.behind(text);
+        self.behind(style, text);
     }
 
     /// The record of a tree on all species, and a text that draws it.
@@ -177,19 +209,34 @@ impl Seeded {
 
     /// The same on some of the species.
     pub fn drawn_on(&mut self, species: Vec<usize>, names: &[Vec<u8>]) -> (Record, Vec<u8>) {
-        self.drawn_with(species, names, BARE_INNER)
+        self.drawn_with(species, names, &BARE)
     }
 
     /// The same with labels of both forms (#103), on leaves and inner nodes.
     pub fn drawn_labels(&mut self, species: Vec<usize>, labels: &[Vec<u8>]) -> (Record, Vec<u8>) {
-        self.drawn_with(species, labels, INNER)
+        self.drawn_with(species, labels, &LABELLED)
     }
 
-    fn drawn_with(&mut self, species: Vec<usize>, labels: &[Vec<u8>], inner: &[&[u8]]) -> (Record, Vec<u8>) {
+    /// The same with supports behind most nodes (#113), in one of three texts some with more than three decimals. The record has every cluster.
+    pub fn drawn_supported(&mut self, species: Vec<usize>, labels: &[Vec<u8>]) -> (Record, Vec<u8>) {
+        let style = if self.one_in(3) { &LONG_SUPPORTED } else { &SUPPORTED };
+        self.drawn_with(species, labels, style)
+    }
+
+    /// A threshold, often at one of the supports.
+    pub fn threshold(&mut self) -> usize {
+        if self.one_in(4) {
+            self.below(10_000_000)
+        } else {
+            THRESHOLDS[self.below(THRESHOLDS.len())]
+        }
+    }
+
+    fn drawn_with(&mut self, species: Vec<usize>, labels: &[Vec<u8>], style: &Style) -> (Record, Vec<u8>) {
         let binary = self.one_in(2);
         let tree = self.tree(species, binary);
         let mut text = Vec::new();
-        self.draw(labels, inner, &tree, &mut text);
+        self.draw(labels, style, &tree, &mut text);
         self.blanks(&mut text);
         text.push(b';');
         (tree.record(), text)

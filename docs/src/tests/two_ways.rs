@@ -117,8 +117,8 @@ fn what_was_written_reads_back() {
         let mut out = [0; 558];
         let length = write(&line, &record, &mut out).unwrap();
         let read_back = Ok((record, length));
-        assert_eq!(read(Kind::Gene, &line, &out[..length], 0), read_back);
-        assert_eq!(read(Kind::Species, &line, &out[..length], 0), as_species(n, read_back));
+        assert_eq!(read(Kind::Gene, None, &line, &out[..length], 0), read_back);
+        assert_eq!(read(Kind::Species, None, &line, &out[..length], 0), as_species(n, read_back));
     }
 }
 
@@ -131,8 +131,8 @@ fn what_was_drawn_reads_as_drawn() {
         let species = if s.one_in(2) { s.kept(n) } else { (0..n).collect() };
         let (record, text) = s.drawn_on(species, &names);
         let drawn = Ok((record, text.len()));
-        assert_eq!(read(Kind::Gene, &joined(&names), &text, 0), drawn);
-        assert_eq!(read(Kind::Species, &joined(&names), &text, 0), as_species(n, drawn));
+        assert_eq!(read(Kind::Gene, None, &joined(&names), &text, 0), drawn);
+        assert_eq!(read(Kind::Species, None, &joined(&names), &text, 0), as_species(n, drawn));
     }
 }
 
@@ -146,12 +146,12 @@ fn damaged_text_gives_a_valid_record_or_a_place_within_it() {
         let labels = s.labels(&names);
         let (_, text) = s.drawn_labels(species, &labels);
         let text = s.damaged(text);
-        let answer = read(Kind::Gene, &joined(&names), &text, 0);
+        let answer = read(Kind::Gene, None, &joined(&names), &text, 0);
         match answer {
             Ok((record, next)) => assert!(valid_gene(n, &record) && text[next - 1] == b';'),
             Err((number, place)) => assert!((3..=10).contains(&number) && number != 9 && place <= text.len() && (number == 10) == (place == text.len())),
         }
-        assert_eq!(read(Kind::Species, &joined(&names), &text, 0), as_species(n, answer));
+        assert_eq!(read(Kind::Species, None, &joined(&names), &text, 0), as_species(n, answer));
     }
 }
 
@@ -170,7 +170,7 @@ fn a_record_is_valid_where_its_text_reads_back() {
         assert_eq!(written.is_ok(), valid_gene(n, &record));
         assert_eq!(valid(n, &record), valid_gene(n, &record) && largest(&record) == whole(n));
         if let Ok(length) = written {
-            assert_eq!(read(Kind::Gene, &line, &out[..length], 0), Ok((record, length)));
+            assert_eq!(read(Kind::Gene, None, &line, &out[..length], 0), Ok((record, length)));
         }
         both[written.is_ok() as usize] += 1;
     }
@@ -232,8 +232,8 @@ fn trees_with_names_of_printable_bytes_read_back() {
         let length = write(&line, &record, &mut out).unwrap();
         for (text, end) in [(&text[..], text.len()), (&out[..length], length)] {
             let drawn = Ok((record, end));
-            assert_eq!(read(Kind::Gene, &line, text, 0), drawn);
-            assert_eq!(read(Kind::Species, &joined(&decoded), text, 0), as_species(n, drawn));
+            assert_eq!(read(Kind::Gene, None, &line, text, 0), drawn);
+            assert_eq!(read(Kind::Species, None, &joined(&decoded), text, 0), as_species(n, drawn));
         }
     }
 }
@@ -386,4 +386,235 @@ fn lines_of_few_bytes_from_the_left_and_place_by_place() {
         let line: Vec<u8> = (0..length).map(|_| bytes[s.below(bytes.len())]).collect();
         judged_alike(&line);
     }
+}
+
+fn is_blank(b: u8) -> bool {
+    matches!(b, b' ' | b'\t' | b'\n' | b'\r')
+}
+
+/// The offset behind the digits that stand at p.
+fn digits_end(text: &[u8], p: usize) -> usize {
+    (p..text.len()).find(|&q| !text[q].is_ascii_digit()).unwrap_or(text.len())
+}
+
+/// The extent of the number that stands at p, and how many decimals it has.
+fn number_at(text: &[u8], p: usize) -> (usize, usize) {
+    let whole = digits_end(text, p);
+    if text.get(whole) != Some(&b'.') {
+        return (whole, 0);
+    }
+    let end = digits_end(text, whole + 1);
+    (end, end - whole - 1)
+}
+
+/// The colon before p, if only blanks stand between them.
+fn colon_before(text: &[u8], p: usize) -> Option<usize> {
+    (0..p).rev().find(|&q| !is_blank(text[q])).filter(|&q| text[q] == b':')
+}
+
+/// What stands at p is behind the second colon of its node: before that colon, and maybe a number, there is another.
+fn behind_two_colons(text: &[u8], p: usize) -> bool {
+    let Some(last) = colon_before(text, p) else {
+        return false;
+    };
+    let Some(before) = (0..last).rev().find(|&q| !is_blank(text[q])) else {
+        return false;
+    };
+    let number = (0..=before).rev().take_while(|&q| text[q].is_ascii_digit() || text[q] == b'.').last();
+    colon_before(text, number.unwrap_or(last)).is_some()
+}
+
+/// The first place of a support with more than three decimals that is met: of the text up to its end nothing is wrong but that it ends.
+fn first_long_support(kind: Kind, line: &[u8], text: &[u8]) -> Option<usize> {
+    let is_met = |&p: &usize| {
+        let (end, decimals) = number_at(text, p);
+        text[p].is_ascii_digit() && decimals > 3 && behind_two_colons(text, p) && read(kind, None, line, &text[..end], 0) == Err((10, end))
+    };
+    (0..text.len()).filter(|&p| Places(text).outside(p)).find(is_met)
+}
+
+/// Whole thousandths of a number with at most three decimals, by way of its two parts.
+fn by_parts(number: &[u8]) -> u64 {
+    let number = std::str::from_utf8(number).unwrap();
+    let (whole, decimals) = number.split_once('.').unwrap_or((number, "0"));
+    whole.parse::<u64>().unwrap() * 1000 + decimals.parse::<u64>().unwrap() * 10u64.pow(3 - decimals.len() as u32)
+}
+
+/// A good text with blanks for both parentheses of each weak node but the root, and for what stands behind the closing one.
+fn without_weak_nodes(text: &[u8], next: usize, threshold: usize) -> Vec<u8> {
+    let outside: Vec<usize> = (0..next).filter(|&p| Places(text).outside(p) && text[p] != b'\'').collect();
+    let (mut left, mut open) = (text.to_vec(), Vec::new());
+    for (i, &p) in outside.iter().enumerate() {
+        if text[p] == b'(' {
+            open.push(p);
+        }
+        if text[p] != b')' {
+            continue;
+        }
+        let from = open.pop().unwrap();
+        let behind: Vec<usize> = outside[i + 1..].iter().copied().take_while(|&q| !b",);".contains(&text[q])).collect();
+        let end = outside[i + 1 + behind.len()];
+        let plain: Vec<u8> = behind.into_iter().map(|q| text[q]).filter(|&b| !is_blank(b)).collect();
+        let support = plain.split(|&b| b == b':').nth(2);
+        if !open.is_empty() && support.is_some_and(|b| by_parts(b) < threshold as u64) {
+            left[from] = b' ';
+            left[p..end].fill(b' ');
+        }
+    }
+    left
+}
+
+/// What a threshold does, by reading without one: 18 at the first long support that is met, else the text without its weak nodes.
+fn by_text(kind: Kind, threshold: usize, line: &[u8], text: &[u8]) -> Result<(Record, usize), Refusal> {
+    if let Some(place) = first_long_support(kind, line, text) {
+        return Err((18, place));
+    }
+    let (_, next) = read(kind, None, line, text, 0)?;
+    read(kind, None, line, &without_weak_nodes(text, next, threshold), 0)
+}
+
+/// A roster line, how many names it has, and a text with supports on some of them.
+fn supported(s: &mut Seeded) -> (Vec<u8>, usize, Vec<u8>) {
+    let most = if s.one_in(3) { 16 } else { 6 };
+    let n = 1 + s.below(most);
+    let names = if s.one_in(2) { s.names(n) } else { s.printables(n) };
+    let species = if s.one_in(2) { s.kept(n) } else { (0..n).collect() };
+    let labels = s.labels(&names);
+    let (_, text) = s.drawn_supported(species, &labels);
+    (joined(&names), n, text)
+}
+
+#[test]
+fn a_threshold_by_reading_and_by_the_text_without_its_weak_nodes() {
+    let mut s = Seeded::new(14);
+    let (mut dropped, mut long, mut refused) = (0, 0, 0);
+    for _ in 0..6000 {
+        let (line, n, text) = supported(&mut s);
+        let text = if s.one_in(2) { s.damaged(text) } else { text };
+        let threshold = s.threshold();
+        let answer = read(Kind::Gene, Some(threshold), &line, &text, 0);
+        let shown = String::from_utf8_lossy(&text);
+        assert_eq!(answer, by_text(Kind::Gene, threshold, &line, &text), "threshold {threshold}, text {shown:?}");
+        let species = read(Kind::Species, Some(threshold), &line, &text, 0);
+        assert_eq!(species, as_species(n, answer), "threshold {threshold}, text {shown:?}");
+        assert_eq!(species, by_text(Kind::Species, threshold, &line, &text), "threshold {threshold}, text {shown:?}");
+        match answer {
+            Ok(read_so) => dropped += (Ok(read_so) != read(Kind::Gene, None, &line, &text, 0)) as usize,
+            Err((18, _)) => long += 1,
+            Err(_) => refused += 1,
+        }
+    }
+    assert!(dropped > 800 && long > 500 && refused > 1000, "{dropped} with clusters dropped, {long} with 18, {refused} refused otherwise");
+}
+
+#[test]
+fn texts_cut_at_every_place_with_a_threshold() {
+    let mut s = Seeded::new(18);
+    let mut cut_behind_long = 0;
+    for _ in 0..1000 {
+        let (line, _, text) = supported(&mut s);
+        for end in 0..text.len() {
+            let cut = &text[..end];
+            let answer = read(Kind::Gene, Some(500), &line, cut, 0);
+            assert_eq!(answer, by_text(Kind::Gene, 500, &line, cut), "text {:?}", String::from_utf8_lossy(cut));
+            cut_behind_long += matches!(answer, Err((18, place)) if number_at(cut, place).0 == end) as usize;
+        }
+    }
+    assert!(cut_behind_long > 100, "{cut_behind_long} texts end right behind a long support");
+}
+
+/// How a support is taken: at its value it keeps its node, above it not; with more than three decimals it is 18, even at threshold 0.
+fn support_taken_alike(number: &[u8]) {
+    let text = [b"((a,b)::", number, b",c);"].concat();
+    let at = |threshold| read(Kind::Gene, threshold, b"a b c", &text, 0);
+    let (kept, shown) = (at(None), String::from_utf8_lossy(number));
+    let (end, decimals) = number_at(&text, 8);
+    if kept.is_err() {
+        assert_eq!([at(Some(0)), at(Some(usize::MAX))], [by_text(Kind::Gene, 0, b"a b c", &text); 2], "support {shown}");
+    } else if decimals > 3 {
+        assert_eq!([at(Some(0)), at(Some(usize::MAX))], [Err((18, 8)); 2], "support {shown}");
+    } else {
+        let value = by_parts(&text[8..end]) as usize;
+        let star = Ok((record(&[1, 2, 4, 7]), text.len()));
+        assert_eq!([at(Some(value)), at(Some(value + 1)), at(Some(usize::MAX))], [kept, star, star], "support {shown}");
+        assert_eq!([at(Some(0)), at(Some(value.saturating_sub(1)))], [kept; 2], "support {shown}");
+    }
+}
+
+#[test]
+fn supports_by_their_values_and_by_their_two_parts() {
+    for length in 0..8u32 {
+        for mut code in 0..4usize.pow(length) {
+            let mut number = Vec::new();
+            for _ in 0..length {
+                number.push(b".059"[code % 4]);
+                code /= 4;
+            }
+            support_taken_alike(&number);
+        }
+    }
+    let mut s = Seeded::new(15);
+    for _ in 0..20_000 {
+        let length = 1 + s.below(14);
+        let mut number: Vec<u8> = (0..length).map(|_| b'0' + s.below(10) as u8).collect();
+        let point = s.below(length);
+        if s.one_in(2) {
+            number[point] = b'.';
+        }
+        support_taken_alike(&number);
+    }
+}
+
+/// The answers to a text without a threshold, with 0, and with two others, the lower first.
+fn at_rising_thresholds(s: &mut Seeded, line: &[u8], text: &[u8]) -> [Result<(Record, usize), Refusal>; 4] {
+    let (one, other) = (s.threshold(), s.threshold());
+    [None, Some(0), Some(one.min(other)), Some(one.max(other))].map(|threshold| read(Kind::Gene, threshold, line, text, 0))
+}
+
+#[test]
+fn a_higher_threshold_leaves_no_cluster_that_a_lower_one_dropped() {
+    let mut s = Seeded::new(16);
+    let mut fewer = 0;
+    for _ in 0..6000 {
+        let (line, n, text) = supported(&mut s);
+        let text = if s.one_in(4) { s.damaged(text) } else { text };
+        let [without, zero, low, high] = at_rising_thresholds(&mut s, &line, &text);
+        match (zero, low, high) {
+            (Ok(zero), Ok(low), Ok(high)) => {
+                assert_eq!(Ok(zero), without);
+                assert!([low, high].iter().all(|(tree, next)| valid_gene(n, tree) && *next == zero.1 && largest(tree) == largest(&zero.0)));
+                assert!(clusters(&low.0).iter().all(|x| clusters(&zero.0).contains(x)), "{zero:?}, {low:?}");
+                assert!(clusters(&high.0).iter().all(|x| clusters(&low.0).contains(x)), "{low:?}, {high:?}");
+                fewer += (high.0[0] < low.0[0]) as usize;
+            }
+            _ => {
+                assert!(zero.is_err() && zero == low && low == high);
+                assert!(zero == without || matches!(zero, Err((18, _))));
+            }
+        }
+    }
+    assert!(fewer > 800, "{fewer} texts of which the higher threshold left less");
+}
+
+#[test]
+fn k_and_scores_never_rise_with_the_threshold() {
+    let mut s = Seeded::new(17);
+    let (mut smaller, mut less) = (0, 0);
+    for _ in 0..4000 {
+        let (line, n, text) = supported(&mut s);
+        let [_, Ok((zero, _)), Ok((low, _)), Ok((high, _))] = at_rising_thresholds(&mut s, &line, &text) else {
+            continue;
+        };
+        for _ in 0..10 {
+            let a = cluster(&mut s, n);
+            assert!(k(&high, a) <= k(&low, a) && k(&low, a) <= k(&zero, a), "{zero:?}, {low:?}, {high:?}, cluster {a}");
+            assert!(extra(&high, a) <= extra(&low, a) && extra(&low, a) <= extra(&zero, a), "{zero:?}, {low:?}, {high:?}, cluster {a}");
+            smaller += (k(&high, a) < k(&zero, a)) as usize;
+        }
+        let species = s.gene(n, true);
+        let [zero, low, high] = [zero, low, high].map(|gene| score(n, &gene, 1, &species).unwrap());
+        assert!(high <= low && low <= zero, "scores {zero}, {low}, {high}");
+        less += (high < zero) as usize;
+    }
+    assert!(smaller > 1000 && less > 300, "{smaller} counts and {less} scores came out smaller");
 }

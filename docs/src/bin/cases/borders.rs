@@ -6,8 +6,9 @@ use reference::trees::record;
 
 pub fn borders(c: &mut Cases) {
     roster_borders(c);
-    text_borders(c, Kind::Species);
-    limit_borders(c, Kind::Species);
+    let read = |c: &mut Cases, line: &[u8], text: &[u8], start| c.read(Kind::Species, line, text, start);
+    text_borders(c, read);
+    limit_borders(c, read);
     writer_borders(c);
     count_borders(c);
     search_borders(c);
@@ -28,8 +29,9 @@ fn roster_borders(c: &mut Cases) {
     c.judge(&[b'x'; 65_537]);
 }
 
-pub fn text_borders(c: &mut Cases, kind: Kind) {
-    let on = |c: &mut Cases, line: &[u8], texts: &[&[u8]]| texts.iter().for_each(|text| c.read(kind, line, text, 0));
+/// The borders of a text, for each way of reading one.
+pub fn text_borders(c: &mut Cases, read: impl Fn(&mut Cases, &[u8], &[u8], usize)) {
+    let on = |c: &mut Cases, line: &[u8], texts: &[&[u8]]| texts.iter().for_each(|text| read(c, line, text, 0));
     on(c, b"a b c", &[b"((a,b),c);", b"(c,(b,a));", b"(a,b,c);", b"", b";", b"((a),b,c);", b"(a,b,c)", b"(a,b,c) ;rest", b"  \t\r\n", b"x", b"x-", b"(a,a", b"(a,b);"]);
     on(c, b"a b", &[
         b"(a::70,b:0.5:9);", b"(a:,b);", b"(a:)", b"(a,b)1.5;", b"(a,b)1;", b"(a,b)a;", b"(a,b) b :1 ;", b"()", b"(a,)", b"((a,b))", b"(a;b)", b"a;", b"a:;",
@@ -46,31 +48,32 @@ pub fn text_borders(c: &mut Cases, kind: Kind) {
     on(c, b"7 12", &[b"(7,12);", b"(12,7)7:7:12;", b"(7,1 2);", b"(7,7);", b"(7,121);"]);
     for (text, starts) in [(&b"(a,b);(b,a);"[..], &[0usize, 5, 6, 7, 11, 12, 13, 1000][..]), (b"  a", &[0, 2, 3, 4]), (b"", &[0, 1, usize::MAX])] {
         for &start in starts {
-            c.read(kind, b"a b", text, start);
+            read(c, b"a b", text, start);
         }
     }
     for line in [&b""[..], b"a  b", b"a a", b"a b c d e f g h i j k l m n o p q"] {
-        c.read(kind, line, b"(a,b);", 0);
-        c.read(kind, line, &[b' '; 65_537], 70_000);
+        read(c, line, b"(a,b);", 0);
+        read(c, line, &[b' '; 65_537], 70_000);
     }
 }
 
-pub fn limit_borders(c: &mut Cases, kind: Kind) {
+/// The limits of a text, for each way of reading one.
+pub fn limit_borders(c: &mut Cases, read: impl Fn(&mut Cases, &[u8], &[u8], usize)) {
     let names = [b"abcdefghijklmno".to_vec(), b"b".to_vec()];
     let line = joined(&names);
     for text in [
         &b"(abcdefghijklmno,b);"[..], b"(abcdefghijklmnop,b);", b"(abcdefghijklmnx,b);", b"(b,b)abcdefghijklmno;", b"(abcdefghijklmno,b)abcdefghijklmno;",
         b"(abcdefghijklmno,b)abcdefghijklmnop;", b"(abcdefghijklmno,b) abcdefghijklmnopq", b"abcdefghijklmnop", b"abcdefghijklmno", b"abcdefghijklmno;",
     ] {
-        c.read(kind, &line, text, 0);
+        read(c, &line, text, 0);
     }
     for open in [1, 14, 15, 16, 17] {
         let mut text = vec![b'('; open];
-        c.read(kind, b"a b", &text, 0);
+        read(c, b"a b", &text, 0);
         text.extend_from_slice(b"a,b");
         text.extend(vec![b')'; open]);
         text.push(b';');
-        c.read(kind, b"a b", &text, 0);
+        read(c, b"a b", &text, 0);
     }
     let sixteen: Vec<Vec<u8>> = (0..16).map(|i| vec![b'a' + i]).collect();
     // a comb of sixteen species opens fifteen parentheses
@@ -83,22 +86,22 @@ pub fn limit_borders(c: &mut Cases, kind: Kind) {
             text.push(b')');
         }
         text.push(b';');
-        c.read(kind, &joined(&names), &text, 0);
+        read(c, &joined(&names), &text, 0);
         text.insert(0, b'(');
-        c.read(kind, &joined(&names), &text, 0);
+        read(c, &joined(&names), &text, 0);
     }
     for size in [65_535usize, 65_536, 65_537] {
         let mut text = b"(a,b);".to_vec();
         text.resize(size, b' ');
-        c.read(kind, b"a b", &text, 0);
-        c.read(kind, b"a b", &text, 6);
-        c.read(kind, b"a b", &text, size);
-        c.read(kind, b"a b", &text, size + 1);
+        read(c, b"a b", &text, 0);
+        read(c, b"a b", &text, 6);
+        read(c, b"a b", &text, size);
+        read(c, b"a b", &text, size + 1);
         let mut text = vec![b' '; size - 6];
         text.extend_from_slice(b"(a,b);");
-        c.read(kind, b"a b", &text, 0);
-        c.read(kind, b"a b", &vec![b'q'; size], 0);
-        c.read(kind, b"a b", &vec![b'a'; size], size - 1);
+        read(c, b"a b", &text, 0);
+        read(c, b"a b", &vec![b'q'; size], 0);
+        read(c, b"a b", &vec![b'a'; size], size - 1);
     }
 }
 

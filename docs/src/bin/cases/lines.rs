@@ -22,6 +22,10 @@ impl Cases {
         self.add(call, &[escaped(line), escaped(text), decimal(start)]);
     }
 
+    pub fn read_supported(&mut self, line: &[u8], text: &[u8], start: usize, threshold: usize) {
+        self.add(b'T', &[escaped(line), escaped(text), decimal(start), decimal(threshold)]);
+    }
+
     pub fn write(&mut self, line: &[u8], r: &[u16; 32], out: usize) {
         self.add(b'W', &[escaped(line), numbers(r), decimal(out)]);
     }

@@ -8,8 +8,9 @@ use reference::seeded::Seeded;
 use reference::trees::{record, Record};
 
 pub fn lost(c: &mut Cases, s: &mut Seeded) {
-    text_borders(c, Kind::Gene);
-    limit_borders(c, Kind::Gene);
+    let read = |c: &mut Cases, line: &[u8], text: &[u8], start| c.read(Kind::Gene, line, text, start);
+    text_borders(c, read);
+    limit_borders(c, read);
     incomplete_texts(c);
     written_records(c);
     counted_records(c);
@@ -24,7 +25,8 @@ pub fn lost(c: &mut Cases, s: &mut Seeded) {
     (0..40).for_each(|_| input(c, s));
 }
 
-fn both(c: &mut Cases, line: &[u8], text: &[u8], start: usize) {
+/// A text read as both kinds.
+pub fn both(c: &mut Cases, line: &[u8], text: &[u8], start: usize) {
     c.read(Kind::Species, line, text, start);
     c.read(Kind::Gene, line, text, start);
 }

@@ -1,5 +1,6 @@
 //! Labels with blanks and quotes (#103): the borders by hand, then cases from a seed.
 use crate::lines::Cases;
+use crate::lost::both;
 use reference::label::in_quotes;
 use reference::reader::Kind;
 use reference::roster::joined;
@@ -23,11 +24,6 @@ pub fn quotes(c: &mut Cases, s: &mut Seeded) {
     (0..120).for_each(|_| text(c, s));
     (0..80).for_each(|_| write(c, s));
     (0..60).for_each(|_| input(c, s));
-}
-
-fn both(c: &mut Cases, line: &[u8], text: &[u8], start: usize) {
-    c.read(Kind::Species, line, text, start);
-    c.read(Kind::Gene, line, text, start);
 }
 
 /// The tree with all species below one node.
