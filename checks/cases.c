@@ -234,6 +234,11 @@ static void read_gene(void) {
     show_reading(st_read_gene(roster.at, roster.length, text.at, text.length, number(2)));
 }
 
+static void read_supported(void) {
+    Bytes roster = bytes(0), text = bytes(1);
+    show_reading(st_read_supported(roster.at, roster.length, text.at, text.length, number(2), number(3)));
+}
+
 static void write_tree(void) {
     Bytes roster = bytes(0), out = lent_bytes(2);
     st_Reply r = st_write(roster.at, roster.length, record(1), out.at, out.length);
@@ -287,7 +292,8 @@ static const struct {
     char letter;
     void (*run)(void);
 } calls[] = {
-    {'J', judge}, {'R', read_species}, {'G', read_gene}, {'W', write_tree}, {'K', weigh}, {'S', score}, {'M', mark}, {'F', search}, {'P', run_program},
+    {'J', judge}, {'R', read_species}, {'G', read_gene}, {'T', read_supported}, {'W', write_tree}, {'K', weigh}, {'S', score}, {'M', mark}, {'F', search},
+    {'P', run_program},
 };
 
 static void run(void) {

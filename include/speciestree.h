@@ -47,6 +47,11 @@ st_Reading st_read(const uint8_t *line, size_t line_length, const uint8_t *text,
 /* the same for a gene tree, which may lack species */
 st_Reading st_read_gene(const uint8_t *line, size_t line_length, const uint8_t *text, size_t text_length, size_t start);
 
+/* the same without the clusters of weak inner nodes: not the root, with a support, the b of `:d:b` or `::b`, strictly below the
+   threshold, which is in whole thousandths */
+st_Reading st_read_supported(const uint8_t *line, size_t line_length, const uint8_t *text, size_t text_length, size_t start,
+                             size_t threshold);
+
 /* value: the length of the text, 558 bytes at the most; tree is a species tree's record or a gene tree's */
 st_Reply st_write(const uint8_t *line, size_t line_length, st_Record tree, uint8_t *out, size_t out_length);
 

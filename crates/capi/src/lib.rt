@@ -1,12 +1,14 @@
 // The library for C and Rust: each name has the promise of the call that it wraps. include/speciestree.h declares the same.
 use reader::Kind;
 use reader::Reading;
+use reader::Threshold;
 use roster::Reply;
 use search::Found;
 use trees::Record;
 ghost use Rattle.roster.specs.Judged.{Judged};
 ghost use Rattle.reader.specs.Promise.{Reads};
 ghost use Rattle.reader.specs.declared.Kind.the-variants.{Species, Gene};
+ghost use Rattle.tokens.specs.declared.answer.Threshold.the-variants.{NoThreshold, Below};
 ghost use Rattle.writer.specs.Promise.{Writes};
 ghost use Rattle.lineages.specs.Promise.{Weighs, Scores, Marks};
 ghost use Rattle.search.specs.Promise.{Finds};
@@ -22,17 +24,31 @@ pub extern "C" fn st_roster(line: &[u8]) -> Reply
 // Reads the species tree that begins at `start`.
 #[no_mangle]
 pub extern "C" fn st_read(line: &[u8], text: &[u8], start: usize) -> Reading
-    ensures { λ r. ⌜ Reads Species (now (line .entry)) (now (text .entry)) start r ⌝ }
+    ensures { λ r. ⌜ Reads Species NoThreshold (now (line .entry)) (now (text .entry)) start r ⌝ }
 {
-    reader::read(Kind::Species, line, text, start)
+    reader::read(Kind::Species, Threshold::NoThreshold, line, text, start)
 }
 
 // Reads the gene tree that begins at `start`, which may lack species.
 #[no_mangle]
 pub extern "C" fn st_read_gene(line: &[u8], text: &[u8], start: usize) -> Reading
-    ensures { λ r. ⌜ Reads Gene (now (line .entry)) (now (text .entry)) start r ⌝ }
+    ensures { λ r. ⌜ Reads Gene NoThreshold (now (line .entry)) (now (text .entry)) start r ⌝ }
 {
-    reader::read(Kind::Gene, line, text, start)
+    reader::read(Kind::Gene, Threshold::NoThreshold, line, text, start)
+}
+
+// Reads the gene tree that begins at `start`, without the clusters of inner nodes, not the root, whose support lies below the threshold, in whole thousandths.
+#[no_mangle]
+pub extern "C" fn st_read_supported(
+    line: &[u8],
+    text: &[u8],
+    start: usize,
+    threshold: usize,
+) -> Reading
+    ensures { λ r. ⌜ Reads Gene (Below threshold) (now (line .entry)) (now (text .entry)) start r ⌝ }
+{
+    let given = Threshold::Below { amount: threshold };
+    reader::read(Kind::Gene, given, line, text, start)
 }
 
 // Writes a tree's text into `out`; the value is its length.

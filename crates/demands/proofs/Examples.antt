@@ -1,4 +1,4 @@
--- The rows of 01's table that are marked P, and rows of #104, under one claim.
+-- The rows of 01's table that are marked P, and rows of #104 and #113, under one claim.
 use Prim.Native.Nat.{ℕ}
 use mathlib.Core.Path.{_≡_, refl}
 use mathlib.Core.Bool.{true}
@@ -6,13 +6,16 @@ use mathlib.Core.List.{List, [], _∷_}
 use lib.Count.{ones, onesIn, trailingZeros}
 use lib.ListN.{replicate}
 use Rattle.demands.specs.Examples.{Row}
-use Rattle.demands.specs.Examples.Row.{recorded, counted, scored, searched}
+use Rattle.demands.specs.Examples.Row.{recorded, counted, scored, searched, readBelow, valued}
 use Rattle.demands.specs.Examples.Allowed.{every, own, only}
 use Rattle.clusters.specs.Sets.{whole, single, union, has, within, apart, size, lowest}
-use Rattle.demands.specs.Examples.{recordIn, foundIn, holds, allHold}
+use Rattle.demands.specs.Examples.{recordIn, foundIn, readingBelow, holds, allHold}
 use Rattle.weights.specs.Count.{kOf, extra, weight, score}
 use Rattle.weights.specs.Marks.{shown}
 use Rattle.lineages.specs.Promise.{marks}
+use Rattle.tokens.specs.Supports.{supported}
+use Rattle.tokens.specs.Values.{leading, decimals, writtenBehind, written as writes, filled, tooFine, thousandths}
+use Rattle.tokens.specs.declared.answer.Value.the-variants.{Thousandths, NoValue}
 use Rattle.tokens.specs.Tokens.{blanks, skip, number, numberBehind, numbers, name, innerName}
 use Rattle.reader.specs.Promise.{answerTo}
 use Rattle.nodes.specs.Reading.{leafBy, closingBy, readTreeToBy, readTreeBy, readNodeBy}
@@ -28,10 +31,11 @@ use Rattle.trees.specs.Drawn.{properly, maximal, placed, byLowest, children, dr
 use Rattle.trees.specs.Lists.{upTo, keep, some, insert, sorted, pieces, total}
 use Rattle.trees.specs.Records.{recordOf}
 use Rattle.trees.specs.Tree.{cluster, clusters}
+use Rattle.trees.specs.Thinned.{leftBelow, clustersLeft}
 use Rattle.trees.specs.Valid.{every as every-trees, among, rising, singlesFrom}
 use Rattle.texts.specs.Writing.{treeText, written, nodeText}
 
--- 01's rows marked P, in its order, and behind them rows of #104
+-- 01's rows marked P, in its order, and behind them rows of #104 and #113
 pub examples : List Row
 examples =
     -- the rosters, and the texts of the trees
@@ -60,6 +64,16 @@ examples =
     -- `(a,b);` and `(b,d);`
     let ab : List ℕ = 40 ∷ 97 ∷ 44 ∷ 98 ∷ 41 ∷ 59 ∷ [] in
     let bd : List ℕ = 40 ∷ 98 ∷ 44 ∷ 100 ∷ 41 ∷ 59 ∷ [] in
+    -- `((a,b)::0.5,c);`
+    let ab-half-c : List ℕ = 40 ∷ 40 ∷ 97 ∷ 44 ∷ 98 ∷ 41 ∷ 58 ∷ 58 ∷ 48 ∷ 46 ∷ 53 ∷ 44 ∷ 99 ∷ 41 ∷ 59 ∷ [] in
+    -- `((a,b)::0.5000,c);`
+    let ab-fine-c : List ℕ = 40 ∷ 40 ∷ 97 ∷ 44 ∷ 98 ∷ 41 ∷ 58 ∷ 58 ∷ 48 ∷ 46 ∷ 53 ∷ 48 ∷ 48 ∷ 48 ∷ 44 ∷ 99 ∷ 41 ∷ 59 ∷ [] in
+    -- `((a::0.1234,b),c);`
+    let fine-a : List ℕ = 40 ∷ 40 ∷ 97 ∷ 58 ∷ 58 ∷ 48 ∷ 46 ∷ 49 ∷ 50 ∷ 51 ∷ 52 ∷ 44 ∷ 98 ∷ 41 ∷ 44 ∷ 99 ∷ 41 ∷ 59 ∷ [] in
+    -- `((a::0,b::0)::1,c)::0;`
+    let all-weak : List ℕ = 40 ∷ 40 ∷ 97 ∷ 58 ∷ 58 ∷ 48 ∷ 44 ∷ 98 ∷ 58 ∷ 58 ∷ 48 ∷ 41 ∷ 58 ∷ 58 ∷ 49 ∷ 44 ∷ 99 ∷ 41 ∷ 58 ∷ 58 ∷ 48 ∷ 59 ∷ [] in
+    -- `((a,b):0.1,c);`
+    let distance : List ℕ = 40 ∷ 40 ∷ 97 ∷ 44 ∷ 98 ∷ 41 ∷ 58 ∷ 48 ∷ 46 ∷ 49 ∷ 44 ∷ 99 ∷ 41 ∷ 59 ∷ [] in
     -- `((a,b),c);` | record 5, 1, 2, 3, 4, 7, and 26 zeros
     recorded abc ab-c (5 ∷ 1 ∷ 2 ∷ 3 ∷ 4 ∷ 7 ∷ replicate 26 0)
     -- that tree, cluster 5 | k = 2
@@ -92,14 +106,32 @@ examples =
     ∷ searched abcd (ac-b ∷ bd ∷ []) every 0 0 ac-bd
     -- `(a,b);` on roster `a b c d`, its own clusters as they stand | 14 (#104)
     ∷ searched abcd (ab ∷ []) own 14 0 []
+    -- `7` is 7000 thousandths, `0.5` is 500, `1.250` is 1250, and `0.5000` has no value (#113)
+    ∷ valued (55 ∷ []) (Thousandths 7000)
+    ∷ valued (48 ∷ 46 ∷ 53 ∷ []) (Thousandths 500)
+    ∷ valued (49 ∷ 46 ∷ 50 ∷ 53 ∷ 48 ∷ []) (Thousandths 1250)
+    ∷ valued (48 ∷ 46 ∷ 53 ∷ 48 ∷ 48 ∷ 48 ∷ []) NoValue
+    -- `((a,b)::0.5,c);`, threshold 500 | keeps cluster 3; 501 | drops it (#113)
+    ∷ readBelow abc ab-half-c 500 0 0 (5 ∷ 1 ∷ 2 ∷ 3 ∷ 4 ∷ 7 ∷ replicate 26 0)
+    ∷ readBelow abc ab-half-c 501 0 0 (4 ∷ 1 ∷ 2 ∷ 4 ∷ 7 ∷ replicate 27 0)
+    -- `((a::0,b::0)::1,c)::0;`, threshold 1001 | drops cluster 3; the root and leaves keep theirs (#113)
+    ∷ readBelow abc all-weak 1001 0 0 (4 ∷ 1 ∷ 2 ∷ 4 ∷ 7 ∷ replicate 27 0)
+    -- `((a,b):0.1,c);`, threshold 1000000 | keeps cluster 3: no support (#113)
+    ∷ readBelow abc distance 1000000 0 0 (5 ∷ 1 ∷ 2 ∷ 3 ∷ 4 ∷ 7 ∷ replicate 26 0)
+    -- `((a,b)::0.5000,c);`, threshold 1 | 18 at 8; `((a::0.1234,b),c);`, threshold 0 | 18 at 5 (#113)
+    ∷ readBelow abc ab-fine-c 1 18 8 (replicate 32 0)
+    ∷ readBelow abc fine-a 0 18 5 (replicate 32 0)
+    -- `((a,b)::0.5000,c);` without a threshold | record 5, 1, 2, 3, 4, 7, and 26 zeros (#113)
+    ∷ recorded abc ab-fine-c (5 ∷ 1 ∷ 2 ∷ 3 ∷ 4 ∷ 7 ∷ replicate 26 0)
     ∷ []
 
 -- every one of them holds, by the definitions that the promises cite
 pub examples-hold : allHold examples ≡ true
-unfolding examples ones onesIn trailingZeros whole single union has within apart size lowest recordIn foundIn holds allHold kOf extra total weight
-    score pieces shown marks answerTo leafBy closingBy readTreeToBy readTreeBy readNodeBy nextIs nextLabel blanks skip number numberBehind numbers
+unfolding examples ones onesIn trailingZeros whole single union has within apart size lowest recordIn foundIn readingBelow holds allHold kOf extra total weight
+    score pieces shown marks answerTo leafBy closingBy readTreeToBy readTreeBy readNodeBy nextIs nextLabel blanks skip number numberBehind numbers supported
     name innerName run bareLetters letters lettersFrom doubled rawTo told padded upTo same position inQuotes begins beginnings nameAt names strayAt
     longAt manyAt againAt openAt faultAt least firstFault faulty clustersIn isLow lows each forks treesTo treesOn those all scoreOf treesOver
     leastTrees best allowedIn bestFor properly maximal placed byLowest children drawnTo drawn keep some insert sorted recordOf cluster clusters
     every-trees among rising singlesFrom treeText written nodeText labelOf mayBeBare
+    tooFine decimals leading thousandths writtenBehind writes filled clustersLeft leftBelow
 examples-hold = refl

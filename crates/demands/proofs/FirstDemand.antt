@@ -14,6 +14,7 @@ use Rattle.roster.specs.Roster.{names, faulty, firstFault}
 use Rattle.roster.specs.Judged.{Judged, judgedBy, speciesMost}
 use Rattle.roster.specs.Verdict.{Test, Verdict, verdict, lengthTest, replyOf}
 use Rattle.roster.specs.declared.Reply.{Reply}
+use Rattle.tokens.specs.declared.answer.Threshold.{Threshold}
 use Rattle.tokens.specs.Answers.{Answer}
 use Rattle.tokens.specs.Answers.Answer.{parsed, refused}
 use Rattle.reader.specs.Promise.{readingOf, answerTo, Reads}
@@ -49,12 +50,12 @@ replies-judge line =
     let reply = judgedBy (faulty speciesMost line) speciesMost line in
     record { outcome = reply; meets = refl; only = λ r p. judge-once line r reply p refl }
 
--- "Every text, roster .. and number", with any offset, as either kind
-pub replies-read : (kind : Kind) (line text : List ℕ) (start : ℕ) → Replies (Reads kind line text start)
+-- "Every text, roster .. and number", with any offset, as either kind, with any threshold or none
+pub replies-read : (kind : Kind) (threshold : Threshold) (line text : List ℕ) (start : ℕ) → Replies (Reads kind threshold line text start)
 unfolding Reads
-replies-read kind line text start =
-    let reply = readingOf start (answerTo kind line text start) in
-    record { outcome = reply; meets = refl; only = λ r p. read-once kind line text start r reply p refl }
+replies-read kind threshold line text start =
+    let reply = readingOf threshold start (answerTo kind threshold line text start) in
+    record { outcome = reply; meets = refl; only = λ r p. read-once kind threshold line text start r reply p refl }
 
 -- "Every .. roster, table ..": any record, and any bytes lent
 pub replies-write : (line tree out : List ℕ) → Replies (λ (o : Reply × List ℕ). Writes line tree out (o .0) (o .1))
@@ -140,14 +141,16 @@ judge-refused line r p f = go (faulty speciesMost line) p
 
 -- "Order for text: 1, 2, then as met": the number and the place name a fault that the text has; "an all-zero record .. and, from the reader, the offset it was given"
 pub read-refused :
-    (kind : Kind) (line text : List ℕ) (start : ℕ) (r : Reading) → Reads kind line text start r → (r .number ≡ 0 → ⊥)
-    → TextFault kind line text start (r .number) (r .place) × (r .next ≡ start) × (r .numbers ≡ replicate 32 0)
+    (kind : Kind) (threshold : Threshold) (line text : List ℕ) (start : ℕ) (r : Reading) → Reads kind threshold line text start r → (r .number ≡ 0 → ⊥)
+    → TextFault kind threshold line text start (r .number) (r .place) × (r .next ≡ start) × (r .numbers ≡ replicate 32 0)
 unfolding Reads
-read-refused kind line text start r p f = go (answerTo kind line text start) refl
+read-refused kind threshold line text start r p f = go (answerTo kind threshold line text start) refl
   where
-    go : (a : Answer Tree) → answerTo kind line text start ≡ a → TextFault kind line text start (r .number) (r .place) × (r .next ≡ start) × (r .numbers ≡ replicate 32 0)
-    go (parsed t rest q) e = absurd (f (ap (λ (r : Reading). r .number) (p ∙ ap (readingOf start) e)))
-    go (refused k q) e = rw (p, e) (fault-of-refusal kind line text start k q e, refl, refl)
+    go :
+        (a : Answer Tree) → answerTo kind threshold line text start ≡ a
+        → TextFault kind threshold line text start (r .number) (r .place) × (r .next ≡ start) × (r .numbers ≡ replicate 32 0)
+    go (parsed t rest q) e = absurd (f (ap (λ (r : Reading). r .number) (p ∙ ap (readingOf threshold start) e)))
+    go (refused k q) e = rw (p, e) (fault-of-refusal kind threshold line text start k q e, refl, refl)
 
 -- "The writer: 1, 15, 12": "Lent slices keep every byte"
 pub write-refused :
@@ -249,15 +252,17 @@ judge-done line r p z = go (faulty speciesMost line) p
     go false e = ap (λ (r : Reply). r .place) e
 
 -- "done | 0": reading
-pub read-done : (kind : Kind) (line text : List ℕ) (start : ℕ) (r : Reading) → Reads kind line text start r → r .number ≡ 0 → r .place ≡ 0
+pub read-done :
+    (kind : Kind) (threshold : Threshold) (line text : List ℕ) (start : ℕ) (r : Reading) → Reads kind threshold line text start r
+    → r .number ≡ 0 → r .place ≡ 0
 unfolding Reads
-read-done kind line text start r p z = go (answerTo kind line text start) refl
+read-done kind threshold line text start r p z = go (answerTo kind threshold line text start) refl
   where
-    go : (a : Answer Tree) → answerTo kind line text start ≡ a → r .place ≡ 0
-    go (parsed t rest q) e = ap (λ (r : Reading). r .place) (p ∙ ap (readingOf start) e)
+    go : (a : Answer Tree) → answerTo kind threshold line text start ≡ a → r .place ≡ 0
+    go (parsed t rest q) e = ap (λ (r : Reading). r .place) (p ∙ ap (readingOf threshold start) e)
     go (refused k q) e =
-        let i = ap (λ (r : Reading). r .number) (p ∙ ap (readingOf start) e) in
-        absurd (omega (arith, fault-numbers (fault-of-refusal kind line text start k q e)))
+        let i = ap (λ (r : Reading). r .number) (p ∙ ap (readingOf threshold start) e) in
+        absurd (omega (arith, fault-numbers (fault-of-refusal kind threshold line text start k q e) .0))
 
 -- "done | 0": writing
 pub write-done : (line tree out : List ℕ) (r : Reply) (after : List ℕ) → Writes line tree out r after → r .number ≡ 0 → r .place ≡ 0

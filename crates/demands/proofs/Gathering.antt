@@ -13,6 +13,7 @@ use Rattle.labels.proofs.Runs.{run-within, run-behind}
 use Rattle.trees.specs.Tree.{Tree, clusters}
 use Rattle.trees.specs.Records.{recordOf}
 use Rattle.roster.specs.Roster.{names}
+use Rattle.tokens.specs.declared.answer.Threshold.the-variants.{NoThreshold}
 use Rattle.tokens.specs.Answers.Answer.{parsed, refused}
 use Rattle.tokens.specs.Tokens.{blanks, skip}
 use Rattle.nodes.specs.Grammar.{Rules, Blanks, Text}
@@ -48,7 +49,7 @@ module _ (line txt : List ℕ) (at : ℕ) where
   blanks-from = rw (← drop-drop (blanks (drop at txt)) at txt) (skip-blanks (drop at txt))
 
   -- a tree drawn behind blanks is drawn with them
-  draws-behind-blanks : {t : Tree} {rest : List ℕ} → Draws Gene line txt (begun txt at) t rest → Draws Gene line txt at t rest
+  draws-behind-blanks : {t : Tree} {rest : List ℕ} → Draws Gene NoThreshold line txt (begun txt at) t rest → Draws Gene NoThreshold line txt at t rest
   draws-behind-blanks d = record {
     good = d .good;
     short = d .short;
@@ -115,10 +116,11 @@ unfolding Reads
 turns line txt shift = record { begins = record { trees = []; trees-to = no-tree-yet; records = refl }; reads = reads; ends = ends; many = many; refuses = refuses }
   where
     reads :
-        {genes : List (List ℕ)} {at : ℕ} {t : Tree} {rest : List ℕ} {q : ℕ} → ReadTo line txt genes at → answerTo Gene line txt (begun txt at) ≡ parsed t rest q
+        {genes : List (List ℕ)} {at : ℕ} {t : Tree} {rest : List ℕ} {q : ℕ} → ReadTo line txt genes at
+        → answerTo Gene NoThreshold line txt (begun txt at) ≡ parsed t rest q
         → ReadTo line txt (genes ++ (recordOf (clusters t) ∷ [])) q
     reads {at = at} {t = t} now e =
-        let a = accepted-derives Gene line txt (begun txt at) e in
+        let a = accepted-derives Gene NoThreshold line txt (begun txt at) e in
         record {
           trees = now .trees ++ (t ∷ []);
           trees-to = one-more (now .trees-to) (draws-behind-blanks line txt at (a .draws)) (behind-blanks line txt at (a .place));
@@ -146,11 +148,11 @@ turns line txt shift = record { begins = record { trees = []; trees-to = no-tree
 
     refuses :
         {genes : List (List ℕ)} {at number place : ℕ} → ReadTo line txt genes at → length genes < genesMost → begun txt at < length txt
-        → answerTo Gene line txt (begun txt at) ≡ refused number place → TreesFault line txt shift number (shift + place)
+        → answerTo Gene NoThreshold line txt (begun txt at) ≡ refused number place → TreesFault line txt shift number (shift + place)
     refuses {at = at} {number} {place} now room inside e =
-        let some = refusal-some Gene line txt (begun txt at) e in
-        refused-tree (readingOf (begun txt at) (refused number place)) (more-behind line txt at (now .trees-to) inside) (omega (arith, as-many now))
-        (ap (readingOf (begun txt at)) (sym e)) (λ z. omega arith)
+        let some = refusal-some Gene NoThreshold line txt (begun txt at) e in
+        refused-tree (readingOf NoThreshold (begun txt at) (refused number place)) (more-behind line txt at (now .trees-to) inside) (omega (arith, as-many now))
+        (ap (readingOf NoThreshold (begun txt at)) (sym e)) (λ z. omega arith)
 
 pub gathered-from : (line txt : List ℕ) (genes : List (List ℕ)) → gather line txt ≡ gathered genes → GatheredFrom line txt genes
 gathered-from line txt genes e = gathered-so (turns line txt 0) (sym e)
@@ -180,7 +182,7 @@ module _ (line txt : List ℕ) (at : ℕ) where
   begun-within h = omega (arith, run-within isBlank (drop at txt), length-drop at txt)
 
   -- a tree drawn with blanks before it is drawn behind them
-  draws-from-begun : {t : Tree} {rest : List ℕ} → Draws Gene line txt at t rest → Draws Gene line txt (begun txt at) t rest
+  draws-from-begun : {t : Tree} {rest : List ℕ} → Draws Gene NoThreshold line txt at t rest → Draws Gene NoThreshold line txt (begun txt at) t rest
   unfolding blanks skip
   draws-from-begun d = record {
     good = d .good;
@@ -193,11 +195,11 @@ module _ (line txt : List ℕ) (at : ℕ) where
 
   -- so it is read there
   reads-from-begun :
-      {t : Tree} {rest : List ℕ} {next : ℕ} → Draws Gene line txt at t rest → JustBehind txt at rest next
-      → (begun txt at < length txt) × (answerTo Gene line txt (begun txt at) ≡ parsed t rest next)
+      {t : Tree} {rest : List ℕ} {next : ℕ} → Draws Gene NoThreshold line txt at t rest → JustBehind txt at rest next
+      → (begun txt at < length txt) × (answerTo Gene NoThreshold line txt (begun txt at) ≡ parsed t rest next)
   reads-from-begun {t} {rest} {next} d j =
-      let e = derives-accepted Gene line txt (begun txt at) (draws-from-begun d) in
-      let p = accepted-derives Gene line txt (begun txt at) e .place in
+      let e = derives-accepted Gene NoThreshold line txt (begun txt at) (draws-from-begun d) in
+      let p = accepted-derives Gene NoThreshold line txt (begun txt at) e .place in
       let l : length rest ≡ length txt - next = ap length (j .left) ∙ length-drop next txt in
       let q : length txt - length rest ≡ next = let w = j .within in omega arith in
       (let a = p .after in let w = p .within in omega arith, e ∙ ap (λ (q : ℕ). parsed t rest q) q)
@@ -206,7 +208,7 @@ module _ (line txt : List ℕ) where
   -- a tree that is read is one more turn
   step :
       (k : ℕ) (genes : List (List ℕ)) (at : ℕ) {t : Tree} {rest : List ℕ} {next : ℕ}
-      → begun txt at < length txt → length genes < genesMost → answerTo Gene line txt (begun txt at) ≡ parsed t rest next
+      → begun txt at < length txt → length genes < genesMost → answerTo Gene NoThreshold line txt (begun txt at) ≡ parsed t rest next
       → gatherTo (suc k) line txt genes at ≡ gatherTo k line txt (genes ++ (recordOf (clusters t) ∷ [])) next
   unfolding gatherTo
   step k genes at inside few e = rw (lt-leb (length txt) (begun txt at) inside, lt-leb genesMost (length genes) few, e) refl

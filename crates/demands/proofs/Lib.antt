@@ -27,3 +27,4 @@ pub mod Locality
 pub mod Lots
 pub mod LotsExample
 pub mod OfLetters
+pub mod Thresholds

@@ -5,6 +5,7 @@ use mathlib.Core.List.{List}
 use Rattle.roster.specs.Judged.{Judged}
 use Rattle.roster.specs.declared.Reply.{Reply}
 use Rattle.roster.proofs.Judging.{judged-once}
+use Rattle.tokens.specs.declared.answer.Threshold.{Threshold}
 use Rattle.reader.specs.Promise.{Reads}
 use Rattle.reader.specs.declared.Kind.{Kind}
 use Rattle.reader.specs.declared.Reading.{Reading}
@@ -21,10 +22,12 @@ use Rattle.report.specs.Promise.{Reports}
 pub judge-once : (line : List ℕ) (r r′ : Reply) → Judged line r → Judged line r′ → r ≡ r′
 judge-once = judged-once
 
--- for a text read from an offset on, as either kind
-pub read-once : (kind : Kind) (line text : List ℕ) (start : ℕ) (r r′ : Reading) → Reads kind line text start r → Reads kind line text start r′ → r ≡ r′
+-- for a text read from an offset on, as either kind, with any threshold or none
+pub read-once :
+    (kind : Kind) (threshold : Threshold) (line text : List ℕ) (start : ℕ) (r r′ : Reading)
+    → Reads kind threshold line text start r → Reads kind threshold line text start r′ → r ≡ r′
 unfolding Reads
-read-once kind line text start r r′ p q = p ∙ sym q
+read-once kind threshold line text start r r′ p q = p ∙ sym q
 
 -- for a record written: the reply and the lent bytes
 pub write-once :

@@ -19,6 +19,7 @@ use Rattle.nodes.specs.Grammar.{Blanks}
 use Rattle.splits.specs.BinaryTrees.{Binary}
 use Rattle.solver.specs.Best.{bestFor, foundBy}
 use Rattle.reader.specs.Promise.{textMost}
+use Rattle.tokens.specs.declared.answer.Threshold.the-variants.{NoThreshold}
 use Rattle.reader.specs.declared.Kind.the-variants.{Gene}
 use Rattle.writer.specs.Promise.{rosterTest}
 use Rattle.gather.specs.GeneTrees.{Gathered, gather}
@@ -50,7 +51,7 @@ use Rattle.demands.specs.ProgramFaults.NoGeneTreeFault.{only-blanks}
 use Rattle.demands.specs.ProgramFaults.UnsolvableFault.{no-tree}
 use Rattle.demands.proofs.FirstFaults.{NoFault, Names, names-one, names-first, names-later, passed-none, none-passed}
 use Rattle.demands.proofs.TestFaults.{roster-met}
-use Rattle.demands.proofs.TextFaults.{fault-numbers}
+use Rattle.demands.proofs.TextFaults.{plain-fault-numbers}
 use Rattle.demands.proofs.Gathering.{recordsOf, stopped-gathered, stopped-fault, gathered-from, gathers-standing}
 use Rattle.demands.proofs.TreesFaults.{fault-stops, trees-fault-means}
 use Rattle.demands.proofs.TwoLines.{feed-splits}
@@ -264,9 +265,9 @@ module _ (input : List ℕ) where
   trees-within : {k p : ℕ} → length input ≤ textMost → faulty speciesMost line ≡ false → TreesFault line text (treesPlace input) k p → (k ≤ 17) × (p ≤ 200000)
   trees-within {k} {p} short good f = (number (trees-fault-means f), place (fault-stops line text f))
     where
-      number : (k ≡ 17) ⊎ ((b : ℕ) × (q : ℕ) × TextFault Gene line text b k q × (p ≡ treesPlace input + q)) → k ≤ 17
+      number : (k ≡ 17) ⊎ ((b : ℕ) × (q : ℕ) × TextFault Gene NoThreshold line text b k q × (p ≡ treesPlace input + q)) → k ≤ 17
       number (inl e) = omega arith
-      number (inr h) = omega (arith, fault-numbers (h .2) .1)
+      number (inr h) = omega (arith, plain-fault-numbers (h .2) .1)
 
       place : (q : ℕ) × (gather line text ≡ stopped k q) × (p ≡ treesPlace input + q) → p ≤ 200000
       place (q, e, i) = let t = places .3 in let l = stopped-inside line text good (omega arith) (sym e) in omega (arith, places .1)

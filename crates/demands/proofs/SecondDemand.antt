@@ -9,20 +9,25 @@ use native.Mathlib.Omega.{arith}
 use lib.ListN.{length, getD, take, drop, length-append}
 use lib.Seq.{getD-append-seam}
 use Rattle.clusters.specs.Sets.{Within, whole, within}
-use Rattle.trees.specs.Lists.{Among, keep, some, total}
-use Rattle.trees.specs.Tree.{Tree, clusters}
+use Rattle.trees.specs.Lists.{Among, NoneTwice, keep, some, total}
+use Rattle.trees.specs.Tree.{Tree, leaves, clusters}
 use Rattle.trees.specs.Drawn.{maximal, children, drawn}
 use Rattle.trees.specs.Valid.{every, among}
 use Rattle.trees.specs.Records.{listed, recordOf, largest, GeneValid, BinaryOn, recordsIn}
 use Rattle.trees.proofs.Nodes.{clusters-once}
+use Rattle.trees.proofs.Listing.{sublist-once}
+use Rattle.trees.proofs.Thinned.{left-of-all}
 use Rattle.trees.proofs.Recorded.{among-record, record-among, record-same}
 use Rattle.trees.proofs.GeneRecords.{gene-small, gene-decides}
 use Rattle.roster.specs.Roster.{names, faulty}
 use Rattle.roster.specs.Judged.{speciesMost}
 use Rattle.roster.specs.declared.Reply.{Reply}
+use Rattle.tokens.specs.declared.answer.Threshold.{Threshold}
+use Rattle.tokens.specs.declared.answer.Threshold.the-variants.{NoThreshold, Below}
+use Rattle.tokens.specs.Supports.{weak}
 use Rattle.tokens.specs.Answers.{Answer}
 use Rattle.tokens.specs.Answers.Answer.{parsed, refused}
-use Rattle.reader.specs.Promise.{readingOf, answerTo, Reads}
+use Rattle.reader.specs.Promise.{clustersRead, readingOf, answerTo, Reads}
 use Rattle.reader.specs.declared.Kind.{Kind}
 use Rattle.reader.specs.declared.Kind.the-variants.{Species, Gene}
 use Rattle.reader.specs.declared.Reading.{Reading}
@@ -50,39 +55,43 @@ use Rattle.demands.proofs.TextFaults.{fault-of-refusal, fault-numbers}
 
 -- ---- "Newick text is read to the set of clusters it draws"
 
--- a tree's record has its clusters
-record-clusters : (t : Tree) → SameClusters (listed (recordOf (clusters t))) (clusters t)
-record-clusters t x = (λ m. among-record (clusters t) m, λ m. record-among (clusters t) m)
+-- the record of a tree's clusters has them
+record-clusters : (cs : List ℕ) → SameClusters (listed (recordOf cs)) cs
+record-clusters cs x = (λ m. among-record cs m, λ m. record-among cs m)
 
--- "read to the set of clusters it draws": what was read is what the grammar draws
+-- "read to the set of clusters it draws": what was read is what the grammar draws; with a threshold, what that leaves of it (#113)
 pub read-to-its-clusters :
-    (kind : Kind) (line text : List ℕ) (start : ℕ) (r : Reading) → Reads kind line text start r → r .number ≡ 0 → ReadAs kind line text start r
+    (kind : Kind) (threshold : Threshold) (line text : List ℕ) (start : ℕ) (r : Reading) → Reads kind threshold line text start r
+    → r .number ≡ 0 → ReadAs kind threshold line text start r
 unfolding Reads
-read-to-its-clusters kind line text start r p z = go (answerTo kind line text start) refl
+read-to-its-clusters kind threshold line text start r p z = go (answerTo kind threshold line text start) refl
   where
-    go : (a : Answer Tree) → answerTo kind line text start ≡ a → ReadAs kind line text start r
+    go : (a : Answer Tree) → answerTo kind threshold line text start ≡ a → ReadAs kind threshold line text start r
     go (parsed t rest q) e =
-        let a = accepted-derives kind line text start e in
-        rw (p, e) (record { tree = t; rest = rest; draws = a .draws; behind = a .place; drawn = record-clusters t })
+        let a = accepted-derives kind threshold line text start e in
+        rw (p, e) (record { tree = t; rest = rest; draws = a .draws; behind = a .place; drawn = record-clusters (clustersRead threshold t) })
     go (refused k q) e =
-        let i = ap (λ (r : Reading). r .number) (p ∙ ap (readingOf start) e) in
-        absurd (omega (arith, fault-numbers (fault-of-refusal kind line text start k q e)))
+        let i = ap (λ (r : Reading). r .number) (p ∙ ap (readingOf threshold start) e) in
+        absurd (omega (arith, fault-numbers (fault-of-refusal kind threshold line text start k q e) .0))
 
 -- "Newick text is read": what the grammar draws, inside the limits, is not refused
 pub drawn-is-read :
-    (kind : Kind) (line text : List ℕ) (start : ℕ) (t : Tree) (rest : List ℕ) (r : Reading)
-    → Draws kind line text start t rest → Reads kind line text start r → (r .number ≡ 0) × SameClusters (listed (r .numbers)) (clusters t)
+    (kind : Kind) (threshold : Threshold) (line text : List ℕ) (start : ℕ) (t : Tree) (rest : List ℕ) (r : Reading)
+    → Draws kind threshold line text start t rest → Reads kind threshold line text start r
+    → (r .number ≡ 0) × SameClusters (listed (r .numbers)) (clustersRead threshold t)
 unfolding Reads
-drawn-is-read kind line text start t rest r d p = rw (p, derives-accepted kind line text start d) (refl, record-clusters t)
+drawn-is-read kind threshold line text start t rest r d p =
+    rw (p, derives-accepted kind threshold line text start d) (refl, record-clusters (clustersRead threshold t))
 
--- a text draws one tree at most, whatever the kind, so "the set of clusters it draws" is one set
+-- a text draws one tree at most, whatever the kind and the threshold, so "the set of clusters it draws" is one set
 pub draws-one-set :
-    (kind kind′ : Kind) (line text : List ℕ) (start : ℕ) (t t′ : Tree) (rest rest′ : List ℕ)
-    → Draws kind line text start t rest → Draws kind′ line text start t′ rest′ → SameClusters (clusters t) (clusters t′)
-draws-one-set kind kind′ line text start t t′ rest rest′ d d′ x = let e = draws-one kind kind′ line text start d d′ .value in (
-  λ m. subst (λ (u : Tree). Among x (clusters u)) e m,
-  λ m. subst (λ (u : Tree). Among x (clusters u)) (sym e) m,
-)
+    (kind kind′ : Kind) (threshold threshold′ : Threshold) (line text : List ℕ) (start : ℕ) (t t′ : Tree) (rest rest′ : List ℕ)
+    → Draws kind threshold line text start t rest → Draws kind′ threshold′ line text start t′ rest′ → SameClusters (clusters t) (clusters t′)
+draws-one-set kind kind′ threshold threshold′ line text start t t′ rest rest′ d d′ x =
+    let e = draws-one kind kind′ threshold threshold′ line text start d d′ .value in (
+      λ m. subst (λ (u : Tree). Among x (clusters u)) e m,
+      λ m. subst (λ (u : Tree). Among x (clusters u)) (sym e) m,
+    )
 
 -- ---- "and written back in one form; reading that form gives the same clusters"
 
@@ -98,10 +107,10 @@ valid-is-written line tree out r after good v room w =
 
 -- and so is every text that was read
 pub read-is-written :
-    (kind : Kind) (line text : List ℕ) (start : ℕ) (q : Reading) (out : List ℕ) (r : Reply) (after : List ℕ)
-    → Reads kind line text start q → q .number ≡ 0 → 558 ≤ length out → Writes line (q .numbers) out r after → r .number ≡ 0
-read-is-written kind line text start q out r after p z room w =
-    let v = reads-zero kind line text start p z in valid-is-written line (q .numbers) out r after (v .good) (v .gene) room w
+    (kind : Kind) (threshold : Threshold) (line text : List ℕ) (start : ℕ) (q : Reading) (out : List ℕ) (r : Reply) (after : List ℕ)
+    → Reads kind threshold line text start q → q .number ≡ 0 → 558 ≤ length out → Writes line (q .numbers) out r after → r .number ≡ 0
+read-is-written kind threshold line text start q out r after p z room w =
+    let v = reads-zero kind threshold line text start p z in valid-is-written line (q .numbers) out r after (v .good) (v .gene) room w
 
 -- a text that was written has a last byte, its `;`
 written-ends : (ns : List (List ℕ)) (r rest : List ℕ) → (1 ≤ length (written ns r)) × (getD (written ns r ++ rest) (length (written ns r) - 1) 0 ≡ 59)
@@ -118,17 +127,17 @@ written-ends ns r rest =
 module _ (line tree out : List ℕ) (r : Reply) (after : List ℕ) (q : Reading) (w : Writes line tree out r after) (z : r .number ≡ 0) where
   -- "reading that form gives the same clusters": what was written reads back to the record, to the end of the text, as either kind that has its species
   pub written-reads-back :
-      (kind : Kind) → MayHave kind (length (names line)) (largest tree) → Reads kind line (take (r .value) after) 0 q
+      (kind : Kind) → MayHave kind (length (names line)) (largest tree) → Reads kind NoThreshold line (take (r .value) after) 0 q
       → (q .number ≡ 0) × (q .next ≡ r .value) × (q .numbers ≡ tree)
   written-reads-back kind species p = rw (write-read kind w z species p) (refl, refl, refl)
 
   -- as a gene tree: always (#104)
-  pub written-reads-back-as-gene-tree : Reads Gene line (take (r .value) after) 0 q → (q .number ≡ 0) × (q .next ≡ r .value) × (q .numbers ≡ tree)
+  pub written-reads-back-as-gene-tree : Reads Gene NoThreshold line (take (r .value) after) 0 q → (q .number ≡ 0) × (q .next ≡ r .value) × (q .numbers ≡ tree)
   written-reads-back-as-gene-tree p = rw (write-read-gene w z p) (refl, refl, refl)
 
   -- as species text: where every species is there, and else "9 | `;` with a species missing | the `;`", the text's last byte (#104)
   pub written-reads-back-as-species-text :
-      Reads Species line (take (r .value) after) 0 q
+      Reads Species NoThreshold line (take (r .value) after) 0 q
       → ((largest tree ≡ whole (length (names line))) × (q .number ≡ 0) × (q .next ≡ r .value) × (q .numbers ≡ tree))
       ⊎ ((largest tree ≡ whole (length (names line)) → ⊥) × (q .number ≡ 9) × (q .place + 1 ≡ r .value) × (getD after (q .place) 0 ≡ 59))
   written-reads-back-as-species-text p = go (ℕ-discrete (largest tree) (whole (length (names line))))
@@ -150,36 +159,44 @@ module _ (line tree out : List ℕ) (r : Reply) (after : List ℕ) (q : Reading)
             ap (λ (l : List ℕ). getD l (q .place) 0) (o .bytes) ∙ ap (λ (i : ℕ). getD (text ++ drop (length text) out) i 0) place ∙ ends .1,
           )
 
--- "reading that form gives the same clusters": a text that was read, written and read again as the same kind
+-- "reading that form gives the same clusters": a text that was read, with a threshold or without, written and read again as the same kind
 pub read-written-read :
-    (kind : Kind) (line text : List ℕ) (start : ℕ) (q : Reading) (out : List ℕ) (r : Reply) (after : List ℕ) (q′ : Reading)
-    → Reads kind line text start q → q .number ≡ 0 → Writes line (q .numbers) out r after → r .number ≡ 0 → Reads kind line (take (r .value) after) 0 q′
+    (kind : Kind) (threshold : Threshold) (line text : List ℕ) (start : ℕ) (q : Reading) (out : List ℕ) (r : Reply) (after : List ℕ) (q′ : Reading)
+    → Reads kind threshold line text start q → q .number ≡ 0 → Writes line (q .numbers) out r after → r .number ≡ 0
+    → Reads kind NoThreshold line (take (r .value) after) 0 q′
     → (q′ .number ≡ 0) × SameClusters (listed (q′ .numbers)) (listed (q .numbers))
-read-written-read kind line text start q out r after q′ p z w y p′ =
-    let b = written-reads-back line (q .numbers) out r after q′ w y kind (reads-zero kind line text start p z .species) p′ in
+read-written-read kind threshold line text start q out r after q′ p z w y p′ =
+    let b = written-reads-back line (q .numbers) out r after q′ w y kind (reads-zero kind threshold line text start p z .species) p′ in
     (b .0, λ x. rw (b .2) (λ m. m, λ m. m))
+
+-- no cluster is read twice
+clusters-read-once : (threshold : Threshold) (t : Tree) → NoneTwice (leaves t) → NoneTwice (clustersRead threshold t)
+clusters-read-once NoThreshold t once = clusters-once t once
+clusters-read-once (Below amount) t once = sublist-once (left-of-all (λ b. weak (Below amount) b) t) (clusters-once t once)
 
 -- the clusters that were read say which record it is
 same-record :
-    (kind kind′ : Kind) (line text text′ : List ℕ) (start start′ : ℕ) (t t′ : Tree) (rest rest′ : List ℕ)
-    → Draws kind line text start t rest → Draws kind′ line text′ start′ t′ rest′ → SameClusters (clusters t) (clusters t′)
-    → recordOf (clusters t) ≡ recordOf (clusters t′)
-same-record kind kind′ line text text′ start start′ t t′ rest rest′ d d′ same =
-    record-same (clusters t) (recordOf (clusters t′)) (draws-gene d′ .0 .valid .form) (clusters-once t (d .once))
-    (λ x m. record-among (clusters t′) (same x .0 m)) (λ x m. same x .1 (among-record (clusters t′) m))
+    (kind kind′ : Kind) (threshold threshold′ : Threshold) (line text text′ : List ℕ) (start start′ : ℕ) (t t′ : Tree) (rest rest′ : List ℕ)
+    → Draws kind threshold line text start t rest → Draws kind′ threshold′ line text′ start′ t′ rest′
+    → SameClusters (clustersRead threshold t) (clustersRead threshold′ t′) → recordOf (clustersRead threshold t) ≡ recordOf (clustersRead threshold′ t′)
+same-record kind kind′ threshold threshold′ line text text′ start start′ t t′ rest rest′ d d′ same =
+    record-same (clustersRead threshold t) (recordOf (clustersRead threshold′ t′)) (draws-gene d′ .0 .valid .form) (clusters-read-once threshold t (d .once))
+    (λ x m. record-among (clustersRead threshold′ t′) (same x .0 m)) (λ x m. same x .1 (among-record (clustersRead threshold′ t′) m))
 
--- "written back in one form": two texts of either kind that draw the same clusters are written alike, byte for byte, into the same lent bytes
+-- "written back in one form": two texts of either kind that are read to the same clusters are written alike, byte for byte, into the same lent bytes
 pub one-form :
-    (kind kind′ : Kind) (line text text′ : List ℕ) (start start′ : ℕ) (t t′ : Tree) (rest rest′ : List ℕ) (q q′ : Reading) (out : List ℕ)
+    (kind kind′ : Kind) (threshold threshold′ : Threshold) (line text text′ : List ℕ) (start start′ : ℕ) (t t′ : Tree) (rest rest′ : List ℕ)
+    (q q′ : Reading) (out : List ℕ)
     (r r′ : Reply) (after after′ : List ℕ)
-    → Draws kind line text start t rest → Draws kind′ line text′ start′ t′ rest′ → SameClusters (clusters t) (clusters t′)
-    → Reads kind line text start q → Reads kind′ line text′ start′ q′ → Writes line (q .numbers) out r after → Writes line (q′ .numbers) out r′ after′
+    → Draws kind threshold line text start t rest → Draws kind′ threshold′ line text′ start′ t′ rest′
+    → SameClusters (clustersRead threshold t) (clustersRead threshold′ t′) → Reads kind threshold line text start q → Reads kind′ threshold′ line text′ start′ q′
+    → Writes line (q .numbers) out r after → Writes line (q′ .numbers) out r′ after′
     → (r ≡ r′) × (after ≡ after′)
 unfolding Reads
-one-form kind kind′ line text text′ start start′ t t′ rest rest′ q q′ out r r′ after after′ d d′ same p p′ w w′ =
-    let a : q .numbers ≡ recordOf (clusters t) = rw (p, derives-accepted kind line text start d) refl in
-    let a′ : q′ .numbers ≡ recordOf (clusters t′) = rw (p′, derives-accepted kind′ line text′ start′ d′) refl in
-    let e : q .numbers ≡ q′ .numbers = a ∙ same-record kind kind′ line text text′ start start′ t t′ rest rest′ d d′ same ∙ sym a′ in
+one-form kind kind′ threshold threshold′ line text text′ start start′ t t′ rest rest′ q q′ out r r′ after after′ d d′ same p p′ w w′ =
+    let a : q .numbers ≡ recordOf (clustersRead threshold t) = rw (p, derives-accepted kind threshold line text start d) refl in
+    let a′ : q′ .numbers ≡ recordOf (clustersRead threshold′ t′) = rw (p′, derives-accepted kind′ threshold′ line text′ start′ d′) refl in
+    let e : q .numbers ≡ q′ .numbers = a ∙ same-record kind kind′ threshold threshold′ line text text′ start start′ t t′ rest rest′ d d′ same ∙ sym a′ in
     writes-once w (subst (λ (tree : List ℕ). Writes line tree out r′ after′) (sym e) w′)
 
 -- ---- "The score of a species tree equals the sum, over its clusters and all gene trees, of the number of maximal gene clusters within that cluster, less one"

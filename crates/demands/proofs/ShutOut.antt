@@ -16,11 +16,16 @@ use Rattle.trees.specs.Drawn.{properly, maximal, placed, byLowest, children, dr
 use Rattle.trees.specs.Lists.{keep, some, insert, sorted, pieces, total, upTo}
 use Rattle.trees.specs.Records.{recordOf}
 use Rattle.trees.specs.Tree.{cluster, clusters}
+use Rattle.trees.specs.Thinned.{leftBelow, clustersLeft}
 use Rattle.trees.specs.Valid.{every, among, rising, singlesFrom, nested, valid, validGene, binary}
 use Rattle.roster.specs.Roster.{same, position, inQuotes, begins, beginnings, nameAt, names, strayAt, longAt, manyAt, againAt, openAt, faultAt, least, firstFault, faulty}
 use Rattle.roster.specs.Judged.{Judged}
 use Rattle.roster.specs.Verdict.{verdict, lengthTest}
 use Rattle.roster.specs.declared.Reply.{Reply}
+use Rattle.tokens.specs.declared.answer.Threshold.{Threshold}
+use Rattle.tokens.specs.declared.answer.Threshold.the-variants.{NoThreshold, Below}
+use Rattle.tokens.specs.Supports.{supported}
+use Rattle.tokens.specs.Values.{leading, decimals, writtenBehind, written as writes, filled, tooFine, thousandths}
 use Rattle.tokens.specs.Tokens.{blanks, skip, number, numberBehind, numbers, name, innerName}
 use Rattle.reader.specs.Promise.{answerTo, Reads}
 use Rattle.nodes.specs.Reading.{leafBy, closingBy, readTreeToBy, readTreeBy, readNodeBy}
@@ -71,24 +76,43 @@ unfolding a-line Judged run bareLetters letters lettersFrom doubled rawTo told u
     longAt manyAt againAt openAt faultAt least firstFault faulty keep some nextIs
 judge-a r p = p
 
-read-a : (kind : Kind) (r : Reading) → Reads kind a-line a-text 0 r → r ≡ record { number = 0; place = 0; next = 2; numbers = a-record }
+read-a :
+    (kind : Kind) (threshold : Threshold) (r : Reading) → Reads kind threshold a-line a-text 0 r
+    → r ≡ record { number = 0; place = 0; next = 2; numbers = a-record }
 unfolding a-line a-text a-record Reads ones onesIn trailingZeros whole single union has within apart size lowest answerTo leafBy closingBy
-    readTreeToBy readTreeBy readNodeBy nextIs nextLabel blanks skip number numberBehind numbers name innerName run bareLetters letters lettersFrom
+    readTreeToBy readTreeBy readNodeBy nextIs nextLabel blanks skip number numberBehind numbers supported name innerName run bareLetters letters lettersFrom
     doubled rawTo told padded upTo same position inQuotes begins beginnings nameAt names strayAt longAt manyAt againAt openAt faultAt least firstFault
-    faulty keep some insert sorted recordOf cluster clusters
-read-a Species r p = p
-read-a Gene r p = p
+    faulty keep some insert sorted recordOf cluster clusters clustersLeft tooFine decimals leading
+read-a Species NoThreshold r p = p
+read-a Species (Below amount) r p = p
+read-a Gene NoThreshold r p = p
+read-a Gene (Below amount) r p = p
 
 -- roster `a b`, of which `a;` has one species: a gene tree, but no species tree
 ab-line : List ℕ
 ab-line = 97 ∷ 32 ∷ 98 ∷ []
 
-read-a-of-two : (r : Reading) → Reads Species ab-line a-text 0 r → Reads Gene ab-line a-text 0 r → ⊥
+read-a-of-two : (r : Reading) → Reads Species NoThreshold ab-line a-text 0 r → Reads Gene NoThreshold ab-line a-text 0 r → ⊥
 unfolding ab-line a-text Reads ones onesIn trailingZeros whole single union has within apart size lowest answerTo leafBy closingBy readTreeToBy
-    readTreeBy readNodeBy nextIs nextLabel blanks skip number numberBehind numbers name innerName run bareLetters letters lettersFrom doubled rawTo
+    readTreeBy readNodeBy nextIs nextLabel blanks skip number numberBehind numbers supported name innerName run bareLetters letters lettersFrom doubled rawTo
     told padded upTo same position inQuotes begins beginnings nameAt names strayAt longAt manyAt againAt openAt faultAt least firstFault faulty keep
     some insert sorted recordOf cluster clusters
 read-a-of-two r p q = omega (arith, ap (λ (r : Reading). r .number) (sym p ∙ q))
+
+-- roster `a b c`, and `((a,b)::0.5,c);`, which loses a cluster at 501 thousandths and not at 500
+abc-line : List ℕ
+abc-line = 97 ∷ 32 ∷ 98 ∷ 32 ∷ 99 ∷ []
+
+half-text : List ℕ
+half-text = 40 ∷ 40 ∷ 97 ∷ 44 ∷ 98 ∷ 41 ∷ 58 ∷ 58 ∷ 48 ∷ 46 ∷ 53 ∷ 44 ∷ 99 ∷ 41 ∷ 59 ∷ []
+
+read-half : (kind : Kind) (r : Reading) → Reads kind (Below 500) abc-line half-text 0 r → Reads kind (Below 501) abc-line half-text 0 r → ⊥
+unfolding abc-line half-text Reads ones onesIn trailingZeros whole single union has within apart size lowest answerTo leafBy closingBy readTreeToBy
+    readTreeBy readNodeBy nextIs nextLabel blanks skip number numberBehind numbers supported name innerName run bareLetters letters lettersFrom doubled rawTo
+    told padded upTo same position inQuotes begins beginnings nameAt names strayAt longAt manyAt againAt openAt faultAt least firstFault faulty keep
+    some insert sorted recordOf cluster clusters clustersLeft leftBelow tooFine decimals leading thousandths writtenBehind writes filled
+read-half Species r p q = omega (arith, ap (λ (r : Reading). getD (r .numbers) 0 0) (sym p ∙ q))
+read-half Gene r p q = omega (arith, ap (λ (r : Reading). getD (r .numbers) 0 0) (sym p ∙ q))
 
 write-a : (r : Reply) (after : List ℕ) → Writes a-line a-record room r after → (r ≡ record { number = 0; place = 0; value = 2 }) × (after ≡ a-text)
 unfolding a-line a-text a-record room ones onesIn trailingZeros whole single union has within apart size lowest run bareLetters letters lettersFrom
@@ -168,14 +192,14 @@ unfolding a-input lineLength firstLine behindLine endsInFeed modePlace treesPlac
     trailingZeros whole single union has within apart size lowest keep some insert sorted recordOf properly maximal every among rising singlesFrom
     nested valid validGene binary verdict lengthTest kOf extra total weight score pieces speciesTest countTest firstBad recordsTest shown marks upTo
     least clustersIn isLow lows each forks treesTo treesOn those all scoreOf treesOver leastTrees best allowedIn bestFor answerTo leafBy closingBy
-    readTreeToBy readTreeBy readNodeBy nextIs nextLabel blanks skip number numberBehind numbers name innerName run bareLetters letters lettersFrom
+    readTreeToBy readTreeBy readNodeBy nextIs nextLabel blanks skip number numberBehind numbers supported name innerName run bareLetters letters lettersFrom
     doubled rawTo told padded same position inQuotes begins beginnings nameAt names strayAt longAt manyAt againAt openAt faultAt firstFault faulty
     cluster clusters placed byLowest children drawnTo drawn treeText written nodeText labelOf mayBeBare
 a-output = refl
 
 no-output : output [] ≡ refusedText ++ 49 ∷ atText ++ 48 ∷ 10 ∷ []
 unfolding lineLength firstLine behindLine endsInFeed modePlace treesPlace gatherTo walk gather searched program digitsTo decimal output answerTo leafBy
-    closingBy readTreeToBy readTreeBy readNodeBy nextIs nextLabel blanks skip number numberBehind numbers name innerName run bareLetters letters
+    closingBy readTreeToBy readTreeBy readNodeBy nextIs nextLabel blanks skip number numberBehind numbers supported name innerName run bareLetters letters
     lettersFrom doubled rawTo told padded same position inQuotes begins beginnings nameAt names strayAt longAt manyAt againAt openAt faultAt
     firstFault faulty cluster clusters upTo least keep some
 no-output = refl
@@ -205,6 +229,14 @@ ab-c-handed = record { numbers = slice-told (2 ^ 16) ab-c refl (omega arith); th
 to-read-a-of-two : ToRead ab-line a-text 0
 unfolding ab-line every
 to-read-a-of-two = record { line-bytes = slice-told (2 ^ 8) ab-line refl (omega arith); text-bytes = a-text-handed; start-size = omega arith }
+
+to-read-half : ToRead abc-line half-text 0
+unfolding abc-line half-text every
+to-read-half = record {
+  line-bytes = slice-told (2 ^ 8) abc-line refl (omega arith);
+  text-bytes = slice-told (2 ^ 8) half-text refl (omega arith);
+  start-size = omega arith;
+}
 
 to-read-a : ToRead a-line a-text 0
 to-read-a = record { line-bytes = a-line-handed; text-bytes = a-text-handed; start-size = omega arith }
@@ -275,11 +307,11 @@ module _ (f : List ℕ → Reply) (meets : (line : List ℕ) → Bytes line → 
 
 -- ---- reading
 
--- either kind
-module _ (kind : Kind) (f : List ℕ → List ℕ → ℕ → Reading)
-    (meets : (line text : List ℕ) (start : ℕ) → ToRead line text start → Reads kind line text start (f line text start)) where
+-- either kind, with every threshold and without one
+module _ (kind : Kind) (threshold : Threshold) (f : List ℕ → List ℕ → ℕ → Reading)
+    (meets : (line text : List ℕ) (start : ℕ) → ToRead line text start → Reads kind threshold line text start (f line text start)) where
   read-of-a : f a-line a-text 0 ≡ record { number = 0; place = 0; next = 2; numbers = a-record }
-  read-of-a = read-a kind (f a-line a-text 0) (meets a-line a-text 0 to-read-a)
+  read-of-a = read-a kind threshold (f a-line a-text 0) (meets a-line a-text 0 to-read-a)
 
   -- "one that turns everything away (demand 2 for reading ..)"
   pub read-does-not-refuse-all : ((line text : List ℕ) (start : ℕ) → ToRead line text start → f line text start .number ≡ 0 → ⊥) → ⊥
@@ -292,10 +324,17 @@ module _ (kind : Kind) (f : List ℕ → List ℕ → ℕ → Reading)
 -- "so the reading call is told the kind" (#104): without it, no function meets both promises
 pub reading-is-told-the-kind :
     (f : List ℕ → List ℕ → ℕ → Reading)
-    → ((line text : List ℕ) (start : ℕ) → ToRead line text start → Reads Species line text start (f line text start))
-    → ((line text : List ℕ) (start : ℕ) → ToRead line text start → Reads Gene line text start (f line text start)) → ⊥
+    → ((line text : List ℕ) (start : ℕ) → ToRead line text start → Reads Species NoThreshold line text start (f line text start))
+    → ((line text : List ℕ) (start : ℕ) → ToRead line text start → Reads Gene NoThreshold line text start (f line text start)) → ⊥
 reading-is-told-the-kind f species gene =
     read-a-of-two (f ab-line a-text 0) (species ab-line a-text 0 to-read-a-of-two) (gene ab-line a-text 0 to-read-a-of-two)
+
+-- "Reading may be given a threshold" (#113): nor without being told which
+pub reading-is-told-the-threshold :
+    (kind : Kind) (f : List ℕ → List ℕ → ℕ → Reading)
+    → ((threshold : Threshold) (line text : List ℕ) (start : ℕ) → ToRead line text start → Reads kind threshold line text start (f line text start)) → ⊥
+reading-is-told-the-threshold kind f meets =
+    read-half kind (f abc-line half-text 0) (meets (Below 500) abc-line half-text 0 to-read-half) (meets (Below 501) abc-line half-text 0 to-read-half)
 
 -- ---- writing
 

@@ -13,6 +13,7 @@ use Rattle.trees.proofs.GeneRecords.{gene-of-species, largest-of-valid}
 use Rattle.roster.specs.Roster.{names, faulty}
 use Rattle.roster.specs.Judged.{speciesMost}
 use Rattle.roster.proofs.Names.{names-count}
+use Rattle.tokens.specs.declared.answer.Threshold.the-variants.{NoThreshold}
 use Rattle.reader.specs.Promise.{Reads}
 use Rattle.reader.specs.Accepted.{MayHave}
 use Rattle.reader.specs.declared.Kind.{Kind}
@@ -71,7 +72,7 @@ mode-word false = inr refl
 -- the text of a species record is read back as species text, and as a gene tree too
 species-reads-back :
     (line : List ℕ) {r : List ℕ} → faulty speciesMost line ≡ false → SpeciesValid (length (names line)) r → (kind : Kind) {q : Reading}
-    → Reads kind line (written (names line) r) 0 q → q ≡ record { number = 0; place = 0; next = length (written (names line) r); numbers = r }
+    → Reads kind NoThreshold line (written (names line) r) 0 q → q ≡ record { number = 0; place = 0; next = length (written (names line) r); numbers = r }
 species-reads-back line {r} good v kind h = reads-back line good gene kind (species kind) h
   where
     gene : GeneValid (length (names line)) r

@@ -1,6 +1,6 @@
--- 01's table "Examples on both sides": what a row says, and when it holds.
+-- 01's table "Examples on both sides", and rows of later requests: what a row says, and when it holds.
 use Prim.Native.Nat.{ℕ, zero, suc, _^_}
-use mathlib.Core.Bool.{Bool, true, _&&_}
+use mathlib.Core.Bool.{Bool, true, false, _&&_}
 use mathlib.Core.List.{List, [], _∷_, map}
 use lib.ListN.{length, replicate}
 use lib.Dec.{eqb}
@@ -9,9 +9,14 @@ use Rattle.trees.specs.Records.{listed}
 use Rattle.trees.specs.Valid.{among}
 use Rattle.roster.specs.Roster.{names, same}
 use Rattle.trees.specs.Lists.{upTo}
+use Rattle.tokens.specs.Values.{thousandths}
+use Rattle.tokens.specs.declared.answer.Value.{Value}
+use Rattle.tokens.specs.declared.answer.Value.the-variants.{Thousandths, NoValue}
+use Rattle.tokens.specs.declared.answer.Threshold.the-variants.{NoThreshold, Below}
 use Rattle.reader.specs.Promise.{answerTo, readingOf}
 use Rattle.reader.specs.declared.Kind.{Kind}
 use Rattle.reader.specs.declared.Kind.the-variants.{Species, Gene}
+use Rattle.reader.specs.declared.Reading.{Reading}
 use Rattle.texts.specs.Writing.{written}
 use Rattle.weights.specs.Count.{kOf, score}
 use Rattle.lineages.specs.Promise.{marks}
@@ -25,16 +30,19 @@ pub data Allowed : Type 0 where
   own : Allowed
   only : List ℕ → Allowed
 
--- a row: a text's record, all 32 numbers of it; k of a cluster in a tree; a gene tree scored on a species tree; gene trees searched. The first part is the roster
+-- a row: a text's record, all 32 numbers of it; k of a cluster in a tree; a gene tree scored on a species tree; gene trees searched. The first part is the roster.
+-- A gene tree read on a roster with a threshold: number, place and record; what a number's bytes are worth (#113)
 pub data Row : Type 0 where
   recorded : List ℕ → List ℕ → List ℕ → Row
   counted : List ℕ → List ℕ → ℕ → ℕ → Row
   scored : List ℕ → List ℕ → List ℕ → ℕ → Row
   searched : List ℕ → List (List ℕ) → Allowed → ℕ → ℕ → List ℕ → Row
+  readBelow : List ℕ → List ℕ → ℕ → ℕ → ℕ → List ℕ → Row
+  valued : List ℕ → Value → Row
 
 -- the record that a text of the kind reads to
 unfoldable pub recordIn : Kind → List ℕ → List ℕ → List ℕ
-recordIn kind line text = readingOf 0 (answerTo kind line text 0) .numbers
+recordIn kind line text = readingOf NoThreshold 0 (answerTo kind NoThreshold line text 0) .numbers
 
 -- the allowed set as bytes
 abbrev pub bytesOf : Allowed → ℕ → List (List ℕ) → List ℕ
@@ -52,9 +60,20 @@ unfoldable pub foundIn : List ℕ → List (List ℕ) → Allowed → Found
 foundIn line genes allowed =
     foundBy (bestFor (length (names line)) genes (bytesOf allowed (length (names line)) genes) (whole (length (names line)))) genes
 
+-- two values are the same
+abbrev pub sameValue : Value → Value → Bool
+sameValue NoValue NoValue = true
+sameValue NoValue (Thousandths n) = false
+sameValue (Thousandths m) NoValue = false
+sameValue (Thousandths m) (Thousandths n) = eqb m n
+
+-- what a text reads to as a gene tree with a threshold
+unfoldable pub readingBelow : ℕ → List ℕ → List ℕ → Reading
+readingBelow amount line text = readingOf (Below amount) 0 (answerTo Gene (Below amount) line text 0)
+
 -- the row says what the definitions give
 unfoldable pub holds : Row → Bool
-unfolding recordIn foundIn
+unfolding recordIn foundIn readingBelow
 holds (recorded line text numbers) = same (recordIn Species line text) numbers
 holds (counted line text a k) = eqb (kOf (listed (recordIn Gene line text)) a) k
 holds (scored line gene species s) = eqb (score (recordIn Gene line gene ∷ []) (recordIn Species line species)) s
@@ -65,6 +84,10 @@ holds (searched line genes allowed number s text) =
     && same
     (textBy (foundIn line (map (recordIn Gene line) genes) allowed .number) line (foundIn line (map (recordIn Gene line) genes) allowed .numbers))
     text
+holds (readBelow line text amount number place numbers) =
+    eqb (readingBelow amount line text .number) number && eqb (readingBelow amount line text .place) place
+    && same (readingBelow amount line text .numbers) numbers
+holds (valued bytes value) = sameValue (thousandths bytes) value
 
 -- every row of a table holds
 unfoldable pub allHold : List Row → Bool

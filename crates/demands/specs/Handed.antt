@@ -31,7 +31,7 @@ pub record AnyRecord (r : List ℕ) : Type 0 where
   pub numbers : Numbers r
   pub thirty-two : length r ≡ 32
 
--- what is handed over for reading, as either kind
+-- what is handed over for reading, as either kind, with any threshold or without one
 pub record ToRead (line text : List ℕ) (start : ℕ) : Type 0 where
   pub line-bytes : Bytes line
   pub text-bytes : Bytes text

@@ -10,6 +10,7 @@ use Rattle.trees.specs.Lists.{Among}
 use Rattle.trees.specs.Tree.{Tree, clusters}
 use Rattle.roster.specs.Roster.{names, faulty}
 use Rattle.roster.specs.Judged.{speciesMost}
+use Rattle.tokens.specs.declared.answer.Threshold.the-variants.{NoThreshold}
 use Rattle.nodes.specs.Grammar.{Blanks}
 use Rattle.reader.specs.Promise.{textMost}
 use Rattle.reader.specs.declared.Kind.the-variants.{Gene}
@@ -23,7 +24,7 @@ pub data TreesTo (line text : List ℕ) : List Tree → ℕ → Type 0 where
   no-tree-yet : TreesTo line text [] 0
   one-more :
       {trees : List Tree} {at next : ℕ} {t : Tree} {rest : List ℕ}
-      → TreesTo line text trees at → Draws Gene line text at t rest → JustBehind text at rest next → TreesTo line text (trees ++ (t ∷ [])) next
+      → TreesTo line text trees at → Draws Gene NoThreshold line text at t rest → JustBehind text at rest next → TreesTo line text (trees ++ (t ∷ [])) next
 
 -- "then trees until only blanks remain"
 pub record TreesStand (line text : List ℕ) (trees : List Tree) : Type 0 where

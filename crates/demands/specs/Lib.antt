@@ -13,3 +13,4 @@ pub mod ProgramFaults
 pub mod Deciding
 pub mod Lots
 pub mod Letters
+pub mod Thresholds

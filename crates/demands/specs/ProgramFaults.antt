@@ -7,6 +7,7 @@ use lib.ListN.{length, getD, drop}
 use Rattle.labels.specs.Bytes.{isBlank}
 use Rattle.trees.specs.Tree.{Tree}
 use Rattle.roster.specs.Roster.{names}
+use Rattle.tokens.specs.declared.answer.Threshold.the-variants.{NoThreshold}
 use Rattle.nodes.specs.Grammar.{Blanks}
 use Rattle.reader.specs.Promise.{textMost, Reads}
 use Rattle.reader.specs.declared.Kind.the-variants.{Gene}
@@ -48,7 +49,8 @@ pub record MoreBehind (line text : List ℕ) (trees : List Tree) (b : ℕ) : Typ
 pub data TreesFault (line text : List ℕ) (shift : ℕ) : ℕ → ℕ → Type 0 where
   -- behind fewer than 512 trees stands what the reader refuses as a gene tree
   refused-tree :
-      {trees : List Tree} {b : ℕ} (r : Reading) → MoreBehind line text trees b → length trees < genesMost → Reads Gene line text b r → (r .number ≡ 0 → ⊥)
+      {trees : List Tree} {b : ℕ} (r : Reading) → MoreBehind line text trees b → length trees < genesMost
+      → Reads Gene NoThreshold line text b r → (r .number ≡ 0 → ⊥)
       → TreesFault line text shift (r .number) (shift + r .place)
   -- "a 513th tree is 17 at its first byte that is no blank, before it is read"
   tree-513 : {trees : List Tree} {b : ℕ} → MoreBehind line text trees b → length trees ≡ genesMost → TreesFault line text shift 17 (shift + b)

@@ -8,6 +8,7 @@ use Rattle.trees.specs.Lists.{Among}
 use Rattle.trees.specs.Tree.{Tree}
 use Rattle.trees.specs.Records.{listed, SpeciesValid, BinaryOn}
 use Rattle.roster.specs.Roster.{names}
+use Rattle.tokens.specs.declared.answer.Threshold.the-variants.{NoThreshold}
 use Rattle.reader.specs.Promise.{Reads}
 use Rattle.reader.specs.declared.Kind.{Kind}
 use Rattle.reader.specs.declared.Reading.{Reading}
@@ -57,7 +58,7 @@ pub record Signed (input : List ℕ) (n m s : ℕ) (r : List ℕ) : Type 0 where
   pub least : (c : List ℕ) → Eligible n mode trees c → s ≤ scoreOver trees c
   -- its text, read on the roster as either kind, gives that very tree
   pub reads-back :
-      (kind : Kind) (q : Reading) → Reads kind line (written (names line) r) 0 q
+      (kind : Kind) (q : Reading) → Reads kind NoThreshold line (written (names line) r) 0 q
       → q ≡ record { number = 0; place = 0; next = length (written (names line) r); numbers = r }
   -- and the output is three lines: species and gene trees, the score, the tree
   pub lines :

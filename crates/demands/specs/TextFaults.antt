@@ -6,22 +6,24 @@ use mathlib.Core.List.{List}
 use lib.ListN.{length, drop}
 use Rattle.roster.specs.Roster.{names, faulty}
 use Rattle.roster.specs.Judged.{speciesMost}
+use Rattle.tokens.specs.Supports.{isGiven}
+use Rattle.tokens.specs.declared.answer.Threshold.{Threshold}
 use Rattle.reader.specs.Promise.{textMost, needed}
 use Rattle.reader.specs.declared.Kind.{Kind}
 use Rattle.meanings.specs.Meaning.{Refusal}
 use Rattle.demands.specs.CallFaults.{RosterFault}
 
--- the fault of a text that is read from start on as a tree of the kind, by the number and the place that are given for it
-pub data TextFault (kind : Kind) (line text : List ℕ) (start : ℕ) : ℕ → ℕ → Type 0 where
+-- the fault of a text that is read from start on as a tree of the kind, with the threshold or without one, by the number and the place that are given for it
+pub data TextFault (kind : Kind) (threshold : Threshold) (line text : List ℕ) (start : ℕ) : ℕ → ℕ → Type 0 where
   -- "1 | roster faulty | first byte at fault"
-  of-roster : {number place : ℕ} → RosterFault line number place → TextFault kind line text start number place
+  of-roster : {number place : ℕ} → RosterFault line number place → TextFault kind threshold line text start number place
   -- "2 | text over 65,536 bytes | 65,536"
-  too-long : faulty speciesMost line ≡ false → textMost < length text → TextFault kind line text start 2 textMost
+  too-long : faulty speciesMost line ≡ false → textMost < length text → TextFault kind threshold line text start 2 textMost
   -- "A start beyond the text gives 10": "text length"
-  beyond : faulty speciesMost line ≡ false → length text ≤ textMost → length text < start → TextFault kind line text start 10 (length text)
-  -- 3 to 10 "as met", with what each says of the text; 9 is for a species that the kind needs (#104)
+  beyond : faulty speciesMost line ≡ false → length text ≤ textMost → length text < start → TextFault kind threshold line text start 10 (length text)
+  -- 3 to 10 "as met", with what each says of the text; 9 is for a species that the kind needs (#104), and 18 is said "only where a threshold is given" (#113)
   as-met :
       {number place : ℕ}
       → faulty speciesMost line ≡ false → length text ≤ textMost → start ≤ length text
-      → Refusal (names line) (needed kind (length (names line))) (drop start text) start number place
-      → TextFault kind line text start number place
+      → Refusal (isGiven threshold) (names line) (needed kind (length (names line))) (drop start text) start number place
+      → TextFault kind threshold line text start number place

@@ -9,6 +9,7 @@ use lib.Seq.{sets, length-sets}
 use lib.Dec.{leb}
 use borrow.Author.Tests.{le-leb, lt-leb, leb-false}
 use Rattle.trees.specs.Lists.{pieces}
+use Rattle.tokens.specs.declared.answer.Threshold.the-variants.{NoThreshold}
 use Rattle.reader.specs.Promise.{answerTo, readingOf, Reads}
 use Rattle.reader.specs.declared.Kind.the-variants.{Gene}
 use Rattle.reader.specs.declared.Reading.{Reading}
@@ -45,7 +46,7 @@ module _ (line trees : List ℕ) where
 
     -- a tree is refused
     pub left-refused :
-        (r : Reading) → p < length trees → length genes < 512 → Reads Gene line trees p r → (r .number ≡ 0 → ⊥)
+        (r : Reading) → p < length trees → length genes < 512 → Reads Gene NoThreshold line trees p r → (r .number ≡ 0 → ⊥)
         → leftFrom k genes p ≡ halted genes (r .number) (r .place)
     unfolding leftFrom Reads
     left-refused r h l e some = rw (lt-leb (length trees) p h, lt-leb 512 (length genes) l, ← e) (go (r .number) refl)
@@ -59,7 +60,7 @@ module _ (line trees : List ℕ) where
   -- a tree is read
   pub left-read :
       (k : ℕ) (genes : List (List ℕ)) (p : ℕ) (r : Reading)
-      → p < length trees → length genes < 512 → Reads Gene line trees p r → r .number ≡ 0
+      → p < length trees → length genes < 512 → Reads Gene NoThreshold line trees p r → r .number ≡ 0
       → leftFrom (suc k) genes p ≡ leftFrom k (genes ++ (r .numbers ∷ [])) (begun trees (r .next))
   unfolding leftFrom Reads gatherTo
   left-read k genes p r h l e z = rw (lt-leb (length trees) p h, lt-leb 512 (length genes) l, ← e, z)
@@ -101,7 +102,7 @@ module _ {line trees lent : List ℕ} {count : ℕ} {genes : List ℕ} {at : ℕ
   left-full h e =
       answers (stopped 17 at) (sym (left-many line trees (513 - count) (recordsIn count genes) at h (length-recordsIn count genes ∙ e)) ∙ now .same) refl
 
-  module _ (r : Reading) (inside : at < length trees) (room : count ≡ 512 → ⊥) (read : Reads Gene line trees at r) where
+  module _ (r : Reading) (inside : at < length trees) (room : count ≡ 512 → ⊥) (read : Reads Gene NoThreshold line trees at r) where
     below : length (recordsIn count genes) < 512
     below = omega (arith, length-recordsIn count genes, now .few, room)
 
@@ -154,7 +155,9 @@ module _ (line trees : List ℕ) where
           → gatherAt b line trees genes p (λ numbers at. gatherTo k line trees (genes ++ (numbers ∷ [])) at)
           ≡ gatherAt b line trees genes p (λ numbers at. gatherTo k′ line trees (genes ++ (numbers ∷ [])) at)
       same-at true e = refl
-      same-at false e = same-on (leb-false 512 (length genes) e) (readingOf p (answerTo Gene line trees p) .number) (readingOf p (answerTo Gene line trees p))
+      same-at false e =
+          same-on (leb-false 512 (length genes) e) (readingOf NoThreshold p (answerTo Gene NoThreshold line trees p) .number)
+          (readingOf NoThreshold p (answerTo Gene NoThreshold line trees p))
 
       same-more :
           (b : Bool)

@@ -4,7 +4,7 @@ use mathlib.Core.Path.{_≡_, refl, sym, ap, _∙_, subst}
 use mathlib.Core.Bool.{Bool, true, false}
 use mathlib.Core.Logic.{⊎-elim}
 use mathlib.Core.List.{List, [], _∷_, _++_, List·Memᴰ, List·Memᴰ·append-cases, List·Memᴰ·eq-of-singleton, List·Memᴰ·not-nil}
-use native.Mathlib.Decide.{decLe}
+use native.Mathlib.Decide.{ℕ-discrete}
 use native.Mathlib.Nat.{le-of-lt, le-of-eq}
 use native.Mathlib.Omega.{arith}
 use lib.ListN.{length, drop, length-append, length-drop}
@@ -14,6 +14,7 @@ use Rattle.trees.specs.Tree.{Tree, clusters}
 use Rattle.trees.specs.Records.{GeneValid, recordOf, AllValid}
 use Rattle.roster.specs.Roster.{names, faulty}
 use Rattle.roster.specs.Judged.{speciesMost}
+use Rattle.tokens.specs.declared.answer.Threshold.the-variants.{NoThreshold}
 use Rattle.tokens.specs.Answers.{Answer}
 use Rattle.tokens.specs.Answers.Answer.{parsed, refused as refusedAt}
 use Rattle.nodes.specs.Reading.{readTree}
@@ -39,13 +40,13 @@ Holds R Q (stopped number place) = Q number place
 pub record Turns (line trees : List ℕ) (P : List (List ℕ) → ℕ → Type 0) (R : List (List ℕ) → Type 0) (Q : ℕ → ℕ → Type 0) : Type 0 where
   pub begins : P [] 0
   pub reads :
-      {genes : List (List ℕ)} {at : ℕ} {t : Tree} {rest : List ℕ} {q : ℕ} → P genes at → answerTo Gene line trees (begun trees at) ≡ parsed t rest q
+      {genes : List (List ℕ)} {at : ℕ} {t : Tree} {rest : List ℕ} {q : ℕ} → P genes at → answerTo Gene NoThreshold line trees (begun trees at) ≡ parsed t rest q
       → P (genes ++ (recordOf (clusters t) ∷ [])) q
   pub ends : {genes : List (List ℕ)} {at : ℕ} → P genes at → length genes ≤ genesMost → length trees ≤ begun trees at → R genes
   pub many : {genes : List (List ℕ)} {at : ℕ} → P genes at → length genes ≡ genesMost → begun trees at < length trees → Q 17 (begun trees at)
   pub refuses :
       {genes : List (List ℕ)} {at number place : ℕ} → P genes at → length genes < genesMost → begun trees at < length trees
-      → answerTo Gene line trees (begun trees at) ≡ refusedAt number place → Q number place
+      → answerTo Gene NoThreshold line trees (begun trees at) ≡ refusedAt number place → Q number place
 
 module _ {line trees : List ℕ} {P : List (List ℕ) → ℕ → Type 0} {R : List (List ℕ) → Type 0} {Q : ℕ → ℕ → Type 0} (turns : Turns line trees P R Q) where
   -- k more turns are enough
@@ -58,17 +59,17 @@ module _ {line trees : List ℕ} {P : List (List ℕ) → ℕ → Type 0} {R : L
     next numbers at = gatherTo k line trees (genes ++ (numbers ∷ [])) at
 
     answered :
-        begun trees at < length trees → length genes < genesMost → (a : Answer Tree) → answerTo Gene line trees (begun trees at) ≡ a
-        → Holds R Q (gatherOn (readingOf (begun trees at) a .number) (readingOf (begun trees at) a) genes next .says)
+        begun trees at < length trees → length genes < genesMost → (a : Answer Tree) → answerTo Gene NoThreshold line trees (begun trees at) ≡ a
+        → Holds R Q (gatherOn (readingOf NoThreshold (begun trees at) a .number) (readingOf NoThreshold (begun trees at) a) genes next .says)
     answered inside room (parsed t rest q) e =
         let l = length-append genes (recordOf (clusters t) ∷ []) in
         later (genes ++ (recordOf (clusters t) ∷ [])) q (omega arith) (omega arith) (turns .reads now e)
-    answered inside room (refusedAt zero q) e = absurd (omega (arith, refusal-some Gene line trees (begun trees at) e))
+    answered inside room (refusedAt zero q) e = absurd (omega (arith, refusal-some Gene NoThreshold line trees (begun trees at) e))
     answered inside room (refusedAt (suc number) q) e = turns .refuses now room inside e
 
     room : begun trees at < length trees → (b : Bool) → leb genesMost (length genes) ≡ b → Holds R Q (gatherAt b line trees genes (begun trees at) next .says)
     room inside true e = let full = leb-true genesMost (length genes) e in turns .many now (omega arith) inside
-    room inside false e = answered inside (leb-false genesMost (length genes) e) (answerTo Gene line trees (begun trees at)) refl
+    room inside false e = answered inside (leb-false genesMost (length genes) e) (answerTo Gene NoThreshold line trees (begun trees at)) refl
 
     turned : (b : Bool) → leb (length trees) (begun trees at) ≡ b → Holds R Q (gatherMore b line trees genes (begun trees at) next .says)
     turned true e = turns .ends now few (leb-true (length trees) (begun trees at) e)
@@ -91,11 +92,9 @@ module _ {line trees : List ℕ} {P : List (List ℕ) → ℕ → Type 0} {R : L
 
 -- ---- the place of a refusal, and one more valid record
 
-byte-within : {ns : List (List ℕ)} {needed : ℕ} {s : List ℕ} {d number : ℕ} → Means ns needed s d number → Dec (number ≤ 9) → d ≤ length s
-byte-within {ns} {needed} {s} {d} m (yes h) = le-of-lt (refusal-inside m h)
-byte-within {ns} {needed} {s} {d} {number} m (no h) =
-    let ten : number ≡ 10 = omega (arith, refusal-numbers m .1) in
-    le-of-eq (says-10 (subst (Means ns needed s d) ten m) .end)
+byte-within : {ns : List (List ℕ)} {needed : ℕ} {s : List ℕ} {d number : ℕ} → Means false ns needed s d number → Dec (number ≡ 10) → d ≤ length s
+byte-within {ns} {needed} {s} {d} m (yes ten) = le-of-eq (says-10 false (subst (Means false ns needed s d) ten m) .end)
+byte-within m (no other) = le-of-lt (refusal-inside false m other)
 
 among :
     (n : ℕ) (genes : List (List ℕ)) (r : List ℕ) → AllValid n genes → GeneValid n r
@@ -107,22 +106,22 @@ among n genes r all one g m =
 
 -- a tree that is read has a valid gene record
 read-valid :
-    (line trees : List ℕ) (p : ℕ) {t : Tree} {rest : List ℕ} {q : ℕ} → answerTo Gene line trees p ≡ parsed t rest q
+    (line trees : List ℕ) (p : ℕ) {t : Tree} {rest : List ℕ} {q : ℕ} → answerTo Gene NoThreshold line trees p ≡ parsed t rest q
     → GeneValid (length (names line)) (recordOf (clusters t))
-read-valid line trees p e = draws-gene (accepted-derives Gene line trees p e .draws) .0
+read-valid line trees p e = draws-gene (accepted-derives Gene NoThreshold line trees p e .draws) .0
 
 module _ (line trees : List ℕ) (good : faulty speciesMost line ≡ false) where
   -- one that is refused has a number from 3 on, and its place lies in the text
   refused-inside :
-      (p : ℕ) {number q : ℕ} → length trees ≤ textMost → p < length trees → answerTo Gene line trees p ≡ refusedAt number q → (3 ≤ number) × (q ≤ length trees)
+      (p : ℕ) {number q : ℕ} → length trees ≤ textMost → p < length trees → answerTo Gene NoThreshold line trees p ≡ refusedAt number q → (3 ≤ number) × (q ≤ length trees)
   unfolding answerTo
   refused-inside p {number} {q} short inside e =
-      let read : readTree (names line) 0 (drop p trees) p ≡ refusedAt number q =
+      let read : readTree false (names line) 0 (drop p trees) p ≡ refusedAt number q =
       rw (good, le-leb (length trees) textMost short, le-leb p (length trees) (omega arith)) at e
       in
-      let r = refusal-said (names line) 0 (drop p trees) p read in
-      let d = byte-within (r .means) (decLe number 9) in
-      (refusal-numbers (r .means) .0, omega (arith, r .place, length-drop p trees))
+      let r = refusal-said false (names line) 0 (drop p trees) p read in
+      let d = byte-within (r .means) (ℕ-discrete number 10) in
+      (refusal-numbers false (r .means) .0, omega (arith, r .place, length-drop p trees))
 
 -- ---- all of them
 
@@ -158,5 +157,5 @@ stopped-never-nine line trees e = stopped-so turns e
       reads = λ now e. tt;
       ends = λ now few none. tt;
       many = λ now full inside nine. omega arith;
-      refuses = λ {genes} {at} {number} {place} now room inside e nine. gene-never-nine line trees (begun trees at) (e ∙ ap (λ (m : ℕ). refusedAt m place) nine);
+      refuses = λ {genes} {at} {number} {place} now room inside e nine. gene-never-nine NoThreshold line trees (begun trees at) (e ∙ ap (λ (m : ℕ). refusedAt m place) nine);
     }

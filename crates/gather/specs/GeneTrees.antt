@@ -4,6 +4,7 @@ use mathlib.Core.Bool.{Bool, true, false}
 use mathlib.Core.List.{List, [], _∷_, _++_}
 use lib.ListN.{length, drop}
 use lib.Dec.{leb}
+use Rattle.tokens.specs.declared.answer.Threshold.the-variants.{NoThreshold}
 use Rattle.tokens.specs.Tokens.{blanks}
 use Rattle.reader.specs.Promise.{answerTo, readingOf}
 use Rattle.reader.specs.declared.Kind.the-variants.{Gene}
@@ -40,7 +41,8 @@ gatherOn (suc number) r genes next = halted genes (suc number) (r .place)
 abbrev pub gatherAt : Bool → List ℕ → List ℕ → List (List ℕ) → ℕ → (List ℕ → ℕ → Walked) → Walked
 gatherAt true line trees genes p next = halted genes 17 p
 gatherAt false line trees genes p next =
-    gatherOn (readingOf p (answerTo Gene line trees p) .number) (readingOf p (answerTo Gene line trees p)) genes (λ numbers at. next numbers at)
+    gatherOn (readingOf NoThreshold p (answerTo Gene NoThreshold line trees p) .number) (readingOf NoThreshold p (answerTo Gene NoThreshold line trees p)) genes
+    (λ numbers at. next numbers at)
 
 -- "then trees until only blanks remain"
 abbrev pub gatherMore : Bool → List ℕ → List ℕ → List (List ℕ) → ℕ → (List ℕ → ℕ → Walked) → Walked

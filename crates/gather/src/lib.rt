@@ -5,6 +5,7 @@ ghost use lib.ListN.{length};
 ghost use lib.Seq.{sets};
 ghost use Rattle.gather.specs.Work.{Gathers};
 use reader::Kind;
+use reader::Threshold;
 use tokens::blanks;
 
 // The gene trees were read, or one was refused.
@@ -40,7 +41,7 @@ pub fn gather(line: &[u8], trees: &[u8], genes: &mut [u16]) -> Trees
                 place: at,
             };
         }
-        let reading = reader::read(Kind::Gene, line, trees, at);
+        let reading = reader::read(Kind::Gene, Threshold::NoThreshold, line, trees, at);
         if reading.number != 0 {
             return Trees::Stopped {
                 number: reading.number,

@@ -4,11 +4,11 @@ use native.Mathlib.Omega.{arith}
 use mathlib.Core.Path.{_≡_, refl, sym, ap, _∙_}
 use mathlib.Core.Bool.{Bool, true, false, false≢true}
 use mathlib.Core.List.{List, [], _∷_, _++_, map, append-assoc, append-nil}
-use lib.ListN.{length, take, drop, length-append, length-take, length-drop, take-append-drop}
+use lib.ListN.{length, getD, take, drop, length-append, length-take, length-drop, take-append-drop}
 use lib.Seq.{length-take-le, take-append-seam, drop-append-seam}
 use lib.Dec.{eqb}
 use borrow.Author.Tests.{eqb-true, le-leb}
-use Rattle.labels.specs.Bytes.{isBare, isPrintable, oneMore, run, nextIs, nextBare, nextLabel}
+use Rattle.labels.specs.Bytes.{isDigit, isBare, isPrintable, oneMore, run, nextIs, nextBare, nextLabel}
 use Rattle.labels.specs.Spelling.{Run, unwritten, Quoted, Spells}
 use Rattle.labels.specs.Spelling.Run.{one, next}
 use Rattle.labels.specs.Spelling.Spells.{bare, quoted}
@@ -24,13 +24,14 @@ use Rattle.labels.proofs.FaultyLabels.Fault.{long, stray, empty, unclos
 use Rattle.labels.proofs.Letters.{letters-from-printable}
 use Rattle.labels.proofs.Telling.{letters-quoted, bare-length, raw-quoted, raw-bare, told-bare, ended-short}
 
--- the first j bytes of s are an open label: with an end behind them they are one by the rules, and the end goes on with a label only where s does
+-- the first j bytes of s are an open label: with an end behind them, which begins with no digit, they are one by the rules, and the end goes on with a label only where s does
 pub record Open (s : List ℕ) (j : ℕ) : Type 0 where
   pub within : j ≤ length s
   pub short : length (letters (take j s)) ≤ labelBytes
   pub name : List ℕ
   pub end : List ℕ
   pub some : 1 ≤ length end
+  pub no-digit : isDigit (getD end 0 0) ≡ false
   pub bare-on : (rest : List ℕ) → nextBare (end ++ rest) ≡ true → nextBare (drop j s) ≡ true
   pub quote-on : (rest : List ℕ) → nextIs 39 (end ++ rest) ≡ true → nextIs 39 (drop j s) ≡ true
   pub spells : (rest : List ℕ) → Spells name (take j s ++ (end ++ rest)) rest
@@ -40,6 +41,7 @@ record Opened (x r : List ℕ) : Type 0 where
   short : length (letters x) ≤ labelBytes
   name : List ℕ
   b : ℕ
+  no-digit : isDigit b ≡ false
   closing : List ℕ
   bare-on : isBare b ≡ true → nextBare r ≡ true
   quote-on : eqb b 39 ≡ true → nextIs 39 r ≡ true
@@ -56,6 +58,7 @@ opened-open x r o =
       name = o .name;
       end = o .b ∷ o .closing;
       some = omega arith;
+      no-digit = o .no-digit;
       bare-on = λ rest e. rw back (o .bare-on e);
       quote-on = λ rest e. rw back (o .quote-on e);
       spells = λ rest. rw front (o .spells rest);
@@ -92,6 +95,7 @@ module _ (w r : List ℕ) (all : All isPrintable w) (short : length w ≤ labelB
         short = rw read short;
         name = w ++ 32 ∷ [];
         b = 32;
+        no-digit = refl;
         closing = 39 ∷ [];
         bare-on = λ e. absurd (false≢true e);
         quote-on = λ e. absurd (false≢true e);
@@ -107,6 +111,7 @@ module _ (w r : List ℕ) (all : All isPrintable w) (short : length w ≤ labelB
         short = rw read short;
         name = w ++ 39 ∷ [];
         b = 39;
+        no-digit = refl;
         closing = 39 ∷ [];
         bare-on = λ e. absurd (false≢true e);
         quote-on = λ e. refl;
@@ -161,6 +166,7 @@ bare-opened s j short l =
       short = rw (bare-length (take j s) other) (omega (arith, run-within isBare (take j s), length-take j s));
       name = map unwritten (take j s ++ 97 ∷ []);
       b = 97;
+      no-digit = refl;
       closing = [];
       bare-on = λ e. bare-follows j s l;
       quote-on = λ e. absurd (false≢true e);

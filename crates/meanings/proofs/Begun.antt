@@ -16,7 +16,7 @@ use Rattle.labels.specs.Spelling.Spells.{bare, quoted}
 use Rattle.labels.specs.Labels.{lettersFrom, doubled, letters, rawTo, told}
 use Rattle.labels.specs.Labels.Told.{ended}
 use Rattle.labels.proofs.Runs.{run-within}
-use Rattle.labels.proofs.Bytewise.{All, all-left, all-tail, all-take, all-weaker}
+use Rattle.labels.proofs.Bytewise.{All, all-left, all-append, all-tail, all-take, all-weaker}
 use Rattle.labels.proofs.Bytewise.All.{no-byte, a-byte}
 use Rattle.labels.proofs.RunRules.{run-splits, run-all, run-bytes}
 use Rattle.labels.proofs.QuotedLetters.{doubled-joins, letters-front, behindLetters, quoted-of}
@@ -33,10 +33,6 @@ use Rattle.meanings.proofs.States.{State, onward, from, Open, bare-ente
 use Rattle.meanings.proofs.States.State.{fresh, closed, valued, in-name, in-number, in-quotes, at-quote, spaced, ended as over, halted}
 
 -- ---- bytes
-
-pub all-append : {test : ℕ → Bool} {u v : List ℕ} → All test u → All test v → All test (u ++ v)
-all-append no-byte b = b
-all-append (a-byte is a) b = a-byte is (all-append a b)
 
 -- bytes that pass are a run, if there are some
 pub all-run : {test : ℕ → Bool} {u : List ℕ} → All test u → 1 ≤ length u → Run test u u []

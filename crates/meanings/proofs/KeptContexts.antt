@@ -2,7 +2,7 @@
 use Prim.Native.Nat.{ℕ, suc, _-_, _≤_, _<_, max, zero-le}
 use native.Mathlib.Omega.{arith}
 use mathlib.Core.Path.{_≡_, refl, ap}
-use mathlib.Core.Bool.{false}
+use mathlib.Core.Bool.{Bool, false}
 use mathlib.Core.List.{List, [], _∷_, _++_, append-assoc}
 use lib.ListN.{length, take, length-append}
 use Rattle.clusters.specs.Sets.{union}
@@ -20,6 +20,7 @@ use Rattle.trees.specs.Tree.Forest.{last, more}
 use Rattle.trees.proofs.Nodes.{leaf-has}
 use Rattle.roster.specs.Roster.{position}
 use Rattle.tokens.specs.Tokens.{numberBytes}
+use Rattle.tokens.specs.Supports.{refusesFine}
 use Rattle.nodes.specs.Reading.{openMost}
 use Rattle.nodes.specs.Grammar.{strict, Blanks, Number, ColonNumber, Numbers, Inner, Node, Children, Text}
 use Rattle.nodes.specs.Grammar.Blanks.{none}
@@ -32,48 +33,48 @@ use Rattle.nodes.specs.Grammar.Text.{text}
 use Rattle.nodes.proofs.Fronts.{Then, BlanksAnd}
 use Rattle.meanings.specs.Meaning.{partBefore, keptTo, known}
 use Rattle.meanings.proofs.MeaningContexts.{blanks-on, node-behind-blanks}
-use Rattle.meanings.proofs.KeptRules.{strict-takes, node-taken, children-taken, inner-taken, colon-taken}
+use Rattle.meanings.proofs.KeptRules.{strict-takes, node-taken, children-taken, inner-taken, distance-taken}
 use Rattle.meanings.proofs.FreshSpecies.{Fresh, unknown-fresh, fresh-unknown, fresh-joins}
 
 -- a whole text that is kept up to m bytes before its end
-pub record KeptText (names : List (List ℕ)) (m : ℕ) (s : List ℕ) : Type 0 where
+pub record KeptText (given : Bool) (names : List (List ℕ)) (m : ℕ) (s : List ℕ) : Type 0 where
   pub tree : Tree
-  pub text : Text (keptTo names m) openMost s tree []
+  pub text : Text (keptTo given names m) openMost s tree []
   pub once : NoneTwice (known names tree)
 
 -- behind u such a piece may stand: with one and the same end behind it, which goes on with no label, it makes a kept text, whatever the place before that end
-pub record MayFollow (names : List (List ℕ)) (P : ℕ → List ℕ → List ℕ → Type 0) (u : List ℕ) : Type 0 where
+pub record MayFollow (given : Bool) (names : List (List ℕ)) (P : ℕ → List ℕ → List ℕ → Type 0) (u : List ℕ) : Type 0 where
   pub end : List ℕ
   pub some : 1 ≤ length end
   pub stops : nextLabel end ≡ false
-  pub text : (m : ℕ) → length end ≤ m → (v : List ℕ) → P m (v ++ end) end → KeptText names m (u ++ (v ++ end))
+  pub text : (m : ℕ) → length end ≤ m → (v : List ℕ) → P m (v ++ end) end → KeptText given names m (u ++ (v ++ end))
 
 -- ---- pieces that are kept up to m bytes before the end of the text
 
 -- a node, in which at most `room` parentheses are open, and none of whose species was seen
-pub record NodeIn (names : List (List ℕ)) (room seen m : ℕ) (s rest : List ℕ) : Type 0 where
+pub record NodeIn (given : Bool) (names : List (List ℕ)) (room seen m : ℕ) (s rest : List ℕ) : Type 0 where
   pub tree : Tree
-  pub derives : Node (keptTo names m) room s tree rest
+  pub derives : Node (keptTo given names m) room s tree rest
   pub fresh : Fresh names seen (leaves tree)
 
 -- children behind a first comma
-pub record ChildrenIn (names : List (List ℕ)) (room seen m : ℕ) (s rest : List ℕ) : Type 0 where
+pub record ChildrenIn (given : Bool) (names : List (List ℕ)) (room seen m : ℕ) (s rest : List ℕ) : Type 0 where
   pub forest : Forest
-  pub derives : Children (keptTo names m) room s forest rest
+  pub derives : Children (keptTo given names m) room s forest rest
   pub fresh : Fresh names seen (leavesOf forest)
 
 -- what stands behind a leaf's name
-pub record NumbersIn (names : List (List ℕ)) (m : ℕ) (s rest : List ℕ) : Type 0 where
+pub record NumbersIn (given : Bool) (names : List (List ℕ)) (m : ℕ) (s rest : List ℕ) : Type 0 where
   pub d : List ℕ
   pub b : List ℕ
-  pub derives : Numbers (keptTo names m) d b s rest
+  pub derives : Numbers (keptTo given names m) d b s rest
 
 -- what stands behind a closing parenthesis
-pub record ClosingIn (names : List (List ℕ)) (m : ℕ) (s rest : List ℕ) : Type 0 where
+pub record ClosingIn (given : Bool) (names : List (List ℕ)) (m : ℕ) (s rest : List ℕ) : Type 0 where
   pub w : List ℕ
   pub mid : List ℕ
-  pub inner : Inner (keptTo names m) w s mid
-  pub behind : NumbersIn names m mid rest
+  pub inner : Inner (keptTo given names m) w s mid
+  pub behind : NumbersIn given names m mid rest
 
 -- the name of an inner node
 pub record NameIn (names : List (List ℕ)) (m : ℕ) (s rest : List ℕ) : Type 0 where
@@ -81,22 +82,23 @@ pub record NameIn (names : List (List ℕ)) (m : ℕ) (s rest : List ℕ) : Type
   pub spelled : Spells w s rest
   pub short : length (letters (partBefore m s rest)) ≤ labelBytes
 
--- a number, blanks before it
-pub record NumberIn (names : List (List ℕ)) (m : ℕ) (s rest : List ℕ) : Type 0 where
+-- a number, blanks before it, that may be a support
+pub record NumberIn (given : Bool) (m : ℕ) (s rest : List ℕ) : Type 0 where
   pub w : List ℕ
   pub mid : List ℕ
   pub gap : Blanks s mid
   pub derives : Number w mid rest
   pub short : length (partBefore m mid rest) ≤ numberBytes
+  pub not-fine : m ≤ length rest → refusesFine given w ≡ false
 
 -- ---- one place after another
 
 -- a Q may stand where with c ∷ y behind it it is a P
 pub stand-as :
-    (names : List (List ℕ)) (P Q : ℕ → List ℕ → List ℕ → Type 0) {u : List ℕ} (c : ℕ) (y : List ℕ) → nextLabel (c ∷ y) ≡ false
-    → ((m : ℕ) (v rest : List ℕ) → length (c ∷ (y ++ rest)) ≤ m → Q m v (c ∷ (y ++ rest)) → P m v rest) → MayFollow names P u → MayFollow names Q u
+    (given : Bool) (names : List (List ℕ)) (P Q : ℕ → List ℕ → List ℕ → Type 0) {u : List ℕ} (c : ℕ) (y : List ℕ) → nextLabel (c ∷ y) ≡ false
+    → ((m : ℕ) (v rest : List ℕ) → length (c ∷ (y ++ rest)) ≤ m → Q m v (c ∷ (y ++ rest)) → P m v rest) → MayFollow given names P u → MayFollow given names Q u
 unfolding nextLabel
-stand-as names P Q c y stops made may =
+stand-as given names P Q c y stops made may =
     let end = may .end in
     record {
       end = c ∷ (y ++ end);
@@ -110,10 +112,10 @@ stand-as names P Q c y stops made may =
           rw regrouped at t;
     }
 
-module _ (names : List (List ℕ)) (P Q : ℕ → List ℕ → List ℕ → Type 0) (X : List ℕ → List ℕ → Type 0) {u s rest : List ℕ} where
+module _ (given : Bool) (names : List (List ℕ)) (P Q : ℕ → List ℕ → List ℕ → Type 0) (X : List ℕ → List ℕ → Type 0) {u s rest : List ℕ} where
   -- behind what X takes off, a Q may stand where X and a Q make a P
   pub stand-on :
-      ((m : ℕ) (s v rest : List ℕ) → X s v → Q m v rest → P m s rest) → MayFollow names P u → (f : Front X s rest) → MayFollow names Q (u ++ f .bytes)
+      ((m : ℕ) (s v rest : List ℕ) → X s v → Q m v rest → P m s rest) → MayFollow given names P u → (f : Front X s rest) → MayFollow given names Q (u ++ f .bytes)
   stand-on made may f =
       let x = f .bytes in
       let end = may .end in
@@ -128,12 +130,12 @@ module _ (names : List (List ℕ)) (P Q : ℕ → List ℕ → List ℕ → Type
 
 -- the same with an end c ∷ y behind the Q
 pub stand-before :
-    (names : List (List ℕ)) (P Q : ℕ → List ℕ → List ℕ → Type 0) (X : List ℕ → List ℕ → Type 0) {u s rest : List ℕ} (c : ℕ) (y : List ℕ)
+    (given : Bool) (names : List (List ℕ)) (P Q : ℕ → List ℕ → List ℕ → Type 0) (X : List ℕ → List ℕ → Type 0) {u s rest : List ℕ} (c : ℕ) (y : List ℕ)
     → nextLabel (c ∷ y) ≡ false → ((m : ℕ) (s v rest : List ℕ) → length (c ∷ (y ++ rest)) ≤ m → X s v → Q m v (c ∷ (y ++ rest)) → P m s rest)
-    → MayFollow names P u → (f : Front X s rest) → MayFollow names Q (u ++ f .bytes)
-stand-before names P Q X c y stops made may f =
+    → MayFollow given names P u → (f : Front X s rest) → MayFollow given names Q (u ++ f .bytes)
+stand-before given names P Q X c y stops made may f =
     let Behind : ℕ → List ℕ → List ℕ → Type 0 = λ m v rest. (s : List ℕ) → X s v → P m s rest in
-    stand-as names Behind Q c y stops (λ m v rest l q s x. made m s v rest l x q) (stand-on names P Behind X (λ m s v rest x p. p s x) may f)
+    stand-as given names Behind Q c y stops (λ m v rest l q s x. made m s v rest l x q) (stand-on given names P Behind X (λ m s v rest x p. p s x) may f)
 
 -- ---- what is written behind the place
 
@@ -144,18 +146,18 @@ late m s rest l = let none-left : length s - max m (length rest) ≡ 0 = omega a
 late-letters : (m : ℕ) (s rest : List ℕ) → length s ≤ m → length (letters (partBefore m s rest)) ≤ labelBytes
 late-letters m s rest l = rw (late m s rest l, no-letters) zero-le
 
-module _ (names : List (List ℕ)) where
+module _ (given : Bool) (names : List (List ℕ)) where
   -- the leaf that is put behind the place: its species is none of the roster
   abbrev pub unknownLeaf : Tree
   unknownLeaf = leaf (length names) (record { name = []; distance = []; support = [] })
 
   -- a label that ends behind the place may be any name's
   pub ends-late :
-      (m : ℕ) (w s rest : List ℕ) → length (letters (partBefore m s rest)) ≤ labelBytes → length rest < m → keptTo names m .leafName w (length names) s rest
+      (m : ℕ) (w s rest : List ℕ) → length (letters (partBefore m s rest)) ≤ labelBytes → length rest < m → keptTo given names m .leafName w (length names) s rest
   ends-late m w s rest short l = (short, λ ends. absurd (omega arith))
 
   -- the leaf `a`
-  pub late-leaf : (m k : ℕ) (y : List ℕ) → length (97 ∷ y) ≤ m → Node (keptTo names m) k (97 ∷ y) unknownLeaf y
+  pub late-leaf : (m k : ℕ) (y : List ℕ) → length (97 ∷ y) ≤ m → Node (keptTo given names m) k (97 ∷ y) unknownLeaf y
   late-leaf m k y l = a-leaf none (bare (one refl)) (ends-late m (97 ∷ []) (97 ∷ y) y (late-letters m (97 ∷ y) y l) (omega arith)) nothing
 
   pub unknown-leaf-fresh : (seen : ℕ) → Fresh names seen (leaves unknownLeaf)
@@ -163,43 +165,43 @@ module _ (names : List (List ℕ)) where
   unknown-leaf-fresh seen = unknown-fresh names seen
 
   -- `,a)`, which makes a node of a first child
-  pub late-children : (m k : ℕ) (rest : List ℕ) → length (97 ∷ 41 ∷ rest) ≤ m → Children (keptTo names m) k (97 ∷ 41 ∷ rest) (last unknownLeaf) rest
+  pub late-children : (m k : ℕ) (rest : List ℕ) → length (97 ∷ 41 ∷ rest) ≤ m → Children (keptTo given names m) k (97 ∷ 41 ∷ rest) (last unknownLeaf) rest
   late-children m k rest l = the-last (late-leaf m k (41 ∷ rest) l) none
 
 -- ---- what makes what
 
-module _ (names : List (List ℕ)) where
-  pub blanks-node : (room seen m : ℕ) (s v rest : List ℕ) → Blanks s v → NodeIn names room seen m v rest → NodeIn names room seen m s rest
+module _ (given : Bool) (names : List (List ℕ)) where
+  pub blanks-node : (room seen m : ℕ) (s v rest : List ℕ) → Blanks s v → NodeIn given names room seen m v rest → NodeIn given names room seen m s rest
   blanks-node room seen m s v rest bl n = record { tree = n .tree; derives = node-behind-blanks bl (n .derives); fresh = n .fresh }
 
   -- `(`, a node and `,a)`
   pub opened-node :
-      (room seen m : ℕ) (s v rest : List ℕ) → length (44 ∷ 97 ∷ 41 ∷ rest) ≤ m → BlanksAnd 40 s v → NodeIn names room seen m v (44 ∷ 97 ∷ 41 ∷ rest)
-      → NodeIn names (suc room) seen m s rest
+      (room seen m : ℕ) (s v rest : List ℕ) → length (44 ∷ 97 ∷ 41 ∷ rest) ≤ m → BlanksAnd 40 s v → NodeIn given names room seen m v (44 ∷ 97 ∷ 41 ∷ rest)
+      → NodeIn given names (suc room) seen m s rest
   unfolding leaves leavesOf
   opened-node room seen m s v rest l bl n =
       record {
-        tree = node (n .tree) (last (unknownLeaf names)) (record { name = []; distance = []; support = [] });
-        derives = an-inner bl (n .derives) none (late-children names m room rest (omega arith)) nameless nothing;
+        tree = node (n .tree) (last (unknownLeaf given names)) (record { name = []; distance = []; support = [] });
+        derives = an-inner bl (n .derives) none (late-children given names m room rest (omega arith)) nameless nothing;
         fresh = fresh-unknown names seen (leaves (n .tree)) (n .fresh);
       }
 
   -- a child that was read, and children that were
   abbrev pub NodeOf : ℕ → Tree → List ℕ → List ℕ → Type 0
-  NodeOf room t s rest = Node (strict names) room s t rest
+  NodeOf room t s rest = Node (strict given names) room s t rest
 
   abbrev pub ChildrenOf : ℕ → Forest → List ℕ → List ℕ → Type 0
-  ChildrenOf room f s rest = Children (strict names) room s f rest
+  ChildrenOf room f s rest = Children (strict given names) room s f rest
 
-  pub node-kept : (m : ℕ) {room : ℕ} {t : Tree} {s rest : List ℕ} → NodeOf room t s rest → Node (keptTo names m) room s t rest
-  node-kept m d = node-taken 0 (strict names) (keptTo names m) (strict-takes names m) d zero-le
+  pub node-kept : (m : ℕ) {room : ℕ} {t : Tree} {s rest : List ℕ} → NodeOf room t s rest → Node (keptTo given names m) room s t rest
+  node-kept m d = node-taken 0 (strict given names) (keptTo given names m) (strict-takes given names m) d zero-le
 
   -- `(`, a child and `,`; then the other children
   pub comma-children :
       (room seen : ℕ) (t : Tree) → Fresh names seen (leaves t)
       → (m : ℕ) (s v rest : List ℕ) → Then (Then (BlanksAnd 40) (NodeOf room t)) (BlanksAnd 44) s v
-      → ChildrenIn names room (union seen (cluster t)) m v rest
-      → NodeIn names (suc room) seen m s rest
+      → ChildrenIn given names room (union seen (cluster t)) m v rest
+      → NodeIn given names (suc room) seen m s rest
   unfolding leaves
   comma-children room seen t fresh m s v rest h c =
       record {
@@ -211,27 +213,28 @@ module _ (names : List (List ℕ)) where
   -- `(` and all the children; then what closes it
   pub children-closing :
       (room seen : ℕ) (t : Tree) (f : Forest) → Fresh names seen (leaves t ++ leavesOf f)
-      → (m : ℕ) (s v rest : List ℕ) → Then (Then (Then (BlanksAnd 40) (NodeOf room t)) (BlanksAnd 44)) (ChildrenOf room f) s v → ClosingIn names m v rest
-      → NodeIn names (suc room) seen m s rest
+      → (m : ℕ) (s v rest : List ℕ) → Then (Then (Then (BlanksAnd 40) (NodeOf room t)) (BlanksAnd 44)) (ChildrenOf room f) s v → ClosingIn given names m v rest
+      → NodeIn given names (suc room) seen m s rest
   unfolding leaves
   children-closing room seen t f fresh m s v rest h c =
       record {
         tree = node t f (record { name = c .w; distance = c .behind .d; support = c .behind .b });
         derives = an-inner (h .first .first .first) (node-kept m (h .first .first .second)) (h .first .second)
-            (children-taken 0 (strict names) (keptTo names m) (strict-takes names m) (h .second) zero-le) (c .inner) (c .behind .derives);
+            (children-taken 0 (strict given names) (keptTo given names m) (strict-takes given names m) (h .second) zero-le) (c .inner) (c .behind .derives);
         fresh = fresh;
       }
 
   -- a later child and `)`
-  pub last-child : (room seen m : ℕ) (v rest : List ℕ) → length (41 ∷ rest) ≤ m → NodeIn names room seen m v (41 ∷ rest) → ChildrenIn names room seen m v rest
+  pub last-child :
+      (room seen m : ℕ) (v rest : List ℕ) → length (41 ∷ rest) ≤ m → NodeIn given names room seen m v (41 ∷ rest) → ChildrenIn given names room seen m v rest
   unfolding leavesOf
   last-child room seen m v rest l n = record { forest = last (n .tree); derives = the-last (n .derives) none; fresh = n .fresh }
 
   -- a later child and `,`; then more of them
   pub child-comma :
       (room seen : ℕ) (t : Tree) → Fresh names seen (leaves t)
-      → (m : ℕ) (s v rest : List ℕ) → Then (NodeOf room t) (BlanksAnd 44) s v → ChildrenIn names room (union seen (cluster t)) m v rest
-      → ChildrenIn names room seen m s rest
+      → (m : ℕ) (s v rest : List ℕ) → Then (NodeOf room t) (BlanksAnd 44) s v → ChildrenIn given names room (union seen (cluster t)) m v rest
+      → ChildrenIn given names room seen m s rest
   unfolding leavesOf
   child-comma room seen t fresh m s v rest h c =
       record {
@@ -243,47 +246,49 @@ module _ (names : List (List ℕ)) where
   -- a leaf's name that is on the roster, at its species; then its numbers
   pub leaf-numbers :
       (room seen i : ℕ) (w : List ℕ) → length w ≤ labelBytes → position w names ≡ i → i < length names → Fresh names seen (i ∷ [])
-      → (m : ℕ) (s v rest : List ℕ) → Spells w s v → NumbersIn names m v rest → NodeIn names room seen m s rest
+      → (m : ℕ) (s v rest : List ℕ) → Spells w s v → NumbersIn given names m v rest → NodeIn given names room seen m s rest
   unfolding leaves
   leaf-numbers room seen i w short at on fresh m s v rest r n =
       record {
         tree = leaf i (record { name = []; distance = n .d; support = n .b });
-        derives = a-leaf none r (strict-takes names m .leafNames i r zero-le (short, at, on)) (n .derives);
+        derives = a-leaf none r (strict-takes given names m .leafNames i r zero-le (short, at, on)) (n .derives);
         fresh = fresh;
       }
 
   -- behind a closing parenthesis: a name, if any; then numbers
-  pub closing-numbers : (w : List ℕ) (m : ℕ) (s v rest : List ℕ) → Inner (strict names) w s v → NumbersIn names m v rest → ClosingIn names m s rest
+  pub closing-numbers :
+      (w : List ℕ) (m : ℕ) (s v rest : List ℕ) → Inner (strict given names) w s v → NumbersIn given names m v rest → ClosingIn given names m s rest
   closing-numbers w m s v rest i n =
-      record { w = w; mid = v; inner = inner-taken 0 (strict names) (keptTo names m) (strict-takes names m) i zero-le .taken; behind = n }
+      record { w = w; mid = v; inner = inner-taken 0 (strict given names) (keptTo given names m) (strict-takes given names m) i zero-le .taken; behind = n }
 
   -- blanks and a name
-  pub closing-name : (m : ℕ) (s v rest : List ℕ) → Blanks s v → NameIn names m v rest → ClosingIn names m s rest
+  pub closing-name : (m : ℕ) (s v rest : List ℕ) → Blanks s v → NameIn names m v rest → ClosingIn given names m s rest
   closing-name m s v rest bl n =
       record { w = n .w; mid = rest; inner = named bl (n .spelled) (n .short); behind = record { d = []; b = []; derives = nothing } }
 
   -- behind colons
-  pub blanks-number : (m : ℕ) (s v rest : List ℕ) → Blanks s v → NumberIn names m v rest → NumberIn names m s rest
-  blanks-number m s v rest bl n = record { w = n .w; mid = n .mid; gap = blanks-on bl (n .gap); derives = n .derives; short = n .short }
+  pub blanks-number : (m : ℕ) (s v rest : List ℕ) → Blanks s v → NumberIn given m v rest → NumberIn given m s rest
+  blanks-number m s v rest bl n = record { w = n .w; mid = n .mid; gap = blanks-on bl (n .gap); derives = n .derives; short = n .short; not-fine = n .not-fine }
 
-  pub colon-number : (m : ℕ) (s v rest : List ℕ) → BlanksAnd 58 s v → NumberIn names m v rest → NumbersIn names m s rest
+  pub colon-number : (m : ℕ) (s v rest : List ℕ) → BlanksAnd 58 s v → NumberIn given m v rest → NumbersIn given names m s rest
   colon-number m s v rest bl n = record { d = n .w; b = []; derives = distance (colon bl (n .gap) (n .derives) (n .short)) }
 
-  pub colons-number : (m : ℕ) (s v rest : List ℕ) → Then (BlanksAnd 58) (BlanksAnd 58) s v → NumberIn names m v rest → NumbersIn names m s rest
-  colons-number m s v rest h n = record { d = []; b = n .w; derives = support (h .first) (colon (h .second) (n .gap) (n .derives) (n .short)) }
+  pub colons-number : (m : ℕ) (s v rest : List ℕ) → Then (BlanksAnd 58) (BlanksAnd 58) s v → NumberIn given m v rest → NumbersIn given names m s rest
+  colons-number m s v rest h n = record { d = []; b = n .w; derives = support (h .first) (colon (h .second) (n .gap) (n .derives) (n .short, n .not-fine)) }
 
   pub second-number :
-      (d : List ℕ) (m : ℕ) (s v rest : List ℕ) → Then (ColonNumber (strict names) d) (BlanksAnd 58) s v → NumberIn names m v rest → NumbersIn names m s rest
+      (d : List ℕ) (m : ℕ) (s v rest : List ℕ) → Then (ColonNumber (strict given names .distance) d) (BlanksAnd 58) s v → NumberIn given m v rest
+      → NumbersIn given names m s rest
   second-number d m s v rest h n =
       record {
         d = d;
         b = n .w;
-        derives = both (colon-taken 0 (strict names) (keptTo names m) (strict-takes names m) (h .first) zero-le .taken)
-            (colon (h .second) (n .gap) (n .derives) (n .short));
+        derives = both (distance-taken 0 (strict given names) (keptTo given names m) (strict-takes given names m) (h .first) zero-le .taken)
+            (colon (h .second) (n .gap) (n .derives) (n .short, n .not-fine));
       }
 
   -- the whole text: a node and `;`
-  pub node-at-front : MayFollow names (NodeIn names openMost 0) []
+  pub node-at-front : MayFollow given names (NodeIn given names openMost 0) []
   unfolding nextLabel
   node-at-front =
       record {

@@ -1,8 +1,8 @@
 -- Where nothing is at fault before a place, the bytes that decide a refusal go beyond it; so something is at fault before the border of a refusal.
 use Prim.Native.Nat.{ℕ, zero, suc, _+_, _≤_, _<_}
 use native.Mathlib.Omega.{arith}
-use native.Mathlib.Decide.{decLt}
-use mathlib.Core.Path.{_≡_, refl, sym, ap, _∙_, subst}
+use native.Mathlib.Decide.{ℕ-discrete, decLt}
+use mathlib.Core.Path.{_≡_, refl, sym, ap, _∙_}
 use mathlib.Core.Bool.{Bool, true, false, _&&_, _||_, false≢true}
 use mathlib.Core.List.{List, _++_}
 use lib.ListN.{length, take, drop, length-append}
@@ -16,12 +16,14 @@ use Rattle.labels.proofs.Spelled.{told-sound}
 use Rattle.roster.specs.Roster.{byteBefore}
 use Rattle.tokens.specs.Answers.Answer.{refused}
 use Rattle.nodes.specs.Reading.{readTree}
-use Rattle.nodes.specs.Deciding.{border, GoesOnAlike}
-use Rattle.nodes.proofs.Locality.{decidingBy, deciding, border-deciding, deciding-some, agree-behind, further-alike, label-again, locality}
+use Rattle.nodes.specs.Deciding.{numberLength, border, GoesOnAlike}
+use Rattle.nodes.proofs.Spans.{Decimal, decimal-length}
+use Rattle.nodes.proofs.Locality.{decidingBy, deciding, border-deciding, deciding-some, agree-behind, further-alike, label-again, decimal-again, alike-asked, locality}
 use Rattle.meanings.specs.Meaning.{Kept, LeafAt, Means}
-use Rattle.meanings.specs.Meaning.Means.{stray, long-name, long-number, unknown-name, repeated-name, single-child, too-deep, missing, ends-first}
+use Rattle.meanings.specs.Meaning.Means.{stray, long-name, long-number, unknown-name, repeated-name}
+use Rattle.meanings.specs.Meaning.Means.{single-child, too-deep, missing, ends-first, fine-support}
 use Rattle.meanings.proofs.KeptReads.{judged-decides, kept-read-late}
-use Rattle.meanings.proofs.Refusals.{refusal-numbers, says-10}
+use Rattle.meanings.proofs.NumberSpans.{fine-decimal}
 use Rattle.meanings.proofs.Meaning.{refusal-said}
 
 -- ---- what is used of the meaning of a refusal by n at x
@@ -30,36 +32,56 @@ use Rattle.meanings.proofs.Meaning.{refusal-said}
 abbrev LabelEnds : List ℕ → Type 0
 LabelEnds t = (nextLabel t ≡ true) × ((k : ℕ) × (told t ≡ ended k))
 
-leaf-label : {s : List ℕ} {x : ℕ} → LeafAt s x → LabelEnds (drop x s)
-leaf-label leaf = (leaf .begins, (leaf .bytes, leaf .ends))
-
 record Decided (n : ℕ) (s : List ℕ) (x : ℕ) : Type 0 where
-  numbers : (3 ≤ n) × (n ≤ 10)
+  low : 3 ≤ n
   at-end : n ≡ 10 → x ≡ length s
   label : (eqb n 5 || eqb n 6) ≡ true → LabelEnds (drop x s)
+  support : eqb n 18 ≡ true → Decimal (drop x s)
 
-module _ {names : List (List ℕ)} {needed x : ℕ} {s : List ℕ} where
-  means-end : {n : ℕ} → n ≡ 10 → Means names needed s x n → x ≡ length s
-  means-end ten means = says-10 (subst (λ (k : ℕ). Means names needed s x k) ten means) .end
+module _ {x : ℕ} {s : List ℕ} where
+  -- by a byte or two
+  by-bytes : {n : ℕ} → 3 ≤ n → n ≤ 9 → (eqb n 5 || eqb n 6) ≡ false → eqb n 18 ≡ false → Decided n s x
+  by-bytes low high other figure =
+      record {
+        low = low;
+        at-end = λ ten. absurd (omega arith);
+        label = λ judged. absurd (false≢true (sym other ∙ judged));
+        support = λ judged. absurd (false≢true (sym figure ∙ judged));
+      }
 
-  means-label : {n : ℕ} → (eqb n 5 || eqb n 6) ≡ true → Means names needed s x n → LabelEnds (drop x s)
-  means-label judged (unknown-name h) = leaf-label (h .leaf)
-  means-label judged (repeated-name h) = leaf-label (h .leaf)
-  means-label judged (stray h) = absurd (false≢true judged)
-  means-label judged (long-name h) = absurd (false≢true judged)
-  means-label judged (long-number h) = absurd (false≢true judged)
-  means-label judged (single-child h) = absurd (false≢true judged)
-  means-label judged (too-deep h) = absurd (false≢true judged)
-  means-label judged (missing h) = absurd (false≢true judged)
-  means-label judged (ends-first h) = absurd (false≢true judged)
+  -- by a label
+  by-label : {n : ℕ} → 3 ≤ n → n ≤ 9 → eqb n 18 ≡ false → LeafAt s x → Decided n s x
+  by-label low high figure leaf =
+      record {
+        low = low;
+        at-end = λ ten. absurd (omega arith);
+        label = λ judged. (leaf .begins, (leaf .bytes, leaf .ends));
+        support = λ judged. absurd (false≢true (sym figure ∙ judged));
+      }
 
-  means-decided : {n : ℕ} → Means names needed s x n → Decided n s x
-  means-decided means = record { numbers = refusal-numbers means; at-end = λ ten. means-end ten means; label = λ judged. means-label judged means }
+  means-decided : {given : Bool} {names : List (List ℕ)} {needed n : ℕ} → Means given names needed s x n → Decided n s x
+  means-decided (stray h) = by-bytes (omega arith) (omega arith) refl refl
+  means-decided (long-name h) = by-bytes (omega arith) (omega arith) refl refl
+  means-decided (long-number h) = by-bytes (omega arith) (omega arith) refl refl
+  means-decided (unknown-name h) = by-label (omega arith) (omega arith) refl (h .leaf)
+  means-decided (repeated-name h) = by-label (omega arith) (omega arith) refl (h .leaf)
+  means-decided (single-child h) = by-bytes (omega arith) (omega arith) refl refl
+  means-decided (too-deep h) = by-bytes (omega arith) (omega arith) refl refl
+  means-decided (missing h) = by-bytes (omega arith) (omega arith) refl refl
+  means-decided (ends-first h) =
+      record { low = omega arith; at-end = λ ten. h .end; label = λ judged. absurd (false≢true judged); support = λ judged. absurd (false≢true judged) }
+  means-decided (fine-support is h) =
+      record {
+        low = omega arith;
+        at-end = λ ten. absurd (omega arith);
+        label = λ judged. absurd (false≢true judged);
+        support = λ judged. fine-decimal (h .number) (h .fine);
+      }
 
 -- ---- a refusal in two texts that agree in the bytes that decide it, and go on alike behind them
 
--- where the number is neither 5 nor 6, as many bytes decide as the byte at fault says
-same-first : (q : Bool) (t t′ : List ℕ) → decidingBy false q t ≡ decidingBy false q t′
+-- where the number is neither 5, 6 nor 18, as many bytes decide as the byte at fault says
+same-first : (q : Bool) (t t′ : List ℕ) → decidingBy false false q t ≡ decidingBy false false q t′
 same-first true t t′ = refl
 same-first false t t′ = refl
 
@@ -67,47 +89,62 @@ byte-behind : (x k : ℕ) (s : List ℕ) → 1 ≤ k → byteBefore (drop x s) k
 byte-behind x zero s some = absurd (omega arith)
 byte-behind x (suc j) s some = let at : x + suc j ≡ suc (x + j) = omega arith in rw at (getD-drop x s j 0)
 
-module _ {n x : ℕ} {s : List ℕ} (decided : Decided n s x) (s′ : List ℕ) where
-  byte-again : (eqb n 5 || eqb n 6) ≡ false → take (border n s x) s′ ≡ take (border n s x) s → deciding n (drop x s′) ≡ deciding n (drop x s)
-  byte-again other agree =
-      let some = deciding-some n (drop x s) other in
+module _ {n x : ℕ} {s : List ℕ} (decided : Decided n s x) (s′ : List ℕ) (agree : take (border n s x) s′ ≡ take (border n s x) s)
+    (alike : GoesOnAlike (byteBefore s (border n s x)) (drop (border n s x) s′) (drop (border n s x) s)) where
+  byte-again : (eqb n 5 || eqb n 6) ≡ false → eqb n 18 ≡ false → deciding n (drop x s′) ≡ deciding n (drop x s)
+  byte-again other figure =
+      let some = deciding-some n (drop x s) other figure in
       let first = agree-behind x 1 s′ s (agree-less (x + 1) (border n s x) s′ s (omega (arith, border-deciding n s x)) agree) in
-      rw (other, nextIs-first 39 (drop x s′) (drop x s) first) (same-first (eqb n 4 && nextIs 39 (drop x s)) (drop x s′) (drop x s))
+      rw (other, figure, nextIs-first 39 (drop x s′) (drop x s) first) (same-first (eqb n 4 && nextIs 39 (drop x s)) (drop x s′) (drop x s))
 
-  judged-again :
-      (eqb n 5 || eqb n 6) ≡ true → take (border n s x) s′ ≡ take (border n s x) s
-      → GoesOnAlike (byteBefore s (border n s x)) (drop (border n s x) s′) (drop (border n s x) s) → deciding n (drop x s′) ≡ deciding n (drop x s)
-  judged-again judged agree alike =
+  -- the k bytes from the one at fault on decide: they are the same, and go on alike
+  module _ (k : ℕ) (some : 1 ≤ k) (many : deciding n (drop x s) ≡ k) where
+    at-border : border n s x ≡ x + k
+    at-border = border-deciding n s x ∙ ap (λ (c : ℕ). x + c) many
+
+    agree-there : take k (drop x s′) ≡ take k (drop x s)
+    agree-there = agree-behind x k s′ s (rw at-border at agree)
+
+    alike-there : GoesOnAlike (byteBefore (drop x s) k) (drop k (drop x s′)) (drop k (drop x s))
+    alike-there = rw (byte-behind x k s some, drop-drop k x s′, drop-drop k x s) (rw at-border at alike)
+
+  label-decides : (eqb n 5 || eqb n 6) ≡ true → deciding n (drop x s′) ≡ deciding n (drop x s)
+  label-decides judged =
       let begins = decided .label judged .0 in
       let k = decided .label judged .1 .0 in
       let ends = decided .label judged .1 .1 in
-      let at : border n s x ≡ x + k = border-deciding n s x ∙ ap (λ (c : ℕ). x + c) (judged-decides n (drop x s) k judged ends) in
-      let there : GoesOnAlike (byteBefore (drop x s) k) (drop k (drop x s′)) (drop k (drop x s)) =
-      rw (byte-behind x k s (told-sound (drop x s) k begins ends .some), drop-drop k x s′, drop-drop k x s) (rw at at alike)
-      in
-      let again = label-again k (drop x s) (drop x s′) begins ends (agree-behind x k s′ s (rw at at agree)) there in
-      judged-decides n (drop x s′) k judged (again .0) ∙ sym (judged-decides n (drop x s) k judged ends)
+      let many = judged-decides n (drop x s) k judged ends in
+      let some = told-sound (drop x s) k begins ends .some in
+      let again = label-again k (drop x s) (drop x s′) begins ends (agree-there k some many) (alike-there k some many .label) in
+      judged-decides n (drop x s′) k judged (again .0) ∙ sym many
 
-  border-again :
-      take (border n s x) s′ ≡ take (border n s x) s → GoesOnAlike (byteBefore s (border n s x)) (drop (border n s x) s′) (drop (border n s x) s)
-      → border n s′ x ≡ border n s x
-  border-again agree alike =
-      border-deciding n s′ x ∙ (ap (λ (k : ℕ). x + k) (by (eqb n 5 || eqb n 6) refl) ∙ sym (border-deciding n s x))
+  support-decides : (eqb n 5 || eqb n 6) ≡ false → eqb n 18 ≡ true → deciding n (drop x s′) ≡ deciding n (drop x s)
+  support-decides other figure =
+      let k = numberLength (drop x s) in
+      let decimal = decided .support figure in
+      let many : deciding n (drop x s) ≡ k = rw (other, figure) refl in
+      let some : 1 ≤ k = omega (arith, decimal-length decimal) in
+      let again = decimal-again k (drop x s) (drop x s′) decimal refl (agree-there k some many) (alike-there k some many .digits) in
+      rw (other, figure) (again .1)
+
+  border-again : border n s′ x ≡ border n s x
+  border-again = border-deciding n s′ x ∙ (ap (λ (k : ℕ). x + k) (by (eqb n 5 || eqb n 6) (eqb n 18) refl refl) ∙ sym (border-deciding n s x))
     where
-      by : (t : Bool) → (eqb n 5 || eqb n 6) ≡ t → deciding n (drop x s′) ≡ deciding n (drop x s)
-      by true judged = judged-again judged agree alike
-      by false other = byte-again other agree
+      by : (t u : Bool) → (eqb n 5 || eqb n 6) ≡ t → eqb n 18 ≡ u → deciding n (drop x s′) ≡ deciding n (drop x s)
+      by true u judged figure = label-decides judged
+      by false true other figure = support-decides other figure
+      by false false other figure = byte-again other figure
 
 -- ---- a refusal of the text, and what is kept of it
 
-module _ (names : List (List ℕ)) (needed : ℕ) (s : List ℕ) (p n x : ℕ) (h : readTree names needed s p ≡ refused n (p + x)) where
+module _ (given : Bool) (names : List (List ℕ)) (needed : ℕ) (s : List ℕ) (p n x : ℕ) (h : readTree given names needed s p ≡ refused n (p + x)) where
   decided : Decided n s x
   decided =
-      let r = refusal-said names needed s p h in
+      let r = refusal-said given names needed s p h in
       let same : r .byte ≡ x = omega (arith, r .place) in
       rw same at (means-decided (r .means))
 
-  module _ (d : ℕ) (kept : Kept names s d) where
+  module _ (d : ℕ) (kept : Kept given names s d) where
     -- the text that shows it
     abbrev shown : List ℕ
     shown = take d s ++ kept .more
@@ -129,26 +166,25 @@ module _ (names : List (List ℕ)) (needed : ℕ) (s : List ℕ) (p n x : ℕ) (
             rw (same, behind) (kept .alike)
 
     -- the border is not up to the place: else the text that shows it would be refused there too
-    too-early : n ≤ 9 → border n s x ≤ d → ⊥
+    too-early : (n ≡ 10 → ⊥) → border n s x ≤ d → ⊥
     too-early high l =
         let b = border n s x in
         let agree = shown-agrees b l in
         let alike = shown-alike b l in
-        let again = locality names needed s shown p x n h (decided .numbers .0) high agree (λ asked. alike) in
-        let late = kept-read-late names needed (length (kept .more)) shown p n x (kept .text) (kept .once) (omega (arith, kept .unended)) again in
+        let again = locality given names needed s shown p x n h (decided .low) high agree (alike-asked alike) in
+        let late = kept-read-late given names needed (length (kept .more)) shown p n x (kept .text) (kept .once) (omega (arith, kept .unended)) again in
         omega (arith, border-again decided shown agree alike, front-size, length-append (take d s) (kept .more))
 
     -- nothing is at fault before d: so of the bytes that decide the refusal some stand from d on
     pub kept-late : d < border n s x
-    kept-late = by (decLt d (border n s x)) (decLt n 10)
+    kept-late = by (decLt d (border n s x)) (ℕ-discrete n 10)
       where
-        by : Dec (d < border n s x) → Dec (n < 10) → d < border n s x
+        by : Dec (d < border n s x) → Dec (n ≡ 10) → d < border n s x
         by (yes l) any = l
-        by (no l) (yes high) = absurd (too-early (omega arith) (omega arith))
-        by (no l) (no ten) =
-            let is : n ≡ 10 = omega (arith, decided .numbers .1) in
-            let other : (eqb n 5 || eqb n 6) ≡ false = rw is refl in
-            omega (arith, deciding-some n (drop x s) other, border-deciding n s x, decided .at-end is, kept .inside)
+        by (no l) (no other) = absurd (too-early other (omega arith))
+        by (no l) (yes is) =
+            omega (arith, deciding-some n (drop x s) (rw is refl) (rw is refl), border-deciding n s x, decided .at-end is, kept .inside)
 
-  pub lost : Kept names s (border n s x) → ⊥
+  -- so something is at fault before the border
+  pub lost : Kept given names s (border n s x) → ⊥
   lost kept = omega (arith, kept-late (border n s x) kept)

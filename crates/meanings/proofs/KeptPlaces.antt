@@ -1,11 +1,12 @@
 -- Places before which nothing is at fault: behind what was read a text goes on, or a label or a number that is still open.
+use mathlib.Core.Bool.{Bool, false, false≢true}
 use Prim.Native.Nat.{ℕ, suc, _+_, _-_, _≤_, max, zero-le}
 use native.Mathlib.Omega.{arith}
-use mathlib.Core.Path.{_≡_, refl, ap, _∙_}
+use mathlib.Core.Path.{_≡_, refl, sym, ap, _∙_}
 use mathlib.Core.List.{List, [], _∷_, _++_, append-assoc}
-use lib.ListN.{length, take, drop, length-append, length-take}
+use lib.ListN.{length, getD, take, drop, length-append, length-take}
 use lib.Seq.{take-append-seam, take-append-add}
-use Rattle.labels.specs.Bytes.{nextLabel}
+use Rattle.labels.specs.Bytes.{isDigit, nextLabel}
 use Rattle.labels.specs.Spelling.Run.{one}
 use Rattle.labels.specs.Labels.{labelBytes, letters}
 use Rattle.labels.proofs.LabelFronts.{Front}
@@ -25,7 +26,7 @@ use Rattle.nodes.specs.Grammar.Inner.{nameless}
 use Rattle.nodes.specs.Grammar.Node.{a-leaf, an-inner}
 use Rattle.nodes.specs.Grammar.Children.{the-last}
 use Rattle.nodes.specs.Grammar.Text.{text}
-use Rattle.nodes.specs.Deciding.{GoesOnAlike}
+use Rattle.nodes.specs.Deciding.{nextDigit, GoesOnAlike}
 use Rattle.nodes.proofs.Fronts.{Then, BlanksAnd}
 use Rattle.meanings.specs.Meaning.{partBefore, known, Kept}
 use Rattle.meanings.proofs.Alike.{stops-alike}
@@ -36,9 +37,18 @@ use Rattle.meanings.proofs.KeptContexts.{NodeOf, node-kept, blanks-node
 
 -- ---- from a place where a piece may stand
 
+no-digit-next : (end rest : List ℕ) → 1 ≤ length end → isDigit (getD end 0 0) ≡ false → nextDigit (end ++ rest) ≡ false
+unfolding nextDigit
+no-digit-next [] rest some other = absurd (omega arith)
+no-digit-next (b ∷ end) rest some other = other
+
 -- the end of an open label goes on with it
 open-alike : (before : ℕ) {s : List ℕ} {j : ℕ} (o : Open s j) (rest : List ℕ) → GoesOnAlike before (o .end ++ rest) (drop j s)
-open-alike before o rest = record { bare = λ is e. o .bare-on rest e; quote = λ is e. o .quote-on rest e }
+open-alike before o rest =
+    record {
+      label = record { bare = λ is e. o .bare-on rest e; quote = λ is e. o .quote-on rest e };
+      digits = λ is e. absurd (false≢true (sym (no-digit-next (o .end) rest (o .some) (o .no-digit)) ∙ e));
+    }
 
 -- of a token that the place cuts, its bytes before the place
 part-cut : (x y rest : List ℕ) → partBefore (length (y ++ rest)) (x ++ (y ++ rest)) rest ≡ x
@@ -49,10 +59,10 @@ part-cut x y rest =
     ap (λ (n : ℕ). take n (x ++ (y ++ rest))) count ∙ take-append-seam x (y ++ rest)
 
 -- j bytes of s are the front of a piece that may stand there, with y behind them
-module _ (names : List (List ℕ)) (P : ℕ → List ℕ → List ℕ → Type 0) {s₀ u s : List ℕ} (left : Left s₀ u s) (may : MayFollow names P u) where
+module _ (given : Bool) (names : List (List ℕ)) (P : ℕ → List ℕ → List ℕ → Type 0) {s₀ u s : List ℕ} (left : Left s₀ u s) (may : MayFollow given names P u) where
   pub kept-at :
       (j : ℕ) → j ≤ length s → (y : List ℕ) → GoesOnAlike (byteBefore s₀ (length u + j)) (y ++ may .end) (drop j s)
-      → P (length (y ++ may .end)) (take j s ++ (y ++ may .end)) (may .end) → Kept names s₀ (length u + j)
+      → P (length (y ++ may .end)) (take j s ++ (y ++ may .end)) (may .end) → Kept given names s₀ (length u + j)
   kept-at j fits y alike p =
       let behind = y ++ may .end in
       let size : length behind ≡ length y + length (may .end) = length-append y (may .end) in
@@ -72,41 +82,44 @@ module _ (names : List (List ℕ)) (P : ℕ → List ℕ → List ℕ → Type 0
 
 -- ---- open labels and numbers
 
-module _ (names : List (List ℕ)) {s₀ u s : List ℕ} (left : Left s₀ u s) where
+module _ (given : Bool) (names : List (List ℕ)) {s₀ u s : List ℕ} (left : Left s₀ u s) where
   -- a leaf's label
-  pub open-leaf-kept : {room seen j : ℕ} → MayFollow names (NodeIn names room seen) u → Open s j → Kept names s₀ (length u + j)
+  pub open-leaf-kept : {room seen j : ℕ} → MayFollow given names (NodeIn given names room seen) u → Open s j → Kept given names s₀ (length u + j)
   open-leaf-kept {room} {seen} {j} may o =
       let end = may .end in
       let behind = o .end ++ end in
       let size = length-append (o .end) end in
       let short : length (letters (partBefore (length behind) (take j s ++ behind) end)) ≤ labelBytes = rw (part-cut (take j s) (o .end) end) (o .short) in
-      kept-at names (NodeIn names room seen) left may j (o .within) (o .end) (open-alike (byteBefore s₀ (length u + j)) o end)
+      kept-at given names (NodeIn given names room seen) left may j (o .within) (o .end) (open-alike (byteBefore s₀ (length u + j)) o end)
       (record {
-        tree = unknownLeaf names;
-        derives = a-leaf none (o .spells end) (ends-late names (length behind) (o .name) (take j s ++ behind) end short (omega (arith, o .some))) nothing;
-        fresh = unknown-leaf-fresh names seen;
+        tree = unknownLeaf given names;
+        derives = a-leaf none (o .spells end) (ends-late given names (length behind) (o .name) (take j s ++ behind) end short (omega (arith, o .some))) nothing;
+        fresh = unknown-leaf-fresh given names seen;
       })
 
   -- the label of an inner node
-  pub open-name-kept : {j : ℕ} → MayFollow names (NameIn names) u → Open s j → Kept names s₀ (length u + j)
+  pub open-name-kept : {j : ℕ} → MayFollow given names (NameIn names) u → Open s j → Kept given names s₀ (length u + j)
   open-name-kept {j} may o =
       let end = may .end in
-      kept-at names (NameIn names) left may j (o .within) (o .end) (open-alike (byteBefore s₀ (length u + j)) o end)
+      kept-at given names (NameIn names) left may j (o .within) (o .end) (open-alike (byteBefore s₀ (length u + j)) o end)
       (record { w = o .name; spelled = o .spells end; short = rw (part-cut (take j s) (o .end) end) (o .short) })
 
-  -- a number of which j bytes stand before the place, with y behind them
+  -- a number of which j bytes stand before the place, with y behind them, so that it has not ended there
   pub number-kept :
-      (may : MayFollow names (NumberIn names) u) (j : ℕ) (w y : List ℕ) → j ≤ length s → j ≤ numberBytes → ((rest : List ℕ) → Number w (take j s ++ (y ++ rest)) rest)
-      → GoesOnAlike (byteBefore s₀ (length u + j)) (y ++ may .end) (drop j s) → Kept names s₀ (length u + j)
-  number-kept may j w y fits short derives alike =
+      (may : MayFollow given names (NumberIn given) u) (j : ℕ) (w y : List ℕ) → 1 ≤ length y → j ≤ length s → j ≤ numberBytes
+      → ((rest : List ℕ) → Number w (take j s ++ (y ++ rest)) rest)
+      → GoesOnAlike (byteBefore s₀ (length u + j)) (y ++ may .end) (drop j s) → Kept given names s₀ (length u + j)
+  number-kept may j w y some fits short derives alike =
       let end = may .end in
-      kept-at names (NumberIn names) left may j fits y alike
+      let size = length-append y end in
+      kept-at given names (NumberIn given) left may j fits y alike
       (record {
         w = w;
         mid = take j s ++ (y ++ end);
         gap = none;
         derives = derives end;
         short = rw (part-cut (take j s) y end) (omega (arith, length-take j s));
+        not-fine = λ ends. absurd (omega arith);
       })
 
 -- ---- places where nothing needs to stand: with the end behind it, what was read is a text
@@ -115,63 +128,72 @@ module _ (names : List (List ℕ)) {s₀ u s : List ℕ} (left : Left s₀ u s) 
 pub record NoneIn (m : ℕ) (v rest : List ℕ) : Type 0 where
   pub unread : v ≡ rest
 
-module _ (names : List (List ℕ)) where
-  pub kept-here : {s₀ u s : List ℕ} → Left s₀ u s → MayFollow names NoneIn u → Kept names s₀ (length u)
+module _ (given : Bool) (names : List (List ℕ)) where
+  pub kept-here : {s₀ u s : List ℕ} → Left s₀ u s → MayFollow given names NoneIn u → Kept given names s₀ (length u)
   kept-here {s₀} {u} {s} left may =
       let here : length u + 0 ≡ length u = omega arith in
-      rw here at (kept-at names NoneIn left may 0 zero-le [] (stops-alike (byteBefore s₀ (length u + 0)) (may .end) s (may .stops)) (record { unread = refl }))
+      rw here at
+      (kept-at given names NoneIn left may 0 zero-le [] (stops-alike (byteBefore s₀ (length u + 0)) (may .end) s (may .stops)) (record { unread = refl }))
 
   -- where a node may stand, ` a`
-  pub node-here : {room seen : ℕ} {u : List ℕ} → MayFollow names (NodeIn names room seen) u → MayFollow names NoneIn u
+  pub node-here : {room seen : ℕ} {u : List ℕ} → MayFollow given names (NodeIn given names room seen) u → MayFollow given names NoneIn u
   unfolding nextLabel
   node-here {room} {seen} may =
-      stand-as names (NodeIn names room seen) NoneIn 32 (97 ∷ []) refl
+      stand-as given names (NodeIn given names room seen) NoneIn 32 (97 ∷ []) refl
       (λ m v rest l e.
       rw (e .unread)
-      (blanks-node names room seen m (32 ∷ 97 ∷ rest) (97 ∷ rest) rest (blank refl none)
-      (record { tree = unknownLeaf names; derives = late-leaf names m room rest (omega arith); fresh = unknown-leaf-fresh names seen })))
+      (blanks-node given names room seen m (32 ∷ 97 ∷ rest) (97 ∷ rest) rest (blank refl none)
+      (record { tree = unknownLeaf given names; derives = late-leaf given names m room rest (omega arith); fresh = unknown-leaf-fresh given names seen })))
       may
 
   -- where a number may stand, ` 0`
-  pub number-here : {u : List ℕ} → MayFollow names (NumberIn names) u → MayFollow names NoneIn u
+  pub number-here : {u : List ℕ} → MayFollow given names (NumberIn given) u → MayFollow given names NoneIn u
   unfolding nextLabel
   number-here may =
-      stand-as names (NumberIn names) NoneIn 32 (48 ∷ []) refl
+      stand-as given names (NumberIn given) NoneIn 32 (48 ∷ []) refl
       (λ m v rest l e.
       rw (e .unread)
-      (record { w = 48 ∷ []; mid = 48 ∷ rest; gap = blank refl none; derives = whole (one refl); short = rw (late m (48 ∷ rest) rest (omega arith)) zero-le }))
+      (record {
+        w = 48 ∷ [];
+        mid = 48 ∷ rest;
+        gap = blank refl none;
+        derives = whole (one refl);
+        short = rw (late m (48 ∷ rest) rest (omega arith)) zero-le;
+        not-fine = λ ends. absurd (omega arith);
+      }))
       may
 
   -- behind `(`, a first child and blanks, `,a)`
   pub first-child-here :
-      {u s rest : List ℕ} (room seen : ℕ) (t : Tree) → Fresh names seen (leaves t) → MayFollow names (NodeIn names (suc room) seen) u
-      → (f : Front (Then (Then (BlanksAnd 40) (NodeOf names room t)) Blanks) s rest) → MayFollow names NoneIn (u ++ f .bytes)
+      {u s rest : List ℕ} (room seen : ℕ) (t : Tree) → Fresh names seen (leaves t) → MayFollow given names (NodeIn given names (suc room) seen) u
+      → (f : Front (Then (Then (BlanksAnd 40) (NodeOf given names room t)) Blanks) s rest) → MayFollow given names NoneIn (u ++ f .bytes)
   unfolding nextLabel leaves leavesOf
   first-child-here room seen t fresh may f =
-      stand-before names (NodeIn names (suc room) seen) NoneIn (Then (Then (BlanksAnd 40) (NodeOf names room t)) Blanks) 44 (97 ∷ 41 ∷ []) refl
+      stand-before given names (NodeIn given names (suc room) seen) NoneIn (Then (Then (BlanksAnd 40) (NodeOf given names room t)) Blanks) 44 (97 ∷ 41 ∷ []) refl
       (λ m s v rest l h e.
       record {
-        tree = node t (last (unknownLeaf names)) (record { name = []; distance = []; support = [] });
-        derives = an-inner (h .first .first) (node-kept names m (h .first .second)) (rw (e .unread) at (h .second)) (late-children names m room rest (omega arith))
-            nameless nothing;
+        tree = node t (last (unknownLeaf given names)) (record { name = []; distance = []; support = [] });
+        derives = an-inner (h .first .first) (node-kept given names m (h .first .second)) (rw (e .unread) at (h .second))
+            (late-children given names m room rest (omega arith)) nameless nothing;
         fresh = fresh-unknown names seen (leaves t) fresh;
       })
       may f
 
   -- behind a later child and blanks, `)`
   pub later-child-here :
-      {u s rest : List ℕ} (room seen : ℕ) (t : Tree) → Fresh names seen (leaves t) → MayFollow names (ChildrenIn names room seen) u
-      → (f : Front (Then (NodeOf names room t) Blanks) s rest) → MayFollow names NoneIn (u ++ f .bytes)
+      {u s rest : List ℕ} (room seen : ℕ) (t : Tree) → Fresh names seen (leaves t) → MayFollow given names (ChildrenIn given names room seen) u
+      → (f : Front (Then (NodeOf given names room t) Blanks) s rest) → MayFollow given names NoneIn (u ++ f .bytes)
   unfolding nextLabel leavesOf
   later-child-here room seen t fresh may f =
-      stand-before names (ChildrenIn names room seen) NoneIn (Then (NodeOf names room t) Blanks) 41 [] refl
+      stand-before given names (ChildrenIn given names room seen) NoneIn (Then (NodeOf given names room t) Blanks) 41 [] refl
       (λ m s v rest l h e.
-      record { forest = last t; derives = the-last (node-kept names m (h .first)) (rw (e .unread) at (h .second)); fresh = fresh })
+      record { forest = last t; derives = the-last (node-kept given names m (h .first)) (rw (e .unread) at (h .second)); fresh = fresh })
       may f
 
   -- behind the whole tree and blanks, `;`
   pub root-here :
-      {s rest : List ℕ} (t : Tree) → NoneTwice (known names t) → (f : Front (Then (NodeOf names openMost t) Blanks) s rest) → MayFollow names NoneIn (f .bytes)
+      {s rest : List ℕ} (t : Tree) → NoneTwice (known names t) → (f : Front (Then (NodeOf given names openMost t) Blanks) s rest)
+      → MayFollow given names NoneIn (f .bytes)
   unfolding nextLabel
   root-here t once f =
       record {
@@ -180,5 +202,5 @@ module _ (names : List (List ℕ)) where
         stops = refl;
         text = λ m l v e.
             let h = f .anywhere (59 ∷ []) in
-            rw (e .unread) (record { tree = t; text = text (node-kept names m (h .first)) (h .second); once = once });
+            rw (e .unread) (record { tree = t; text = text (node-kept given names m (h .first)) (h .second); once = once });
       }

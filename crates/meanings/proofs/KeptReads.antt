@@ -25,7 +25,8 @@ use Rattle.trees.proofs.Nodes.{has-leaf}
 use Rattle.roster.specs.Roster.{position}
 use Rattle.tokens.specs.Answers.{Answer, andThen}
 use Rattle.tokens.specs.Answers.Answer.{parsed, refused}
-use Rattle.tokens.specs.Tokens.{blanks, skip, numbers, name}
+use Rattle.tokens.specs.Tokens.{blanks, skip, name}
+use Rattle.tokens.specs.Supports.{supported}
 use Rattle.nodes.specs.Reading.{openMost, leafNew, leafKnown, leafAt, closing, afterFirst, afterChild, readNode, readForest, complete, ended, readTree}
 use Rattle.nodes.specs.Reading.{leafBy, closingBy, readNodeBy, readForestBy, readTreeToBy, readTreeBy}
 use Rattle.nodes.specs.Grammar.{Blanks, Numbers, Inner, Text}
@@ -38,7 +39,7 @@ use Rattle.nodes.proofs.Rests.{Moves, stays, moves-on, moves-length, skip-moves
 use Rattle.nodes.proofs.Locality.{deciding, border-deciding}
 use Rattle.meanings.specs.Meaning.{keptTo, known}
 use Rattle.meanings.proofs.FreshSpecies.{onRoster, Fresh}
-use Rattle.meanings.proofs.LateTokens.{Late, Passes, passes-from, passes-then, passes-as, passes-on, Only, byte-moves, numbers-passes, name-passes, innerName-passes}
+use Rattle.meanings.proofs.LateTokens.{Late, Passes, passes-from, passes-then, passes-as, passes-on, Only, byte-moves, supported-passes, name-passes, innerName-passes}
 use Rattle.meanings.proofs.LateTokens.Passes.{reads, halts}
 
 -- ---- species that were not seen
@@ -86,7 +87,7 @@ moves-shorter on = omega (arith, moves-length on, on .place)
 pub judged-decides : (n : ℕ) (s : List ℕ) (c : ℕ) → (eqb n 5 || eqb n 6) ≡ true → told s ≡ endsAt c → deciding n s ≡ c
 judged-decides n s c judged e = rw (judged, e) refl
 
-module _ (names : List (List ℕ)) (m : ℕ) where
+module _ (given : Bool) (names : List (List ℕ)) (m : ℕ) where
   -- what was read is x, as far as it stands before the place
   abbrev Before : {A : Type 0} → A → List ℕ → A → Type 0
   Before x rest y = m ≤ length rest → y ≡ x
@@ -94,7 +95,8 @@ module _ (names : List (List ℕ)) (m : ℕ) where
   abbrev leafOf : ℕ → List ℕ → List ℕ → Tree
   leafOf i d b = leaf i (record { name = []; distance = d; support = b })
 
-  module _ (seen i : ℕ) {w d b s mid rest : List ℕ} (r : Spells w s mid) (kept : keptTo names m .leafName w i s mid) (behind : Numbers (keptTo names m) d b mid rest)
+  module _ (seen i : ℕ) {w d b s mid rest : List ℕ} (r : Spells w s mid) (kept : keptTo given names m .leafName w i s mid)
+      (behind : Numbers (keptTo given names m) d b mid rest)
       (follows : Follows rest) (fresh : m ≤ length s → Fresh names seen (i ∷ [])) (p : ℕ) where
     -- the label ends behind the place
     judged-late : (n : ℕ) → (eqb n 5 || eqb n 6) ≡ true → length w ≤ labelBytes → length mid < m → Late m s p n p
@@ -110,7 +112,7 @@ module _ (names : List (List ℕ)) (m : ℕ) where
       judged-passes : (n : ℕ) → (eqb n 5 || eqb n 6) ≡ true → (m ≤ length mid → ⊥) → LeafPasses (refused n p)
       judged-passes n judged behind-place = halts (judged-late n judged short (omega (arith, behind-place)))
 
-      new-passes : (t : Bool) → apart (single (position w names)) seen ≡ t → LeafPasses (leafNew t (position w names) p mid q)
+      new-passes : (t : Bool) → apart (single (position w names)) seen ≡ t → LeafPasses (leafNew given t (position w names) p mid q)
       new-passes false again =
           judged-passes 6 refl
           (λ l.
@@ -118,44 +120,46 @@ module _ (names : List (List ℕ)) (m : ℕ) where
           true≢false (sym (fresh-new names seen i (at .1) (fresh (omega (arith, moves-shorter moved)))) ∙ rw (at .0) at again))
       new-passes true again =
           passes-from moved
-          (passes-then (λ x s p. parsed (leaf (position w names) x) s p) (numbers-passes names m [] behind follows q)
+          (passes-then (λ x s p. parsed (leaf (position w names) x) s p) (supported-passes given names m [] behind follows q)
           (λ x z on is. reads on (λ l. rw (is, kept .1 (omega (arith, moves-shorter on)) .0) refl)))
 
-      known-passes : (t : Bool) → ltb (position w names) (length names) ≡ t → LeafPasses (leafKnown t (position w names) seen p mid q)
+      known-passes : (t : Bool) → ltb (position w names) (length names) ≡ t → LeafPasses (leafKnown given t (position w names) seen p mid q)
       known-passes false on =
           judged-passes 5 refl (λ l. let at = kept .1 (omega arith) in true≢false (sym (lt-ltb i (length names) (at .1)) ∙ rw (at .0) at on))
       known-passes true on = new-passes (apart (single (position w names)) seen) refl
 
-    leaf-passes : Passes m s p (Before (leafOf i d b) rest) rest (leafAt names seen s p)
+    leaf-passes : Passes m s p (Before (leafOf i d b) rest) rest (leafAt given names seen s p)
     unfolding leafBy
     leaf-passes =
-        passes-then (λ w rest q. leafKnown (ltb (position w names) (length names)) (position w names) seen p rest q)
+        passes-then (λ w rest q. leafKnown given (ltb (position w names) (length names)) (position w names) seen p rest q)
         (name-passes m r (stopped-label (numbers-stopped behind follows)) (kept .0) p)
         (λ x q moved is. rw (is .0) (known-passes (is .1) q moved (ltb (position w names) (length names)) refl))
 
   -- ---- nodes and children
 
   closing-passes :
-      (t : Tree) (f : Forest) {w d b s mid rest : List ℕ} → Inner (keptTo names m) w s mid → Numbers (keptTo names m) d b mid rest → Follows rest → (p : ℕ)
-      → Passes m s p (Only (node t f (record { name = w; distance = d; support = b }))) rest (closing t f s p)
+      (t : Tree) (f : Forest) {w d b s mid rest : List ℕ} → Inner (keptTo given names m) w s mid → Numbers (keptTo given names m) d b mid rest → Follows rest
+      → (p : ℕ) → Passes m s p (Only (node t f (record { name = w; distance = d; support = b }))) rest (closing given t f s p)
   unfolding closingBy
   closing-passes t f {w} {rest = rest} inner behind follows p =
-      passes-on (λ w s p. andThen (numbers w s p) (λ b s p. parsed (node t f b) s p)) (innerName-passes m names inner (numbers-stopped behind follows) p)
-      (λ q. passes-on (λ b s p. parsed (node t f b) s p) (numbers-passes names m w behind follows q) (λ z. reads (stays rest z) refl))
+      passes-on (λ w s p. andThen (supported given w s p) (λ b s p. parsed (node t f b) s p))
+      (innerName-passes m given names inner (numbers-stopped behind follows) p)
+      (λ q. passes-on (λ b s p. parsed (node t f b) s p) (supported-passes given names m w behind follows q) (λ z. reads (stays rest z) refl))
 
   -- where what follows ends it, reading at any depth above the measure reads it, or is refused late; its species were not seen where it begins before the place
   abbrev NodePasses : ℕ → List ℕ → Tree → List ℕ → Type 0
   NodePasses room s t rest =
       Follows rest → (k seen p : ℕ) → 2 * length s < k → (m ≤ length s → Fresh names seen (leaves t))
-      → Passes m s p (Before t rest) rest (readNode k names room seen s p)
+      → Passes m s p (Before t rest) rest (readNode given k names room seen s p)
 
   abbrev ForestPasses : ℕ → List ℕ → Forest → List ℕ → Type 0
   ForestPasses room s f rest =
       (k seen p : ℕ) → 2 * length s + 1 < k → (m ≤ length s → Fresh names seen (leavesOf f))
-      → Passes m s p (Before f rest) rest (readForest k names room seen s p)
+      → Passes m s p (Before f rest) rest (readForest given k names room seen s p)
 
   leaf-step :
-      (room i : ℕ) (w d b s s₁ s₂ rest : List ℕ) → Blanks s s₁ → Spells w s₁ s₂ → keptTo names m .leafName w i s₁ s₂ → Numbers (keptTo names m) d b s₂ rest
+      (room i : ℕ) (w d b s s₁ s₂ rest : List ℕ) → Blanks s s₁ → Spells w s₁ s₂ → keptTo given names m .leafName w i s₁ s₂
+      → Numbers (keptTo given names m) d b s₂ rest
       → NodePasses room s (leafOf i d b) rest
   unfolding readNodeBy leaves
   leaf-step room i w d b s s₁ s₂ rest gap r kept behind follows zero seen p l fresh = absurd (omega arith)
@@ -168,15 +172,15 @@ module _ (names : List (List ℕ)) (m : ℕ) where
   -- behind the first child, which was read as z: a comma, the others, and what closes the node
   others-pass :
       (k room seen : ℕ) (t : Tree) (f : Forest) (w d b s s₁ s₂ s₃ rest : List ℕ)
-      → Blanks s (44 ∷ s₁) → ForestPasses room s₁ f s₂ → Inner (keptTo names m) w s₂ s₃ → Numbers (keptTo names m) d b s₃ rest → Follows rest
+      → Blanks s (44 ∷ s₁) → ForestPasses room s₁ f s₂ → Inner (keptTo given names m) w s₂ s₃ → Numbers (keptTo given names m) d b s₃ rest → Follows rest
       → 2 * length s₁ + 1 < k → (z : Tree) → Before t s z → (m ≤ length s → Fresh names seen (leaves t ++ leavesOf f)) → (p : ℕ)
       → Passes m s p (Before (node t f (record { name = w; distance = d; support = b })) rest) rest
-      (afterFirst (nextIs 44 (skip s)) (nextIs 41 (skip s)) (λ e s p. readForest k names room e s p) seen z (skip s) (p + blanks s))
+      (afterFirst given (nextIs 44 (skip s)) (nextIs 41 (skip s)) (λ e s p. readForest given k names room e s p) seen z (skip s) (p + blanks s))
   others-pass k room seen t f w d b s s₁ s₂ s₃ rest comma others inner behind follows l z same fresh p =
       let on = byte-moves 44 refl comma p in
       rw (skip-is 44 refl comma, skip-to 44 refl comma)
       (passes-from on
-      (passes-then (λ f s p. closing z f s p)
+      (passes-then (λ f s p. closing given z f s p)
       (others k (union seen (cluster z)) (p + blanks s + 1) l
       (λ h.
       let h′ : m ≤ length s = omega (arith, moves-shorter on) in
@@ -189,8 +193,8 @@ module _ (names : List (List ℕ)) (m : ℕ) where
 
   inner-step :
       (room : ℕ) (t : Tree) (f : Forest) (w d b s s₁ s₂ s₃ s₄ s₅ rest : List ℕ)
-      → Blanks s (40 ∷ s₁) → NodePasses room s₁ t s₂ → Blanks s₂ (44 ∷ s₃) → ForestPasses room s₃ f s₄ → Inner (keptTo names m) w s₄ s₅
-      → Numbers (keptTo names m) d b s₅ rest → NodePasses (suc room) s (node t f (record { name = w; distance = d; support = b })) rest
+      → Blanks s (40 ∷ s₁) → NodePasses room s₁ t s₂ → Blanks s₂ (44 ∷ s₃) → ForestPasses room s₃ f s₄ → Inner (keptTo given names m) w s₄ s₅
+      → Numbers (keptTo given names m) d b s₅ rest → NodePasses (suc room) s (node t f (record { name = w; distance = d; support = b })) rest
   unfolding readNodeBy leaves nextLabel
   inner-step room t f w d b s s₁ s₂ s₃ s₄ s₅ rest bl first comma others inner behind follows zero seen p l fresh = absurd (omega arith)
   inner-step room t f w d b s s₁ s₂ s₃ s₄ s₅ rest bl first comma others inner behind follows (suc k) seen p l fresh =
@@ -200,7 +204,8 @@ module _ (names : List (List ℕ)) (m : ℕ) where
       let l₁ = moves-length on in
       rw (no-leaf, skip-is 40 refl bl, e)
       (passes-from on
-      (passes-then (λ t s p. afterFirst (nextIs 44 (skip s)) (nextIs 41 (skip s)) (λ e s p. readForest k names room e s p) seen t (skip s) (p + blanks s))
+      (passes-then
+      (λ t s p. afterFirst given (nextIs 44 (skip s)) (nextIs 41 (skip s)) (λ e s p. readForest given k names room e s p) seen t (skip s) (p + blanks s))
       (first (comma-follows comma) k seen (p + blanks s + 1) (omega arith) (λ h. fresh-first names seen (leaves t) (leavesOf f) (fresh (omega arith))))
       (λ z q on′ same.
       let l₂ = moves-shorter on′ in
@@ -215,7 +220,7 @@ module _ (names : List (List ℕ)) (m : ℕ) where
   last-step room t s s₁ rest only closes (suc k) seen p l fresh =
       let e : skip s₁ ≡ 41 ∷ rest = skip-to 41 refl closes in
       let no-comma : nextIs 44 (skip s₁) ≡ false = rw e (next-not 44 41 rest refl) in
-      passes-then (λ t s p. afterChild (nextIs 44 (skip s)) (nextIs 41 (skip s)) (λ e s p. readForest k names room e s p) seen t (skip s) (p + blanks s))
+      passes-then (λ t s p. afterChild (nextIs 44 (skip s)) (nextIs 41 (skip s)) (λ e s p. readForest given k names room e s p) seen t (skip s) (p + blanks s))
       (only (closing-follows closes) k seen p (omega arith) fresh)
       (λ z q on same.
       let on′ = byte-moves 41 refl closes q in
@@ -227,7 +232,7 @@ module _ (names : List (List ℕ)) (m : ℕ) where
   unfolding readForestBy leavesOf
   more-step room t f s s₁ s₂ rest first comma others zero seen p l fresh = absurd (omega arith)
   more-step room t f s s₁ s₂ rest first comma others (suc k) seen p l fresh =
-      passes-then (λ t s p. afterChild (nextIs 44 (skip s)) (nextIs 41 (skip s)) (λ e s p. readForest k names room e s p) seen t (skip s) (p + blanks s))
+      passes-then (λ t s p. afterChild (nextIs 44 (skip s)) (nextIs 41 (skip s)) (λ e s p. readForest given k names room e s p) seen t (skip s) (p + blanks s))
       (first (comma-follows comma) k seen p (omega arith) (λ h. fresh-first names seen (leaves t) (leavesOf f) (fresh h)))
       (λ z q on same.
       let on′ = moves-on on (byte-moves 44 refl comma q) in
@@ -240,7 +245,7 @@ module _ (names : List (List ℕ)) (m : ℕ) where
       (λ h. rw (same (omega arith)) (fresh-others names seen t (leavesOf f) (fresh (omega arith)))))
       (λ g r on″ is. reads on″ (λ h. rw (is h, same (omega (arith, moves-shorter on″))) refl)))))
 
-  pass-steps : Steps (keptTo names m) NodePasses ForestPasses
+  pass-steps : Steps (keptTo given names m) NodePasses ForestPasses
   pass-steps =
       record {
         at-leaf = λ k i w d b s s₁ s₂ rest gap r kept behind. leaf-step k i w d b s s₁ s₂ rest gap r kept behind;
@@ -262,12 +267,12 @@ module _ (names : List (List ℕ)) (m : ℕ) where
       halts {n = 9} (record { from = 59 ∷ rest; moved = moves-on on (rw (skip-to 59 refl ends) at (skip-moves s₁ q)); beyond = omega arith })
 
   text-passes :
-      (needed : ℕ) {s rest : List ℕ} {t : Tree} → Text (keptTo names m) openMost s t rest → NoneTwice (known names t) → length rest < m → (p : ℕ)
-      → Passes m s p (λ x. Unit {0}) rest (readTree names needed s p)
+      (needed : ℕ) {s rest : List ℕ} {t : Tree} → Text (keptTo given names m) openMost s t rest → NoneTwice (known names t) → length rest < m → (p : ℕ)
+      → Passes m s p (λ x. Unit {0}) rest (readTree given names needed s p)
   unfolding readTreeBy readTreeToBy
   text-passes needed {s} (text d ends) once l p =
       passes-then (λ t s p. ended (nextIs 59 (skip s)) needed t (skip s) (p + blanks s))
-      (over-node (keptTo names m) NodePasses ForestPasses pass-steps d (semicolon-follows ends) (2 * length s + 1) 0 p (omega arith)
+      (over-node (keptTo given names m) NodePasses ForestPasses pass-steps d (semicolon-follows ends) (2 * length s + 1) 0 p (omega arith)
       (λ h. record { once = once; new = λ i among has. has-zero i has }))
       (λ z q on same. rw (skip-is 59 refl ends, skip-to 59 refl ends) (ended-passes (within needed (cluster z)) z on ends l))
 
@@ -280,10 +285,11 @@ passed {n = n} {q = q} (halts {n = k} {q = r} l) e =
 
 -- a text that is kept up to the place, behind which m bytes stand, is refused, if at all, by bytes of which some stand behind the place
 pub kept-read-late :
-    (names : List (List ℕ)) (needed m : ℕ) (s : List ℕ) (p n x : ℕ) {t : Tree}
-    → Text (keptTo names m) openMost s t [] → NoneTwice (known names t) → 1 ≤ m → readTree names needed s p ≡ refused n (p + x) → length s < m + border n s x
-kept-read-late names needed m s p n x d once some h =
-    let l = passed (text-passes names m needed d once some p) h in
+    (given : Bool) (names : List (List ℕ)) (needed m : ℕ) (s : List ℕ) (p n x : ℕ) {t : Tree}
+    → Text (keptTo given names m) openMost s t [] → NoneTwice (known names t) → 1 ≤ m
+    → readTree given names needed s p ≡ refused n (p + x) → length s < m + border n s x
+kept-read-late given names needed m s p n x d once some h =
+    let l = passed (text-passes given names m needed d once some p) h in
     let at : l .moved .count ≡ x = omega (arith, l .moved .place) in
     let there : l .from ≡ drop x s = l .moved .left ∙ ap (λ (c : ℕ). drop c s) at in
     let beyond : length (drop x s) < m + deciding n (drop x s) = rw there at (l .beyond) in

@@ -1,4 +1,5 @@
 -- The rules for what is kept before a place: a later place allows less, what is strict is kept, and what is kept and ends before the place is strict.
+use mathlib.Core.Bool.{Bool}
 use Prim.Native.Nat.{ℕ, zero, suc, _+_, _-_, _≤_, max, zero-le}
 use native.Mathlib.Omega.{arith}
 use mathlib.Core.Path.{_≡_, refl, sym, ap, _∙_}
@@ -23,7 +24,7 @@ use Rattle.nodes.specs.Grammar.Inner.{nameless, named}
 use Rattle.nodes.specs.Grammar.Node.{a-leaf, an-inner, a-single}
 use Rattle.nodes.specs.Grammar.Children.{the-last, one-more}
 use Rattle.nodes.specs.Grammar.Text.{text}
-use Rattle.nodes.specs.Deciding.{GoesOnAlike}
+use Rattle.nodes.specs.Deciding.{nextDigit, GoesOnAlike}
 use Rattle.nodes.proofs.Derivations.{Steps, over-node, over-children}
 use Rattle.meanings.specs.Meaning.{partBefore, keptTo, Kept}
 
@@ -46,7 +47,8 @@ number-size {w} {rest = rest} n = ap length (number-splits n) ∙ length-append 
 pub record Takes (m : ℕ) (R R′ : Rules) : Type 0 where
   pub leafNames : {w s rest : List ℕ} (i : ℕ) → Spells w s rest → m ≤ length rest → R .leafName w i s rest → R′ .leafName w i s rest
   pub innerNames : {w s rest : List ℕ} → Spells w s rest → m ≤ length rest → R .innerName w s rest → R′ .innerName w s rest
-  pub numbers : {w s rest : List ℕ} → Number w s rest → m ≤ length rest → R .number w s rest → R′ .number w s rest
+  pub distances : {w s rest : List ℕ} → Number w s rest → m ≤ length rest → R .distance w s rest → R′ .distance w s rest
+  pub supports : {w s rest : List ℕ} → Number w s rest → m ≤ length rest → R .support w s rest → R′ .support w s rest
   pub singles : R .fewest ≤ 1 → R′ .fewest ≤ 1
 
 -- X is also taken by other rules, where it leaves at least m bytes; then as many stand before it
@@ -54,23 +56,30 @@ pub record Taken (m : ℕ) (X : List ℕ → List ℕ → Type 0) (s rest : List
   pub before : m ≤ length s
   pub taken : X s rest
 
+-- a colon and a number that other rules take too
+colon-taken :
+    (Takes′ : List ℕ → List ℕ → List ℕ → Type 0) (m : ℕ) {w s s₁ s₂ rest : List ℕ} → Blanks s (58 ∷ s₁) → Blanks s₁ s₂ → Number w s₂ rest → m ≤ length rest
+    → Takes′ w s₂ rest → Taken m (ColonNumber Takes′ w) s rest
+colon-taken Takes′ m bl gap n l taken =
+    record { before = omega (arith, blanks-shorter bl, blanks-shorter gap, number-size n); taken = colon bl gap n taken }
+
 module _ (m : ℕ) (R R′ : Rules) (takes : Takes m R R′) where
-  pub colon-taken : {w s rest : List ℕ} → ColonNumber R w s rest → m ≤ length rest → Taken m (ColonNumber R′ w) s rest
-  colon-taken (colon bl gap n short) l =
-      record {
-        before = omega (arith, blanks-shorter bl, blanks-shorter gap, number-size n);
-        taken = colon bl gap n (takes .numbers n l short);
-      }
+  pub distance-taken : {w s rest : List ℕ} → ColonNumber (R .distance) w s rest → m ≤ length rest → Taken m (ColonNumber (R′ .distance) w) s rest
+  distance-taken (colon bl gap n short) l = colon-taken (R′ .distance) m bl gap n l (takes .distances n l short)
+
+  -- a support behind its colon that ends before the place is taken by the other rules too
+  pub support-taken : {w s rest : List ℕ} → ColonNumber (R .support) w s rest → m ≤ length rest → Taken m (ColonNumber (R′ .support) w) s rest
+  support-taken (colon bl gap n short) l = colon-taken (R′ .support) m bl gap n l (takes .supports n l short)
 
   numbers-taken : {d b s rest : List ℕ} → Numbers R d b s rest → m ≤ length rest → Taken m (Numbers R′ d b) s rest
   numbers-taken nothing l = record { before = l; taken = nothing }
-  numbers-taken (distance c) l = let h = colon-taken c l in record { before = h .before; taken = distance (h .taken) }
+  numbers-taken (distance c) l = let h = distance-taken c l in record { before = h .before; taken = distance (h .taken) }
   numbers-taken (both c e) l =
-      let g = colon-taken e l in
-      let h = colon-taken c (g .before) in
+      let g = support-taken e l in
+      let h = distance-taken c (g .before) in
       record { before = h .before; taken = both (h .taken) (g .taken) }
   numbers-taken (support bl c) l =
-      let h = colon-taken c l in
+      let h = support-taken c l in
       record { before = omega (arith, blanks-shorter bl, h .before); taken = support bl (h .taken) }
 
   pub inner-taken : {w s rest : List ℕ} → Inner R w s rest → m ≤ length rest → Taken m (Inner R′ w) s rest
@@ -153,34 +162,37 @@ module _ (m : ℕ) (R R′ : Rules) (takes : Takes m R R′) where
 fewer-before : (m m′ : ℕ) (s rest : List ℕ) → m ≤ m′ → length (letters (partBefore m′ s rest)) ≤ length (letters (partBefore m s rest))
 fewer-before m m′ s rest l = letters-grow (length s - max m′ (length rest)) (length s - max m (length rest)) s (omega arith)
 
-pub earlier-takes : (names : List (List ℕ)) (m m′ : ℕ) → m ≤ m′ → Takes 0 (keptTo names m) (keptTo names m′)
-earlier-takes names m m′ l =
+pub earlier-takes : (given : Bool) (names : List (List ℕ)) (m m′ : ℕ) → m ≤ m′ → Takes 0 (keptTo given names m) (keptTo given names m′)
+earlier-takes given names m m′ l =
     record {
       leafNames = λ {w} {s} {rest} i r z h. (omega (arith, h .0, fewer-before m m′ s rest l), λ ends. h .1 (omega arith));
       innerNames = λ {w} {s} {rest} r z h. omega (arith, fewer-before m m′ s rest l);
-      numbers = λ {w} {s} {rest} n z h. let l′ = simp length-take at h in simp length-take (omega arith);
+      distances = λ {w} {s} {rest} n z h. let l′ = simp length-take at h in simp length-take (omega arith);
+      supports = λ {w} {s} {rest} n z h. let l′ = simp length-take at (h .0) in (simp length-take (omega arith), λ ends. h .1 (omega arith));
       singles = λ enough. enough;
     }
 
 -- ---- what is strict is kept, whatever the place
 
-pub strict-takes : (names : List (List ℕ)) (m : ℕ) → Takes 0 (strict names) (keptTo names m)
-strict-takes names m =
+pub strict-takes : (given : Bool) (names : List (List ℕ)) (m : ℕ) → Takes 0 (strict given names) (keptTo given names m)
+strict-takes given names m =
     record {
       leafNames = λ {w} {s} {rest} i r z h. (omega (arith, h .0, part-letters r (length s - max m (length rest)) (omega arith)), λ ends. (h .1, h .2));
       innerNames = λ {w} {s} {rest} r z h. omega (arith, part-letters r (length s - max m (length rest)) (omega arith));
-      numbers = λ {w} {s} {rest} n z h. simp length-take (omega (arith, number-size n));
+      distances = λ {w} {s} {rest} n z h. simp length-take (omega (arith, number-size n));
+      supports = λ {w} {s} {rest} n z h. (simp length-take (omega (arith, h .0, number-size n)), λ ends. h .1);
       singles = λ enough. enough;
     }
 
 -- ---- what is kept, and ends before the place, is strict
 
-pub kept-takes : (names : List (List ℕ)) (m : ℕ) → Takes m (keptTo names m) (strict names)
-kept-takes names m =
+pub kept-takes : (given : Bool) (names : List (List ℕ)) (m : ℕ) → Takes m (keptTo given names m) (strict given names)
+kept-takes given names m =
     record {
       leafNames = λ {w} {s} {rest} i r l h. let known = h .1 (omega (arith, spells-shorter r)) in (whole-short r l (h .0), known .0, known .1);
       innerNames = λ {w} {s} {rest} r l h. whole-short r l h;
-      numbers = λ {w} {s} {rest} n l h. let k = simp length-take at h in omega (arith, number-size n);
+      distances = λ {w} {s} {rest} n l h. let k = simp length-take at h in omega (arith, number-size n);
+      supports = λ {w} {s} {rest} n l h. let k = simp length-take at (h .0) in (omega (arith, number-size n), h .1 l);
       singles = λ enough. enough;
     }
   where
@@ -193,12 +205,12 @@ kept-takes names m =
 -- ---- nothing is at fault before an earlier place
 
 -- bytes that stand in a text go on alike, whatever follows them
-goes-on-itself : (before k : ℕ) (behind more : List ℕ) → suc k ≤ length behind → GoesOnAlike before (take (suc k) behind ++ more) behind
-unfolding nextBare nextIs
+pub goes-on-itself : (before k : ℕ) (behind more : List ℕ) → suc k ≤ length behind → GoesOnAlike before (take (suc k) behind ++ more) behind
+unfolding nextBare nextIs nextDigit
 goes-on-itself before k [] more l = absurd (omega arith)
-goes-on-itself before k (b ∷ behind) more l = record { bare = λ is e. e; quote = λ is e. e }
+goes-on-itself before k (b ∷ behind) more l = record { label = record { bare = λ is e. e; quote = λ is e. e }; digits = λ is e. e }
 
-module _ (names : List (List ℕ)) (s : List ℕ) (d e : ℕ) (kept : Kept names s d) (l : e ≤ d) where
+module _ (given : Bool) (names : List (List ℕ)) (s : List ℕ) (d e : ℕ) (kept : Kept given names s d) (l : e ≤ d) where
   abbrev between : List ℕ
   between = take (d - e) (drop e s)
 
@@ -210,7 +222,7 @@ module _ (names : List (List ℕ)) (s : List ℕ) (d e : ℕ) (kept : Kept names
       by (suc k) is = goes-on-itself (byteBefore s e) k (drop e s) (kept .more) (simp length-drop (omega (arith, kept .inside)))
 
   -- what begins a text that is kept up to d is kept up to any place before
-  pub kept-before : Kept names s e
+  pub kept-before : Kept given names s e
   kept-before =
       let more′ = between ++ kept .more in
       let sum : e + (d - e) ≡ d = omega arith in
@@ -225,7 +237,7 @@ module _ (names : List (List ℕ)) (s : List ℕ) (d e : ℕ) (kept : Kept names
         alike = goes-on-before;
         tree = kept .tree;
         text = rw same at
-            (text-taken 0 (keptTo names (length (kept .more))) (keptTo names (length more′)) (earlier-takes names (length (kept .more)) (length more′) longer)
+            (text-taken 0 (keptTo given names (length (kept .more))) (keptTo given names (length more′)) (earlier-takes given names (length (kept .more)) (length more′) longer)
             (kept .text) zero-le);
         once = kept .once;
       }

@@ -2,12 +2,12 @@
 use Prim.Native.Nat.{ℕ, _+_, _-_, _≤_, _<_, max}
 use native.Mathlib.Omega.{arith}
 use native.Mathlib.Decide.{decLe, decLt}
-use mathlib.Core.Path.{_≡_, refl, ap, _∙_}
-use mathlib.Core.Bool.{Bool, true, false}
+use mathlib.Core.Path.{_≡_, refl, sym, ap, _∙_}
+use mathlib.Core.Bool.{Bool, true, false, false≢true, true≢false}
 use mathlib.Core.List.{List, [], _∷_}
 use lib.ListN.{length, take, drop, length-take, length-drop}
-use lib.Seq.{take-take}
-use Rattle.labels.specs.Bytes.{isBlank, nextIs, nextLabel}
+use lib.Seq.{take-take, drop-append-seam}
+use Rattle.labels.specs.Bytes.{isBlank, run, nextIs, nextLabel}
 use Rattle.labels.specs.Spelling.{Spells}
 use Rattle.labels.specs.Labels.{labelBytes, letters, rawTo, told}
 use Rattle.labels.specs.Labels.Told.{faulty}
@@ -20,18 +20,20 @@ use Rattle.trees.specs.Tree.{Behind}
 use Rattle.tokens.specs.Answers.{Answer, andThen}
 use Rattle.tokens.specs.Answers.Answer.{parsed, refused}
 use Rattle.tokens.specs.Tokens.{numberBytes, blanks, skip, number, numberBehind, secondNumber, numbersBy, numbers, name, innerName}
-use Rattle.nodes.specs.Grammar.{Blanks, Number, ColonNumber, Numbers, Inner}
+use Rattle.tokens.specs.Values.{leading, decimals, tooFine}
+use Rattle.tokens.specs.Supports.{refusesFine, unlessFine, supported}
+use Rattle.nodes.specs.Grammar.{Rules, Blanks, Number, ColonNumber, Numbers, Inner}
 use Rattle.nodes.specs.Grammar.ColonNumber.{colon}
 use Rattle.nodes.specs.Grammar.Numbers.{nothing, distance, both, support}
 use Rattle.nodes.specs.Grammar.Inner.{nameless, named}
-use Rattle.nodes.proofs.Rests.{Moves, stays, moves-on, skip-moves, skip-tail, number-advances, name-moves}
+use Rattle.nodes.proofs.Rests.{Moves, stays, moves-on, moves-length, skip-moves, skip-tail, number-advances, name-moves}
 use Rattle.nodes.proofs.Spans.{number-long, name-faulty}
 use Rattle.nodes.proofs.Exact.{Stopped, Follows, stopped-label, stopped-skip-label, follows-no-colon, colon-stopped, label-no-blank, label-no-byte, blanks-skip, skip-to, skip-is}
 use Rattle.nodes.proofs.Exact.{number-first, number-gives, name-gives}
 use Rattle.nodes.proofs.Locality.{decidingBy, deciding, deciding-some}
 use Rattle.meanings.specs.Meaning.{partBefore, keptTo}
-use Rattle.meanings.proofs.KeptRules.{number-size}
-use Rattle.meanings.proofs.NumberSpans.{number-span}
+use Rattle.meanings.proofs.KeptRules.{number-splits, number-size}
+use Rattle.meanings.proofs.NumberSpans.{number-length, number-span}
 
 -- ---- answers to a text of which m bytes stand behind the place
 
@@ -93,7 +95,7 @@ module _ (m : ℕ) where
       record {
         from = t;
         moved = record { count = numberBytes; fits = omega arith; left = refl; place = refl };
-        beyond = omega (arith, deciding-some 4 t refl, length-drop numberBytes s);
+        beyond = omega (arith, deciding-some 4 t refl refl, length-drop numberBytes s);
       }
 
   number-passes :
@@ -114,7 +116,47 @@ module _ (m : ℕ) where
 
 -- ---- what stands behind a node
 
-module _ (names : List (List ℕ)) (m : ℕ) where
+number-moves : {w s rest : List ℕ} → Number w s rest → (p : ℕ) → Moves s p rest (p + length w)
+number-moves {w} {s} {rest} n p =
+    record {
+      count = length w;
+      fits = omega (arith, number-size n);
+      left = sym (ap (λ (l : List ℕ). drop (length w) l) (number-splits n) ∙ drop-append-seam w rest);
+      place = refl;
+    }
+
+-- a number that is taken, and where it begins in s, which begins at place p
+record Standing (Takes : List ℕ → List ℕ → List ℕ → Type 0) (w s : List ℕ) (p : ℕ) (rest : List ℕ) : Type 0 where
+  from : List ℕ
+  place : ℕ
+  moved : Moves s p from place
+  number : Number w from rest
+  taken : Takes w from rest
+
+standing-from :
+    {Takes : List ℕ → List ℕ → List ℕ → Type 0} {w s t rest : List ℕ} {p r : ℕ} → Moves s p t r → Standing Takes w t r rest → Standing Takes w s p rest
+standing-from on at = record { from = at .from; place = at .place; moved = moves-on on (at .moved); number = at .number; taken = at .taken }
+
+colon-stands : {Takes : List ℕ → List ℕ → List ℕ → Type 0} {w s rest : List ℕ} → ColonNumber Takes w s rest → (p : ℕ) → Standing Takes w s p rest
+colon-stands {s = s} (colon {s₁ = s₁} {s₂ = s₂} bl gap n taken) p =
+    let q = p + blanks s + 1 in
+    let e : skip s₁ ≡ s₂ = blanks-skip gap (label-no-blank s₂ (number-first n)) in
+    record { from = s₂; place = q + blanks s₁; moved = moves-on (byte-moves 58 refl bl p) (rw e at (skip-moves s₁ q)); number = n; taken = taken }
+
+-- a support that is refused is written, and stands behind all else
+support-stands :
+    (given : Bool) (R : Rules) {d b s rest : List ℕ} → Numbers R d b s rest → refusesFine given b ≡ true → (p : ℕ) → Standing (R .support) b s p rest
+unfolding tooFine decimals leading run
+support-stands false R n fine p = absurd (false≢true fine)
+support-stands true R nothing fine p = absurd (false≢true fine)
+support-stands true R (distance c) fine p = absurd (false≢true fine)
+support-stands true R (both {d = d} c e) fine p =
+    let first = colon-stands c p in
+    let q = first .place + length d in
+    standing-from (moves-on (first .moved) (number-moves (first .number) (first .place))) (colon-stands e q)
+support-stands true R (support {s = s} bl c) fine p = standing-from (byte-moves 58 refl bl p) (colon-stands c (p + blanks s + 1))
+
+module _ (given : Bool) (names : List (List ℕ)) (m : ℕ) where
   abbrev BehindIs : List ℕ → List ℕ → List ℕ → Behind → Type 0
   BehindIs w d b x = Only (record { name = w; distance = d; support = b }) x
 
@@ -126,15 +168,16 @@ module _ (names : List (List ℕ)) (m : ℕ) where
       passes-on (λ b s p. parsed (f b) s p) (numberBehind-passes m gap n (follows .stopped) short p) (λ q. reads (stays rest q) refl)
 
   second-passes :
-      (w d : List ℕ) {b s rest : List ℕ} → ColonNumber (keptTo names m) b s rest → Follows rest → (p : ℕ)
+      (w d : List ℕ) {b s rest : List ℕ} → ColonNumber (keptTo given names m .support) b s rest → Follows rest → (p : ℕ)
       → Passes m s p (BehindIs w d b) rest (secondNumber (nextIs 58 (skip s)) w d s p)
   second-passes w d {s = s} (colon bl gap n short) follows p =
       rw (skip-is 58 refl bl, skip-to 58 refl bl)
-      (passes-from (byte-moves 58 refl bl p) (final-passes (λ b. record { name = w; distance = d; support = b }) gap n follows short (p + blanks s + 1)))
+      (passes-from (byte-moves 58 refl bl p) (final-passes (λ b. record { name = w; distance = d; support = b }) gap n follows (short .0) (p + blanks s + 1)))
 
   first-passes :
       (w : List ℕ) {d s mid rest : List ℕ} {Q : Behind → Type 0}
-      → ColonNumber (keptTo names m) d s mid → Stopped mid → ((q : ℕ) → Passes m mid q Q rest (secondNumber (nextIs 58 (skip mid)) w d mid q)) → (p : ℕ)
+      → ColonNumber (keptTo given names m .distance) d s mid → Stopped mid
+      → ((q : ℕ) → Passes m mid q Q rest (secondNumber (nextIs 58 (skip mid)) w d mid q)) → (p : ℕ)
       → Passes m s p Q rest (numbersBy (nextIs 58 (skip s)) w s p)
   first-passes w {s = s} (colon {s₁ = s₁} {s₂ = s₂} bl gap n short) stop second p =
       let e : skip s₁ ≡ s₂ = blanks-skip gap (label-no-blank s₂ (number-first n)) in
@@ -143,16 +186,16 @@ module _ (names : List (List ℕ)) (m : ℕ) where
       (passes-on (λ d s p. secondNumber (nextIs 58 (skip s)) w d s p) (numberBehind-passes m gap n stop short (p + blanks s + 1)) second))
 
   support-passes :
-      (w : List ℕ) {b s mid rest : List ℕ} → Blanks s (58 ∷ mid) → ColonNumber (keptTo names m) b mid rest → Follows rest → (p : ℕ)
+      (w : List ℕ) {b s mid rest : List ℕ} → Blanks s (58 ∷ mid) → ColonNumber (keptTo given names m .support) b mid rest → Follows rest → (p : ℕ)
       → Passes m s p (BehindIs w [] b) rest (numbersBy (nextIs 58 (skip s)) w s p)
   support-passes w {s = s} {mid = mid} bl (colon bl₁ gap n short) follows p =
       let q = p + blanks s + 1 in
       rw (skip-is 58 refl bl, skip-to 58 refl bl, skip-is 58 refl bl₁, skip-to 58 refl bl₁)
       (passes-from (moves-on (byte-moves 58 refl bl p) (byte-moves 58 refl bl₁ q))
-      (final-passes (λ b. record { name = w; distance = []; support = b }) gap n follows short (q + blanks mid + 1)))
+      (final-passes (λ b. record { name = w; distance = []; support = b }) gap n follows (short .0) (q + blanks mid + 1)))
 
-  pub numbers-passes :
-      (w : List ℕ) {d b s rest : List ℕ} → Numbers (keptTo names m) d b s rest → Follows rest → (p : ℕ)
+  numbers-passes :
+      (w : List ℕ) {d b s rest : List ℕ} → Numbers (keptTo given names m) d b s rest → Follows rest → (p : ℕ)
       → Passes m s p (BehindIs w d b) rest (numbers w s p)
   unfolding numbers
   numbers-passes w {rest = rest} nothing follows p = rw (follows-no-colon follows) (reads (stays rest p) refl)
@@ -160,6 +203,33 @@ module _ (names : List (List ℕ)) (m : ℕ) where
       first-passes w c (follows .stopped) (λ q. rw (follows-no-colon follows) (reads (stays rest q) refl)) p
   numbers-passes w (both {d = d} c e) follows p = first-passes w c (colon-stopped e) (λ q. second-passes w d e follows q) p
   numbers-passes w (support bl c) follows p = support-passes w bl c follows p
+
+  -- a support that is refused, and has not ended before the place
+  fine-late :
+      {d b s rest : List ℕ} → Numbers (keptTo given names m) d b s rest → Stopped rest → refusesFine given b ≡ true → {p q : ℕ} → Moves s p rest q
+      → Late m s p 18 (q - length b)
+  fine-late {b = b} {s} {rest} n stop fine {p} {q} on = by (support-stands given (keptTo given names m) n fine p)
+    where
+      by : Standing (keptTo given names m .support) b s p rest → Late m s p 18 (q - length b)
+      by at =
+          let size = number-size (at .number) in
+          let begun : q - length b ≡ at .place = omega (arith, moves-length on, moves-length (at .moved)) in
+          let open-there : m ≤ length rest → ⊥ = λ l. true≢false (sym fine ∙ at .taken .1 l) in
+          record { from = at .from; moved = rw begun (at .moved); beyond = omega (arith, number-length (at .number) stop, open-there) }
+
+  -- what stands behind a node is read, with its support judged, or refused late
+  pub supported-passes :
+      (w : List ℕ) {d b s rest : List ℕ} → Numbers (keptTo given names m) d b s rest → Follows rest → (p : ℕ)
+      → Passes m s p (BehindIs w d b) rest (supported given w s p)
+  unfolding supported
+  supported-passes w {d} {b} {s} {rest} n follows p =
+      passes-then (λ b s p. unlessFine (refusesFine given (b .support)) b s p) (numbers-passes w n follows p)
+      (λ x q on is. rw is (by (refusesFine given b) refl q on))
+    where
+      by : (t : Bool) → refusesFine given b ≡ t → (q : ℕ) → Moves s p rest q
+          → Passes m s p (BehindIs w d b) rest (unlessFine t (record { name = w; distance = d; support = b }) rest q)
+      by true fine q on = halts (fine-late n (follows .stopped) fine on)
+      by false plain q on = reads on refl
 
 -- ---- names
 
@@ -177,7 +247,7 @@ four-long (unclosed w split all short) is = absurd (omega arith)
 letter-decides : (s : List ℕ) (f : ℕ) → letterEnd (nextIs 39 (drop f s)) f ≡ f + deciding 4 (drop f s)
 letter-decides s f = by (nextIs 39 (drop f s))
   where
-    by : (q : Bool) → letterEnd q f ≡ f + decidingBy false q (drop f s)
+    by : (q : Bool) → letterEnd q f ≡ f + decidingBy false false q (drop f s)
     by true = omega arith
     by false = omega arith
 
@@ -215,6 +285,7 @@ module _ (m : ℕ) where
           absurd (omega arith)
       by (no l) cut = omega (arith, letter-decides s f, length-drop f s)
 
+  -- a label is read up to where it ends, or refused late
   pub name-passes :
       {w s rest : List ℕ} → Spells w s rest → nextLabel rest ≡ false → length (letters (partBefore m s rest)) ≤ labelBytes → (p : ℕ)
       → Passes m s p (Within w) rest (name s p)
@@ -227,11 +298,13 @@ module _ (m : ℕ) where
           let e = whole-exact (record { spelled = r; over = no-label-over s rest stops }) .long (omega arith) in
           rw (name-faulty s p 4 f e) (halts (name-late r short (omega arith) f e p))
 
+  -- and so is the optional name behind a parenthesis
   pub innerName-passes :
-      (names : List (List ℕ)) {w s rest : List ℕ} → Inner (keptTo names m) w s rest → Stopped rest → (p : ℕ) → Passes m s p (Only w) rest (innerName s p)
+      (given : Bool) (names : List (List ℕ)) {w s rest : List ℕ} → Inner (keptTo given names m) w s rest → Stopped rest → (p : ℕ)
+      → Passes m s p (Only w) rest (innerName s p)
   unfolding innerName
-  innerName-passes names {rest = rest} nameless stop p = rw (stopped-skip-label stop) (reads (stays rest p) refl)
-  innerName-passes names {s = s} (named {mid = mid} gap r short) stop p =
+  innerName-passes given names {rest = rest} nameless stop p = rw (stopped-skip-label stop) (reads (stays rest p) refl)
+  innerName-passes given names {s = s} (named {mid = mid} gap r short) stop p =
       let e : skip s ≡ mid = blanks-skip gap (label-no-blank mid (spells-first r)) in
       let is : nextLabel (skip s) ≡ true = rw e (spells-first r) in
       rw (is, e) (passes-from (rw e at (skip-moves s p)) (passes-as (λ x q moved h. h .0) (name-passes r (stopped-label stop) short (p + blanks s))))

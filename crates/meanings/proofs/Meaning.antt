@@ -21,33 +21,35 @@ use Rattle.roster.specs.Roster.{position}
 use Rattle.roster.proofs.Positions.{position-within}
 use Rattle.tokens.specs.Answers.{Answer, andThen, unexpected}
 use Rattle.tokens.specs.Answers.Answer.{parsed, refused}
-use Rattle.tokens.specs.Tokens.{blanks, skip, number, numbers, name}
+use Rattle.tokens.specs.Tokens.{blanks, skip, number, name}
+use Rattle.tokens.specs.Supports.{supported}
 use Rattle.nodes.specs.Reading.{openMost, leafNew, leafKnown, leafAt, closing, afterFirst, opened, nodeBy, afterChild, readNode, readForest, complete, ended, readTreeTo, readTree, leafBy}
 use Rattle.nodes.specs.Reading.{readForestBy, readNodeBy, readTreeBy, readTreeToBy}
-use Rattle.nodes.specs.Grammar.{strict, loosest, Blanks, Node, Text}
+use Rattle.nodes.specs.Grammar.{strict, Blanks, Node, Text}
 use Rattle.nodes.specs.Grammar.Text.{text}
 use Rattle.nodes.proofs.Answers.{Reached, parsed-refused, andThen-refused}
 use Rattle.nodes.proofs.Rests.{advances-shorter, skip-tail, readNode-advances}
 use Rattle.nodes.proofs.Sound.{skip-blanks, nextIs-cons, skip-byte, NodeRead, readNode-sound}
 use Rattle.nodes.proofs.Exact.{stopped-label, comma-follows}
 use Rattle.nodes.proofs.Fronts.{Then, BlanksAnd, strict-placeless, text-elsewhere}
-use Rattle.nodes.proofs.Locality.{locality, border-three}
-use Rattle.meanings.specs.Meaning.{IsNode, CouldBegin, LeafAt, countFrom, opens}
+use Rattle.nodes.proofs.Locality.{border-three, alike-asked, locality}
+use Rattle.meanings.specs.Meaning.{CouldBegin, LeafAt, countFrom, opens}
 use Rattle.meanings.specs.Meaning.Means.{unknown-name, repeated-name, single-child, too-deep, missing}
 use Rattle.meanings.proofs.Alike.{other-alike}
 use Rattle.meanings.proofs.MeaningLifted.{text-limits}
 use Rattle.meanings.proofs.MeaningCounts.{evenly-blanks, node-level, count-append}
-use Rattle.meanings.proofs.MeaningContexts.{front-shorter, stand-on, opened-stand, last-stand, leaf-name-stand, stand-text, blanks-node, comma-children, children-closing, child-comma}
-use Rattle.meanings.proofs.MeaningContexts.{leaf-numbers, node-at-front}
+use Rattle.meanings.proofs.MeaningContexts.{front-shorter, stand-on, opened-stand, last-stand, leaf-name-stand, blanks-node, comma-children, children-closing, child-comma}
+use Rattle.meanings.proofs.MeaningContexts.{leaf-numbers, node-at-front, lifted-free, node-may}
+use Rattle.meanings.proofs.MeaningContexts.Lifting.{to-least}
 use Rattle.meanings.proofs.MeaningContexts.{NodeOf, ChildrenOf, Stand, NodeIn, ChildrenIn, NumbersIn, ClosingIn, only-child}
 use Rattle.meanings.proofs.ReadingSteps.{name-ended, Step, step-then, step-skip, step-byte, step-here, step-name, front, back, front-with, byte-here, all-length, Stands, stands-on}
 use Rattle.meanings.proofs.MeaningSteps.{same-position, name-word, has-seen, lacking, same-bytes, lifted-node, lifted-forest}
 use Rattle.meanings.proofs.MeaningSpecies.{met-less, AllMet, met-node}
-use Rattle.meanings.proofs.MeaningTokens.{Said, SaysOf, says-here, unexpected-says, numbers-says, name-says, closing-says}
+use Rattle.meanings.proofs.MeaningTokens.{Said, SaysOf, says-here, unexpected-says, supported-says, name-says, closing-says}
 
-module _ (names : List (List ℕ)) (needed : ℕ) (s₀ : List ℕ) (p₀ : ℕ) where
+module _ (given : Bool) (names : List (List ℕ)) (needed : ℕ) (s₀ : List ℕ) (p₀ : ℕ) where
   abbrev Says : ℕ → ℕ → Type 0
-  Says number q = SaysOf names needed s₀ p₀ number q
+  Says number q = SaysOf given names needed s₀ p₀ number q
 
   -- ---- leaves
 
@@ -58,19 +60,20 @@ module _ (names : List (List ℕ)) (needed : ℕ) (s₀ : List ℕ) (p₀ : ℕ)
   leaf-here {s = s} {p = p} st may is h =
       let here = back (st .left) in
       let e = name-ended s p h in
-      record { allowed = rw (front (st .left)) (may 2); begins = rw here is; bytes = e .0; ends = rw here (e .1) }
+      record { allowed = rw (front (st .left)) (node-may may); begins = rw here is; bytes = e .0; ends = rw here (e .1) }
 
-  module _ {u s : List ℕ} {p n q : ℕ} (seen : ℕ) (st : Stands s₀ p₀ u s p) (may : Stand NodeIn u) (met : AllMet names s₀ s seen) (is : nextLabel s ≡ true) where
+  module _ {u s : List ℕ} {p n q : ℕ} (seen : ℕ) (st : Stands s₀ p₀ u s p) (may : Stand NodeIn u) (met : AllMet given names s₀ s seen)
+      (is : nextLabel s ≡ true) where
     leafNew-says :
         {w rest : List ℕ} {r : ℕ} (t : Bool) → name s p ≡ parsed w rest r → position w names < length names
-        → apart (single (position w names)) seen ≡ t → leafNew t (position w names) p rest r ≡ refused n q → Says n q
+        → apart (single (position w names)) seen ≡ t → leafNew given t (position w names) p rest r ≡ refused n q → Says n q
     leafNew-says {w} {rest} {r} false h known again e =
         let number : n ≡ 6 = cc in
         let at : q ≡ p = cc in
         let here : letters (drop (length u) s₀) ≡ w = ap letters (back (st .left)) ∙ name-word s p h in
         let m = met (position w names) (has-seen (position w names) seen again) in
         rw number
-        (says-here st at
+        (says-here given st at
         (repeated-name (record {
           leaf = leaf-here st may is h;
           known = rw here known;
@@ -81,19 +84,19 @@ module _ (names : List (List ℕ)) (needed : ℕ) (s₀ : List ℕ) (p₀ : ℕ)
         })))
     leafNew-says {w} {rest} {r} true h known again e =
         let x = step-name s p is h in
-        ⊎-elim (λ f. numbers-says [] (stands-on st x) (stand-on NodeIn NumbersIn (Spells w) (λ n. leaf-numbers n w) may (x .front)) f)
+        ⊎-elim (λ f. supported-says given [] (stands-on st x) (stand-on NodeIn NumbersIn (Spells w) (leaf-numbers w) may (x .front)) f)
         (λ f. absurd (parsed-refused (f .after)))
-        (andThen-refused (numbers [] rest r) (λ b s p. parsed (leaf (position w names) b) s p) e)
+        (andThen-refused (supported given [] rest r) (λ b s p. parsed (leaf (position w names) b) s p) e)
 
     leafKnown-says :
         {w rest : List ℕ} {r : ℕ} (t : Bool) → name s p ≡ parsed w rest r → ltb (position w names) (length names) ≡ t
-        → leafKnown t (position w names) seen p rest r ≡ refused n q → Says n q
+        → leafKnown given t (position w names) seen p rest r ≡ refused n q → Says n q
     leafKnown-says {w} {rest} {r} false h known e =
         let number : n ≡ 5 = cc in
         let at : q ≡ p = cc in
         let here : letters (drop (length u) s₀) ≡ w = ap letters (back (st .left)) ∙ name-word s p h in
         rw number
-        (says-here st at
+        (says-here given st at
         (unknown-name (record {
           leaf = leaf-here st may is h;
           unknown = rw here (omega (arith, ltb-false (position w names) (length names) known, position-within w names));
@@ -101,12 +104,12 @@ module _ (names : List (List ℕ)) (needed : ℕ) (s₀ : List ℕ) (p₀ : ℕ)
     leafKnown-says {w} true h known e =
         leafNew-says (apart (single (position w names)) seen) h (ltb-true (position w names) (length names) known) refl e
 
-    leaf-says : leafAt names seen s p ≡ refused n q → Says n q
+    leaf-says : leafAt given names seen s p ≡ refused n q → Says n q
     unfolding leafBy
     leaf-says e =
-        ⊎-elim (λ f. name-says st (leaf-name-stand may) f)
+        ⊎-elim (λ f. name-says given st (leaf-name-stand may) f)
         (λ f. leafKnown-says (ltb (position (f .value) names) (length names)) (f .first) refl (f .after))
-        (andThen-refused (name s p) (λ w rest q. leafKnown (ltb (position w names) (length names)) (position w names) seen p rest q) e)
+        (andThen-refused (name s p) (λ w rest q. leafKnown given (ltb (position w names) (length names)) (position w names) seen p rest q) e)
 
   -- ---- nodes
 
@@ -117,28 +120,32 @@ module _ (names : List (List ℕ)) (needed : ℕ) (s₀ : List ℕ) (p₀ : ℕ)
   -- what the induction shows of a node and of the children behind a first comma
   abbrev NodeSays : ℕ → Type 0
   NodeSays k =
-      (room seen : ℕ) (u s : List ℕ) (p n q : ℕ) → Stands s₀ p₀ u s p → Stand NodeIn u → AllMet names s₀ s seen → Room s room → 2 * length s < k
-      → readNode k names room seen s p ≡ refused n q → Says n q
+      (room seen : ℕ) (u s : List ℕ) (p n q : ℕ) → Stands s₀ p₀ u s p → Stand NodeIn u → AllMet given names s₀ s seen → Room s room → 2 * length s < k
+      → readNode given k names room seen s p ≡ refused n q → Says n q
 
   abbrev ForestSays : ℕ → Type 0
   ForestSays k =
-      (room seen : ℕ) (u s : List ℕ) (p n q : ℕ) → Stands s₀ p₀ u s p → Stand ChildrenIn u → AllMet names s₀ s seen → Room s room → 2 * length s + 1 < k
-      → readForest k names room seen s p ≡ refused n q → Says n q
+      (room seen : ℕ) (u s : List ℕ) (p n q : ℕ) → Stands s₀ p₀ u s p → Stand ChildrenIn u → AllMet given names s₀ s seen → Room s room → 2 * length s + 1 < k
+      → readForest given k names room seen s p ≡ refused n q → Says n q
 
   deep-says : {u s : List ℕ} {p : ℕ} → Stands s₀ p₀ u s p → Stand NodeIn u → Room s 0 → nextIs 40 s ≡ true → Says 8 p
   unfolding opens
   deep-says {u} {s} st may full is =
-      let opening : countFrom false 40 s₀ ≡ countFrom false 40 u + countFrom false 40 s = ap (countFrom false 40) (st .left .whole) ∙ count-append 40 s (may 2) in
-      let closing : countFrom false 41 s₀ ≡ countFrom false 41 u + countFrom false 41 s = ap (countFrom false 41) (st .left .whole) ∙ count-append 41 s (may 2) in
-      says-here st refl
+      let opening : countFrom false 40 s₀ ≡ countFrom false 40 u + countFrom false 40 s =
+      ap (countFrom false 40) (st .left .whole) ∙ count-append 40 s (node-may may)
+      in
+      let closing : countFrom false 41 s₀ ≡ countFrom false 41 u + countFrom false 41 s =
+      ap (countFrom false 41) (st .left .whole) ∙ count-append 41 s (node-may may)
+      in
+      says-here given st refl
       (too-deep (record {
         opening = byte-here (st .left) 40 is;
-        allowed = rw (front (st .left)) (may 2);
+        allowed = rw (front (st .left)) (node-may may);
         full = rw (front (st .left)) (omega arith);
       }))
 
   module _ (k : ℕ) (nodes : NodeSays k) (forests : ForestSays k) where
-    module _ (u s : List ℕ) (p room seen : ℕ) (st : Stands s₀ p₀ u s p) (may : Stand NodeIn u) (met : AllMet names s₀ s seen) (space : Room s (suc room))
+    module _ (u s : List ℕ) (p room seen : ℕ) (st : Stands s₀ p₀ u s p) (may : Stand NodeIn u) (met : AllMet given names s₀ s seen) (space : Room s (suc room))
         (fuel : 2 * length s < suc k) (is : nextIs 40 s ≡ true) where
       opening : Step (BlanksAnd 40) s p (tail s) (p + 1)
       opening = step-here 40 s p is
@@ -152,8 +159,8 @@ module _ (names : List (List ℕ)) (needed : ℕ) (s₀ : List ℕ) (p₀ : ℕ)
       inside-left : length s ≡ suc (length (tail s))
       inside-left = ap length (nextIs-cons 40 s is)
 
-      inside-met : AllMet names s₀ (tail s) seen
-      inside-met i h = met-less names s₀ (omega (arith, inside-left)) (met i h)
+      inside-met : AllMet given names s₀ (tail s) seen
+      inside-met i h = met-less given names s₀ (omega (arith, inside-left)) (met i h)
 
       inside-room : Room (tail s) room
       unfolding countFrom
@@ -164,15 +171,15 @@ module _ (names : List (List ℕ)) (needed : ℕ) (s₀ : List ℕ) (p₀ : ℕ)
           omega arith
 
       -- behind the first child t, which leaves m
-      module _ (t : Tree) (m : List ℕ) (r : ℕ) (first : readNode k names room seen (tail s) (p + 1) ≡ parsed t m r) where
-        child : Node (strict names) room (tail s) t m
-        child = readNode-sound k names room seen (tail s) (p + 1) t m r first .derives
+      module _ (t : Tree) (m : List ℕ) (r : ℕ) (first : readNode given k names room seen (tail s) (p + 1) ≡ parsed t m r) where
+        child : Node (strict given names) room (tail s) t m
+        child = readNode-sound given k names room seen (tail s) (p + 1) t m r first .derives
 
         abbrev First : List ℕ → List ℕ → Type 0
         First = Then (BlanksAnd 40) (NodeOf room t)
 
         child-step : Step (NodeOf room t) (tail s) (p + 1) m r
-        child-step = lifted-node names k room seen (tail s) (p + 1) first
+        child-step = lifted-node given names k room seen (tail s) (p + 1) first
 
         first-step : Step First s p m r
         first-step = step-then (BlanksAnd 40) (NodeOf room t) opening child-step
@@ -195,23 +202,27 @@ module _ (names : List (List ℕ)) (needed : ℕ) (s₀ : List ℕ) (p₀ : ℕ)
         single-could closes =
             let there = stands-on st gap-step .left in
             let at = byte-here there 41 closes .1 in
+            let x = gap-step .front .bytes in
             record {
-              more = may 1 .end;
+              more = may .end;
               alike = other-alike _ _ _ (rw at refl) (rw at refl);
-              text = rw (front-with there 41 closes) (stand-text loosest (IsNode loosest) (Then First Blanks) (41 ∷ []) (only-child room t) (may 1) (gap-step .front));
+              text = rw (front-with there 41 closes)
+                  (simp append-assoc
+                  (may .text (to-least 1) (x ++ 41 ∷ may .end) (lifted-free (length (x ++ 41 ∷ may .end)) 1)
+                  (only-child room t (x ++ 41 ∷ may .end) (may .end) (gap-step .front .anywhere (41 ∷ may .end)))));
             }
 
         single-says : nextIs 41 (skip m) ≡ true → Says 7 (r + blanks m)
         single-says closes =
             let gap = step-skip m r .front .bytes in
             let there = stands-on st gap-step in
-            says-here there refl
+            says-here given there refl
             (single-child (record {
               closes = byte-here (there .left) 41 closes;
               before = u;
               within = child-step .front .bytes ++ gap;
               opened = front (there .left) ∙ ap (λ (l : List ℕ). u ++ l) gap-bytes;
-              allowed = may 2;
+              allowed = node-may may;
               k = room;
               child = t;
               behind = gap;
@@ -221,7 +232,7 @@ module _ (names : List (List ℕ)) (needed : ℕ) (s₀ : List ℕ) (p₀ : ℕ)
             }))
 
         other-says : (A : Type 0) {n q : ℕ} → _≡_ {A = Answer A} (unexpected (skip m) (r + blanks m)) (refused n q) → Says n q
-        other-says A h = unexpected-says A (stands-on st gap-step) h
+        other-says A h = unexpected-says given A (stands-on st gap-step) h
 
         module _ (comma : nextIs 44 (skip m) ≡ true) where
           abbrev Till : List ℕ → List ℕ → Type 0
@@ -234,14 +245,16 @@ module _ (names : List (List ℕ)) (needed : ℕ) (s₀ : List ℕ) (p₀ : ℕ)
           comma-left = advances-shorter (skip-tail 44 m r comma)
 
           child-left : length m < length (tail s)
-          child-left = advances-shorter (readNode-advances k names room seen (tail s) (p + 1) t m r first)
+          child-left = advances-shorter (readNode-advances given k names room seen (tail s) (p + 1) t m r first)
 
-          comma-met : AllMet names s₀ (tail (skip m)) (union seen (cluster t))
+          comma-met : AllMet given names s₀ (tail (skip m)) (union seen (cluster t))
           comma-met i h =
               let l = comma-left in
               let l′ = child-left in
-              ⊎-elim (λ a. met-less names s₀ (omega arith) (inside-met i a))
-              (λ a. met-less names s₀ (omega arith) (met-node names s₀ inside inside-may child (stopped-label (comma-follows (skip-byte 44 m comma) .stopped)) i a))
+              ⊎-elim (λ a. met-less given names s₀ (omega arith) (inside-met i a))
+              (λ a.
+              met-less given names s₀ (omega arith)
+              (met-node given names s₀ inside inside-may child (stopped-label (comma-follows (skip-byte 44 m comma) .stopped)) i a))
               (has-union seen (cluster t) i h)
 
           comma-room : Room (tail (skip m)) room
@@ -253,30 +266,31 @@ module _ (names : List (List ℕ)) (needed : ℕ) (s₀ : List ℕ) (p₀ : ℕ)
 
           others-says :
               {n q : ℕ}
-              → andThen (readForest k names room (union seen (cluster t)) (tail (skip m)) (r + blanks m + 1)) (λ f s p. closing t f s p) ≡ refused n q
+              → andThen (readForest given k names room (union seen (cluster t)) (tail (skip m)) (r + blanks m + 1)) (λ f s p. closing given t f s p) ≡ refused n q
               → Says n q
           others-says {n} {q} h =
               ⊎-elim
               (λ e. forests room (union seen (cluster t)) (u ++ comma-step .front .bytes) (tail (skip m)) (r + blanks m + 1) n q (stands-on st comma-step)
-              (stand-on NodeIn ChildrenIn Till (λ n. comma-children n room t) may (comma-step .front)) comma-met comma-room
+              (stand-on NodeIn ChildrenIn Till (comma-children room t) may (comma-step .front)) comma-met comma-room
               (omega (arith, comma-left, child-left, inside-left)) e)
               closed
-              (andThen-refused (readForest k names room (union seen (cluster t)) (tail (skip m)) (r + blanks m + 1)) (λ f s p. closing t f s p) h)
+              (andThen-refused (readForest given k names room (union seen (cluster t)) (tail (skip m)) (r + blanks m + 1)) (λ f s p. closing given t f s p) h)
             where
               closed :
-                  Reached (readForest k names room (union seen (cluster t)) (tail (skip m)) (r + blanks m + 1)) (λ f s p. closing t f s p) (refused n q)
+                  Reached (readForest given k names room (union seen (cluster t)) (tail (skip m)) (r + blanks m + 1)) (λ f s p. closing given t f s p) (refused n q)
                   → Says n q
               closed g =
                   let f = g .value in
                   let w =
                   step-then Till (ChildrenOf room f) comma-step
-                  (lifted-forest names k room (union seen (cluster t)) (tail (skip m)) (r + blanks m + 1) (g .first))
+                  (lifted-forest given names k room (union seen (cluster t)) (tail (skip m)) (r + blanks m + 1) (g .first))
                   in
-                  closing-says t f (stands-on st w) (stand-on NodeIn ClosingIn (Then Till (ChildrenOf room f)) (λ n. children-closing n room room t f) may (w .front)) (g .after)
+                  closing-says given t f (stands-on st w)
+                  (stand-on NodeIn ClosingIn (Then Till (ChildrenOf room f)) (children-closing room room t f) may (w .front)) (g .after)
 
         afterFirst-says :
             {n q : ℕ} (b c : Bool) → nextIs 44 (skip m) ≡ b → nextIs 41 (skip m) ≡ c
-            → afterFirst b c (λ e s p. readForest k names room e s p) seen t (skip m) (r + blanks m) ≡ refused n q → Says n q
+            → afterFirst given b c (λ e s p. readForest given k names room e s p) seen t (skip m) (r + blanks m) ≡ refused n q → Says n q
         afterFirst-says true c comma closes h = others-says comma h
         afterFirst-says {n} {q} false true comma closes h =
             let number : n ≡ 7 = cc in
@@ -286,17 +300,18 @@ module _ (names : List (List ℕ)) (needed : ℕ) (s₀ : List ℕ) (p₀ : ℕ)
 
       inner-says :
           {n q : ℕ}
-          → opened (λ r e s p. readNode k names r e s p) (λ r e s p. readForest k names r e s p) (suc room) seen s p ≡ refused n q → Says n q
+          → opened given (λ r e s p. readNode given k names r e s p) (λ r e s p. readForest given k names r e s p) (suc room) seen s p ≡ refused n q → Says n q
       inner-says {n} {q} h =
           ⊎-elim
           (λ e. nodes room seen (u ++ opening .front .bytes) (tail s) (p + 1) n q inside inside-may inside-met inside-room (omega (arith, inside-left)) e)
           (λ g. afterFirst-says (g .value) (g .left) (g .place) (g .first) (nextIs 44 (skip (g .left))) (nextIs 41 (skip (g .left))) refl refl (g .after))
-          (andThen-refused (readNode k names room seen (tail s) (p + 1))
-          (λ t s p. afterFirst (nextIs 44 (skip s)) (nextIs 41 (skip s)) (λ e s p. readForest k names room e s p) seen t (skip s) (p + blanks s)) h)
+          (andThen-refused (readNode given k names room seen (tail s) (p + 1))
+          (λ t s p. afterFirst given (nextIs 44 (skip s)) (nextIs 41 (skip s)) (λ e s p. readForest given k names room e s p) seen t (skip s) (p + blanks s)) h)
 
     opened-says :
-        (room seen : ℕ) (u s : List ℕ) (p n q : ℕ) → Stands s₀ p₀ u s p → Stand NodeIn u → AllMet names s₀ s seen → Room s room → 2 * length s < suc k → nextIs 40 s ≡ true
-        → opened (λ r e s p. readNode k names r e s p) (λ r e s p. readForest k names r e s p) room seen s p ≡ refused n q → Says n q
+        (room seen : ℕ) (u s : List ℕ) (p n q : ℕ) → Stands s₀ p₀ u s p → Stand NodeIn u → AllMet given names s₀ s seen → Room s room
+        → 2 * length s < suc k → nextIs 40 s ≡ true
+        → opened given (λ r e s p. readNode given k names r e s p) (λ r e s p. readForest given k names r e s p) room seen s p ≡ refused n q → Says n q
     opened-says zero seen u s p n q st may met space fuel is h =
         let number : n ≡ 8 = cc in
         let at : q ≡ p = cc in
@@ -304,13 +319,13 @@ module _ (names : List (List ℕ)) (needed : ℕ) (s₀ : List ℕ) (p₀ : ℕ)
     opened-says (suc room) seen u s p n q st may met space fuel is h = inner-says u s p room seen st may met space fuel is h
 
     nodeBy-says :
-        (b c : Bool) (room seen : ℕ) (u s : List ℕ) (p n q : ℕ) → Stands s₀ p₀ u s p → Stand NodeIn u → AllMet names s₀ s seen → Room s room → 2 * length s < suc k
-        → nextLabel s ≡ b → nextIs 40 s ≡ c
-        → nodeBy b c names (λ r e s p. readNode k names r e s p) (λ r e s p. readForest k names r e s p) room seen s p ≡ refused n q → Says n q
+        (b c : Bool) (room seen : ℕ) (u s : List ℕ) (p n q : ℕ) → Stands s₀ p₀ u s p → Stand NodeIn u → AllMet given names s₀ s seen → Room s room
+        → 2 * length s < suc k → nextLabel s ≡ b → nextIs 40 s ≡ c
+        → nodeBy given b c names (λ r e s p. readNode given k names r e s p) (λ r e s p. readForest given k names r e s p) room seen s p ≡ refused n q → Says n q
     nodeBy-says true c room seen u s p n q st may met space fuel is opens h = leaf-says seen st may met is h
     nodeBy-says false true room seen u s p n q st may met space fuel is opens h = opened-says room seen u s p n q st may met space fuel opens h
     nodeBy-says false false room seen u s p n q st may met space fuel is opens h =
-        unexpected-says Tree st h
+        unexpected-says given Tree st h
 
     node-step : NodeSays (suc k)
     unfolding readNodeBy
@@ -319,28 +334,29 @@ module _ (names : List (List ℕ)) (needed : ℕ) (s₀ : List ℕ) (p₀ : ℕ)
         let l : length (skip s) ≤ length s = front-shorter (x .front) in
         let b = evenly-blanks (skip-blanks s) in
         nodeBy-says (nextLabel (skip s)) (nextIs 40 (skip s)) room seen (u ++ x .front .bytes) (skip s) (p + blanks s) n q (stands-on st x)
-        (stand-on NodeIn NodeIn Blanks blanks-node may (x .front)) (λ i a. met-less names s₀ l (met i a)) (omega (arith, b .opening, b .closing)) (omega arith) refl refl h
+        (stand-on NodeIn NodeIn Blanks blanks-node may (x .front)) (λ i a. met-less given names s₀ l (met i a)) (omega (arith, b .opening, b .closing))
+        (omega arith) refl refl h
 
     -- behind a later child
-    module _ (u s : List ℕ) (p room seen : ℕ) (st : Stands s₀ p₀ u s p) (may : Stand ChildrenIn u) (met : AllMet names s₀ s seen) (space : Room s room)
-        (fuel : 2 * length s + 1 < suc k) (t : Tree) (m : List ℕ) (r : ℕ) (first : readNode k names room seen s p ≡ parsed t m r) where
-      later : Node (strict names) room s t m
-      later = readNode-sound k names room seen s p t m r first .derives
+    module _ (u s : List ℕ) (p room seen : ℕ) (st : Stands s₀ p₀ u s p) (may : Stand ChildrenIn u) (met : AllMet given names s₀ s seen) (space : Room s room)
+        (fuel : 2 * length s + 1 < suc k) (t : Tree) (m : List ℕ) (r : ℕ) (first : readNode given k names room seen s p ≡ parsed t m r) where
+      later : Node (strict given names) room s t m
+      later = readNode-sound given k names room seen s p t m r first .derives
 
       later-step : Step (NodeOf room t) s p m r
-      later-step = lifted-node names k room seen s p first
+      later-step = lifted-node given names k room seen s p first
 
       later-says : {n q : ℕ} → _≡_ {A = Answer Forest} (unexpected (skip m) (r + blanks m)) (refused n q) → Says n q
-      later-says h = unexpected-says Forest (stands-on st (step-then (NodeOf room t) Blanks later-step (step-skip m r))) h
+      later-says h = unexpected-says given Forest (stands-on st (step-then (NodeOf room t) Blanks later-step (step-skip m r))) h
 
-      later-met : nextIs 44 (skip m) ≡ true → AllMet names s₀ (tail (skip m)) (union seen (cluster t))
+      later-met : nextIs 44 (skip m) ≡ true → AllMet given names s₀ (tail (skip m)) (union seen (cluster t))
       later-met comma i h =
           let l : length (tail (skip m)) < length m = advances-shorter (skip-tail 44 m r comma) in
-          let l′ : length m < length s = advances-shorter (readNode-advances k names room seen s p t m r first) in
-          ⊎-elim (λ a. met-less names s₀ (omega arith) (met i a))
+          let l′ : length m < length s = advances-shorter (readNode-advances given k names room seen s p t m r first) in
+          ⊎-elim (λ a. met-less given names s₀ (omega arith) (met i a))
           (λ a.
-          met-less names s₀ (omega arith)
-          (met-node names s₀ st (last-stand may) later (stopped-label (comma-follows (skip-byte 44 m comma) .stopped)) i a))
+          met-less given names s₀ (omega arith)
+          (met-node given names s₀ st (last-stand may) later (stopped-label (comma-follows (skip-byte 44 m comma) .stopped)) i a))
           (has-union seen (cluster t) i h)
 
       later-room : nextIs 44 (skip m) ≡ true → Room (tail (skip m)) room
@@ -352,18 +368,18 @@ module _ (names : List (List ℕ)) (needed : ℕ) (s₀ : List ℕ) (p₀ : ℕ)
 
       afterChild-says :
           {n q : ℕ} (b c : Bool) → nextIs 44 (skip m) ≡ b
-          → afterChild b c (λ e s p. readForest k names room e s p) seen t (skip m) (r + blanks m) ≡ refused n q → Says n q
+          → afterChild b c (λ e s p. readForest given k names room e s p) seen t (skip m) (r + blanks m) ≡ refused n q → Says n q
       afterChild-says {n} {q} true c comma h =
           let X = NodeOf room t in
           let y = step-then X (BlanksAnd 44) later-step (step-byte 44 m r comma) in
           let l : length (tail (skip m)) < length m = advances-shorter (skip-tail 44 m r comma) in
-          let l′ : length m < length s = advances-shorter (readNode-advances k names room seen s p t m r first) in
+          let l′ : length m < length s = advances-shorter (readNode-advances given k names room seen s p t m r first) in
           ⊎-elim
           (λ e.
           forests room (union seen (cluster t)) (u ++ y .front .bytes) (tail (skip m)) (r + blanks m + 1) n q (stands-on st y)
-          (stand-on ChildrenIn ChildrenIn (Then X (BlanksAnd 44)) (λ n. child-comma n room t) may (y .front)) (later-met comma) (later-room comma) (omega arith) e)
+          (stand-on ChildrenIn ChildrenIn (Then X (BlanksAnd 44)) (child-comma room t) may (y .front)) (later-met comma) (later-room comma) (omega arith) e)
           (λ g. absurd (parsed-refused (g .after)))
-          (andThen-refused (readForest k names room (union seen (cluster t)) (tail (skip m)) (r + blanks m + 1)) (λ f s p. parsed (more t f) s p) h)
+          (andThen-refused (readForest given k names room (union seen (cluster t)) (tail (skip m)) (r + blanks m + 1)) (λ f s p. parsed (more t f) s p) h)
       afterChild-says false true comma h = absurd (parsed-refused h)
       afterChild-says false false comma h = later-says h
 
@@ -375,8 +391,8 @@ module _ (names : List (List ℕ)) (needed : ℕ) (s₀ : List ℕ) (p₀ : ℕ)
         (λ g.
         afterChild-says u s p room seen st may met space fuel (g .value) (g .left) (g .place) (g .first) (nextIs 44 (skip (g .left)))
         (nextIs 41 (skip (g .left))) refl (g .after))
-        (andThen-refused (readNode k names room seen s p)
-        (λ t s p. afterChild (nextIs 44 (skip s)) (nextIs 41 (skip s)) (λ e s p. readForest k names room e s p) seen t (skip s) (p + blanks s)) h)
+        (andThen-refused (readNode given k names room seen s p)
+        (λ t s p. afterChild (nextIs 44 (skip s)) (nextIs 41 (skip s)) (λ e s p. readForest given k names room e s p) seen t (skip s) (p + blanks s)) h)
 
   mutual
     node-says : (k : ℕ) → NodeSays k
@@ -393,12 +409,12 @@ module _ (names : List (List ℕ)) (needed : ℕ) (s₀ : List ℕ) (p₀ : ℕ)
   start = record { left = record { whole = refl }; place = omega arith }
 
   -- behind the whole node t, which leaves m
-  module _ (k : ℕ) (t : Tree) (m : List ℕ) (r : ℕ) (first : readNode k names openMost 0 s₀ p₀ ≡ parsed t m r) where
-    root-read : NodeRead names openMost 0 s₀ t m
-    root-read = readNode-sound k names openMost 0 s₀ p₀ t m r first
+  module _ (k : ℕ) (t : Tree) (m : List ℕ) (r : ℕ) (first : readNode given k names openMost 0 s₀ p₀ ≡ parsed t m r) where
+    root-read : NodeRead given names openMost 0 s₀ t m
+    root-read = readNode-sound given k names openMost 0 s₀ p₀ t m r first
 
     root-step : Step (Then (NodeOf openMost t) Blanks) s₀ p₀ (skip m) (r + blanks m)
-    root-step = step-then (NodeOf openMost t) Blanks (lifted-node names k openMost 0 s₀ p₀ first) (step-skip m r)
+    root-step = step-then (NodeOf openMost t) Blanks (lifted-node given names k openMost 0 s₀ p₀ first) (step-skip m r)
 
     missing-says : nextIs 59 (skip m) ≡ true → within needed (cluster t) ≡ false → Says 9 (r + blanks m)
     missing-says ends lacks =
@@ -407,15 +423,16 @@ module _ (names : List (List ℕ)) (needed : ℕ) (s₀ : List ℕ) (p₀ : ℕ)
         let behind = tail (skip m) in
         let split : s₀ ≡ x ++ 59 ∷ behind = there .left .whole ∙ ap (λ (l : List ℕ). x ++ l) (nextIs-cons 59 (skip m) ends) in
         let bytes : take (suc (length x)) s₀ ≡ x ++ 59 ∷ [] = front-with (there .left) 59 ends in
-        let all : Text (strict names) openMost ((x ++ 59 ∷ []) ++ behind) t behind =
-        subst (λ (l : List ℕ). Text (strict names) openMost l t behind) (split ∙ sym (append-assoc x (59 ∷ []) behind)) (text (root-read .derives) (skip-byte 59 m ends))
+        let all : Text (strict given names) openMost ((x ++ 59 ∷ []) ++ behind) t behind =
+        subst (λ (l : List ℕ). Text (strict given names) openMost l t behind) (split ∙ sym (append-assoc x (59 ∷ []) behind))
+        (text (root-read .derives) (skip-byte 59 m ends))
         in
         let lack = lacking needed (cluster t) lacks in
-        says-here there refl
+        says-here given there refl
         (missing (record {
           ends = byte-here (there .left) 59 ends;
           tree = t;
-          drawn = rw bytes (rw append-nil at (text-elsewhere (strict names) (strict-placeless names) (x ++ 59 ∷ []) behind [] all));
+          drawn = rw bytes (rw append-nil at (text-elsewhere (strict given names) (strict-placeless given names) (x ++ 59 ∷ []) behind [] all));
           once = root-read .once;
           species = lack .0;
           wanted = lack .1;
@@ -432,35 +449,37 @@ module _ (names : List (List ℕ)) (needed : ℕ) (s₀ : List ℕ) (p₀ : ℕ)
             let at : q ≡ r + blanks m = cc in
             rw (number, at) (missing-says ends lacks)
     ended-says false ends h =
-        unexpected-says Tree (stands-on start root-step) h
+        unexpected-says given Tree (stands-on start root-step) h
 
-  tree-says : {n q : ℕ} (k : ℕ) → 2 * length s₀ < k → readTreeTo k names needed s₀ p₀ ≡ refused n q → Says n q
+  tree-says : {n q : ℕ} (k : ℕ) → 2 * length s₀ < k → readTreeTo given k names needed s₀ p₀ ≡ refused n q → Says n q
   unfolding readTreeToBy
   tree-says {n} {q} k fuel h =
       ⊎-elim
       (λ e. node-says k openMost 0 [] s₀ p₀ n q start node-at-front (λ i a. absurd (has-zero i a)) (omega arith) fuel e)
       (λ g. ended-says k (g .value) (g .left) (g .place) (g .first) (nextIs 59 (skip (g .left))) refl (g .after))
-      (andThen-refused (readNode k names openMost 0 s₀ p₀) (λ t s p. ended (nextIs 59 (skip s)) needed t (skip s) (p + blanks s)) h)
+      (andThen-refused (readNode given k names openMost 0 s₀ p₀) (λ t s p. ended (nextIs 59 (skip s)) needed t (skip s) (p + blanks s)) h)
 
 -- no text begins with the bytes up to one that is refused by 3, where a label that has ended there has ended
 forbidden :
-    (names : List (List ℕ)) (needed : ℕ) (s : List ℕ) (p d : ℕ)
-    → readTree names needed s p ≡ refused 3 (p + d) → d < length s → CouldBegin s (suc d) → ⊥
-forbidden names needed s p d h within b =
+    (given : Bool) (names : List (List ℕ)) (needed : ℕ) (s : List ℕ) (p d : ℕ)
+    → readTree given names needed s p ≡ refused 3 (p + d) → d < length s → CouldBegin s (suc d) → ⊥
+forbidden given names needed s p d h within b =
     let u = take (suc d) s in
     let s′ = u ++ b .more in
     let size : length u ≡ suc d = length-take-le (suc d) s within in
     let e = border-three s d in
     let behind : drop (suc d) s′ ≡ b .more = drop-at u (b .more) (suc d) size in
-    let again = locality names needed s s′ p d 3 h (omega arith) (omega arith) (rw e (take-at u (b .more) (suc d) size)) (λ asked. rw (e, behind) (b .alike)) in
-    let t = text-limits names needed (b .text .2) p again in
+    let again =
+    locality given names needed s s′ p d 3 h (omega arith) (omega arith) (rw e (take-at u (b .more) (suc d) size)) (alike-asked (rw (e, behind) (b .alike)))
+    in
+    let t = text-limits given names needed (b .text .2) p again in
     omega (arith, t .0)
 
--- what a refusal of a tree text says; so its number is one from 3 to 10
+-- what a refusal of a tree text says; so its number is one from 3 to 10, or 18
 pub refusal-said :
-    (names : List (List ℕ)) (needed : ℕ) (s : List ℕ) (p : ℕ) {number q : ℕ}
-    → readTree names needed s p ≡ refused number q → Said names needed s p number q
+    (given : Bool) (names : List (List ℕ)) (needed : ℕ) (s : List ℕ) (p : ℕ) {number q : ℕ}
+    → readTree given names needed s p ≡ refused number q → Said given names needed s p number q
 unfolding readTreeBy
-refusal-said names needed s p {number} {q} h =
-    tree-says names needed s p (2 * length s + 1) (omega arith) h
-    (λ three d at fits b. forbidden names needed s p d (h ∙ rw (three, at) refl) fits b)
+refusal-said given names needed s p {number} {q} h =
+    tree-says given names needed s p (2 * length s + 1) (omega arith) h
+    (λ three d at fits b. forbidden given names needed s p d (h ∙ rw (three, at) refl) fits b)

@@ -174,10 +174,10 @@ module _ (b : ℕ) (a : Aside b) where
   even-number (decimal {mid = mid} d e) =
       even-run isDigit (a .no-digit) refl d ∙ (count-other b 46 mid (a .no-point) refl ∙ even-run isDigit (a .no-digit) refl e)
 
-  module _ {R : Rules} where
-    even-colon : {w s rest : List ℕ} → ColonNumber R w s rest → Even s rest
-    even-colon (colon {s₁ = m} c g n fits) = even-blanks c ∙ (count-other b 58 m (a .no-colon) refl ∙ (even-blanks g ∙ even-number n))
+  even-colon : {Takes : List ℕ → List ℕ → List ℕ → Type 0} {w s rest : List ℕ} → ColonNumber Takes w s rest → Even s rest
+  even-colon (colon {s₁ = m} c g n fits) = even-blanks c ∙ (count-other b 58 m (a .no-colon) refl ∙ (even-blanks g ∙ even-number n))
 
+  module _ {R : Rules} where
     even-numbers : {d c s rest : List ℕ} → Numbers R d c s rest → Even s rest
     even-numbers nothing = refl
     even-numbers (distance c) = even-colon c

@@ -1,6 +1,7 @@
--- A text of the loosest grammar is refused for a limit, a leaf's name, a single child or a missing species, and for nothing else.
+-- A text of the loosest grammar is refused for a limit, a leaf's name, a single child, a missing species or a support, and for nothing else.
 use Prim.Native.Nat.{ℕ, zero, suc, _+_, _*_, _≤_, _<_}
 use mathlib.Core.Path.{_≡_, refl}
+use mathlib.Core.Logic.{_⊎_, inl, inr}
 use mathlib.Core.Bool.{Bool, true, false}
 use mathlib.Core.List.{List, [], _∷_}
 use native.Mathlib.Decide.{decLe}
@@ -12,13 +13,14 @@ use Rattle.labels.specs.Bytes.{nextIs, nextLabel}
 use Rattle.labels.specs.Spelling.{Spells}
 use Rattle.labels.specs.Labels.{labelBytes, rawTo}
 use Rattle.labels.proofs.Spelled.{no-label-over, whole-exact, spells-first}
-use Rattle.trees.specs.Tree.{Tree, Forest, cluster}
+use Rattle.trees.specs.Tree.{Tree, Forest, Behind, cluster}
 use Rattle.trees.specs.Tree.Tree.{leaf, node}
 use Rattle.trees.specs.Tree.Forest.{last, more}
 use Rattle.roster.specs.Roster.{position}
 use Rattle.tokens.specs.Answers.{Answer, andThen}
 use Rattle.tokens.specs.Answers.Answer.{parsed, refused}
 use Rattle.tokens.specs.Tokens.{numberBytes, blanks, skip, number, numberBehind, secondNumber, numbersBy, numbers, name, innerName}
+use Rattle.tokens.specs.Supports.{refusesFine, unlessFine, supported}
 use Rattle.nodes.specs.Reading.{openMost, leafNew, leafKnown, leafAt, closing, afterFirst, opened, afterChild, readNode, readForest, complete, ended, readTree, closingBy, leafBy, readForestBy}
 use Rattle.nodes.specs.Reading.{readNodeBy, readTreeBy, readTreeToBy}
 use Rattle.nodes.specs.Grammar.{loosest, Blanks, Number, ColonNumber, Numbers, Inner, Node, Text}
@@ -35,28 +37,34 @@ use Rattle.nodes.proofs.Spans.{number-long, name-faulty}
 use Rattle.meanings.proofs.MeaningContexts.{front-shorter}
 use Rattle.meanings.proofs.NumberSpans.{number-span}
 
--- ---- the numbers that name a limit, a leaf's name, a single child or a missing species: 4 to 9
+-- ---- the numbers that name a limit, a leaf's name, a single child, a missing species or a support: 4 to 9, and 18
 
 abbrev pub Limit : ℕ → Type 0
-Limit n = (4 ≤ n) × (n ≤ 9)
+Limit n = (4 ≤ n) × ((n ≤ 9) ⊎ (n ≡ 18))
+
+low : {n : ℕ} → 4 ≤ n → n ≤ 9 → Limit n
+low l h = (l, inl h)
 
 four : Limit 4
-four = omega arith
+four = low (omega arith) (omega arith)
 
 five : Limit 5
-five = omega arith
+five = low (omega arith) (omega arith)
 
 six : Limit 6
-six = omega arith
+six = low (omega arith) (omega arith)
 
 seven : Limit 7
-seven = omega arith
+seven = low (omega arith) (omega arith)
 
 eight : Limit 8
-eight = omega arith
+eight = low (omega arith) (omega arith)
 
 nine : Limit 9
-nine = omega arith
+nine = low (omega arith) (omega arith)
+
+eighteen : Limit 18
+eighteen = (omega arith, inr refl)
 
 -- the answer leaves rest, or is such a refusal
 pub data Passes {A : Type 0} (rest : List ℕ) : Answer A → Type 0 where
@@ -92,7 +100,7 @@ unfolding numberBehind
 numberBehind-passes {s = s} {m = m} gap n stop p = rw (blanks-skip gap (label-no-blank m (number-first n))) (number-passes n stop (p + blanks s))
 
 second-passes :
-    (w d : List ℕ) {b s rest : List ℕ} → ColonNumber loosest b s rest → Follows rest → (p : ℕ)
+    (w d : List ℕ) {b s rest : List ℕ} → ColonNumber (loosest .support) b s rest → Follows rest → (p : ℕ)
     → Passes rest (secondNumber (nextIs 58 (skip s)) w d s p)
 second-passes w d {s = s} (colon {s₁ = s₁} bl gap n any) follows p =
     rw (skip-is 58 refl bl, skip-to 58 refl bl)
@@ -101,7 +109,7 @@ second-passes w d {s = s} (colon {s₁ = s₁} bl gap n any) follows p =
 
 first-passes :
     (w : List ℕ) {d s mid rest : List ℕ}
-    → ColonNumber loosest d s mid → Stopped mid → ((x : List ℕ) (q : ℕ) → Passes rest (secondNumber (nextIs 58 (skip mid)) w x mid q)) → (p : ℕ)
+    → ColonNumber (loosest .distance) d s mid → Stopped mid → ((x : List ℕ) (q : ℕ) → Passes rest (secondNumber (nextIs 58 (skip mid)) w x mid q)) → (p : ℕ)
     → Passes rest (numbersBy (nextIs 58 (skip s)) w s p)
 first-passes w {s = s} (colon {s₁ = s₁} {s₂ = s₂} bl gap n any) stop second p =
     let e : skip s₁ ≡ s₂ = blanks-skip gap (label-no-blank s₂ (number-first n)) in
@@ -109,7 +117,7 @@ first-passes w {s = s} (colon {s₁ = s₁} {s₂ = s₂} bl gap n any) stop sec
     (passes-then (λ d s p. secondNumber (nextIs 58 (skip s)) w d s p) (numberBehind-passes gap n stop (p + blanks s + 1)) second)
 
 support-passes :
-    (w : List ℕ) {b s mid rest : List ℕ} → Blanks s (58 ∷ mid) → ColonNumber loosest b mid rest → Follows rest → (p : ℕ)
+    (w : List ℕ) {b s mid rest : List ℕ} → Blanks s (58 ∷ mid) → ColonNumber (loosest .support) b mid rest → Follows rest → (p : ℕ)
     → Passes rest (numbersBy (nextIs 58 (skip s)) w s p)
 support-passes w {s = s} {mid = mid} bl (colon {s₁ = s₁} bl₁ gap n any) follows p =
     rw (skip-is 58 refl bl, skip-to 58 refl bl, skip-is 58 refl bl₁, skip-to 58 refl bl₁)
@@ -123,6 +131,17 @@ numbers-passes w (distance c) follows p = first-passes w c (follows .stopped) (�
 numbers-passes w (both c e) follows p = first-passes w c (colon-stopped e) (λ x q. second-passes w x e follows q) p
 numbers-passes w (support bl c) follows p = support-passes w bl c follows p
 
+-- what is read is judged
+supported-passes : (given : Bool) (w : List ℕ) {d b s rest : List ℕ} → Numbers loosest d b s rest → Follows rest → (p : ℕ) → Passes rest (supported given w s p)
+unfolding supported
+supported-passes given w {rest = rest} behind follows p =
+    passes-then (λ b s p. unlessFine (refusesFine given (b .support)) b s p) (numbers-passes w behind follows p)
+    (λ b q. judged (refusesFine given (b .support)) b q)
+  where
+    judged : (t : Bool) (b : Behind) (q : ℕ) → Passes rest (unlessFine t b rest q)
+    judged true b q = halts eighteen
+    judged false b q = reads
+
 innerName-passes : {w s rest : List ℕ} → Inner loosest w s rest → Stopped rest → (p : ℕ) → Passes rest (innerName s p)
 unfolding innerName
 innerName-passes nameless stop p = rw (stopped-skip-label stop) reads
@@ -133,37 +152,38 @@ innerName-passes {s = s} (named {mid = mid} gap r any) stop p =
 
 -- ---- leaves and what closes a node
 
-leaf-passes : (names : List (List ℕ)) (seen : ℕ) {w d b m mid rest : List ℕ} → Spells w m mid → Numbers loosest d b mid rest → Follows rest → (p : ℕ)
-    → Passes rest (leafAt names seen m p)
+leaf-passes :
+    (given : Bool) (names : List (List ℕ)) (seen : ℕ) {w d b m mid rest : List ℕ} → Spells w m mid → Numbers loosest d b mid rest → Follows rest
+    → (p : ℕ) → Passes rest (leafAt given names seen m p)
 unfolding leafBy
-leaf-passes names seen {mid = mid} {rest = rest} r behind follows p =
-    passes-then (λ w rest q. leafKnown (ltb (position w names) (length names)) (position w names) seen p rest q)
+leaf-passes given names seen {mid = mid} {rest = rest} r behind follows p =
+    passes-then (λ w rest q. leafKnown given (ltb (position w names) (length names)) (position w names) seen p rest q)
     (name-passes r (numbers-stopped behind follows) p) (λ w q. known (ltb (position w names) (length names)) (position w names) q)
   where
-    fresh : (t : Bool) (i q : ℕ) → Passes rest (leafNew t i p mid q)
+    fresh : (t : Bool) (i q : ℕ) → Passes rest (leafNew given t i p mid q)
     fresh false i q = halts six
-    fresh true i q = passes-then (λ b s p. parsed (leaf i b) s p) (numbers-passes [] behind follows q) (λ x z. reads)
+    fresh true i q = passes-then (λ b s p. parsed (leaf i b) s p) (supported-passes given [] behind follows q) (λ x z. reads)
 
-    known : (t : Bool) (i q : ℕ) → Passes rest (leafKnown t i seen p mid q)
+    known : (t : Bool) (i q : ℕ) → Passes rest (leafKnown given t i seen p mid q)
     known false i q = halts five
     known true i q = fresh (apart (single i) seen) i q
 
 closing-passes :
-    (t : Tree) (f : Forest) {w d b s m rest : List ℕ} → Inner loosest w s m → Numbers loosest d b m rest → Follows rest → (p : ℕ)
-    → Passes rest (closing t f s p)
+    (given : Bool) (t : Tree) (f : Forest) {w d b s m rest : List ℕ} → Inner loosest w s m → Numbers loosest d b m rest → Follows rest → (p : ℕ)
+    → Passes rest (closing given t f s p)
 unfolding closingBy
-closing-passes t f inner behind follows p =
-    passes-then (λ w s p. andThen (numbers w s p) (λ b s p. parsed (node t f b) s p)) (innerName-passes inner (numbers-stopped behind follows) p)
-    (λ w q. passes-then (λ b s p. parsed (node t f b) s p) (numbers-passes w behind follows q) (λ x z. reads))
+closing-passes given t f inner behind follows p =
+    passes-then (λ w s p. andThen (supported given w s p) (λ b s p. parsed (node t f b) s p)) (innerName-passes inner (numbers-stopped behind follows) p)
+    (λ w q. passes-then (λ b s p. parsed (node t f b) s p) (supported-passes given w behind follows q) (λ x z. reads))
 
 -- ---- nodes and children
 
-module _ (names : List (List ℕ)) where
+module _ (given : Bool) (names : List (List ℕ)) where
   abbrev NodePasses : ℕ → List ℕ → Tree → List ℕ → Type 0
-  NodePasses depth s t rest = Follows rest → (k room seen p : ℕ) → 2 * length s < k → Passes rest (readNode k names room seen s p)
+  NodePasses depth s t rest = Follows rest → (k room seen p : ℕ) → 2 * length s < k → Passes rest (readNode given k names room seen s p)
 
   abbrev ForestPasses : ℕ → List ℕ → Forest → List ℕ → Type 0
-  ForestPasses depth s f rest = (k room seen p : ℕ) → 2 * length s + 1 < k → Passes rest (readForest k names room seen s p)
+  ForestPasses depth s f rest = (k room seen p : ℕ) → 2 * length s + 1 < k → Passes rest (readForest given k names room seen s p)
 
   leaf-step :
       (depth i : ℕ) (w d b s s₁ s₂ rest : List ℕ) → Blanks s s₁ → Spells w s₁ s₂ → Numbers loosest d b s₂ rest
@@ -173,27 +193,27 @@ module _ (names : List (List ℕ)) where
   leaf-step depth i w d b s s₁ s₂ rest gap r behind follows (suc k) room seen p l =
       let e : skip s ≡ s₁ = blanks-skip gap (label-no-blank s₁ (spells-first r)) in
       let is : nextLabel (skip s) ≡ true = rw e (spells-first r) in
-      rw (is, e) (leaf-passes names seen r behind follows (p + blanks s))
+      rw (is, e) (leaf-passes given names seen r behind follows (p + blanks s))
 
   -- behind the first child
   others-pass :
       (k depth room seen : ℕ) (t : Tree) (f : Forest) (w d b s s₁ s₂ s₃ rest : List ℕ)
       → Blanks s (44 ∷ s₁) → ForestPasses depth s₁ f s₂ → Inner loosest w s₂ s₃ → Numbers loosest d b s₃ rest → Follows rest
       → 2 * length s₁ + 1 < k → (x : Tree) (p : ℕ)
-      → Passes rest (afterFirst (nextIs 44 (skip s)) (nextIs 41 (skip s)) (λ e s p. readForest k names room e s p) seen x (skip s) p)
+      → Passes rest (afterFirst given (nextIs 44 (skip s)) (nextIs 41 (skip s)) (λ e s p. readForest given k names room e s p) seen x (skip s) p)
   others-pass k depth room seen t f w d b s s₁ s₂ s₃ rest comma others inner behind follows l x p =
       rw (skip-is 44 refl comma, skip-to 44 refl comma)
-      (passes-then (λ f s p. closing x f s p) (others k room (union seen (cluster x)) (p + 1) l) (λ f q. closing-passes x f inner behind follows q))
+      (passes-then (λ f s p. closing given x f s p) (others k room (union seen (cluster x)) (p + 1) l) (λ f q. closing-passes given x f inner behind follows q))
 
   opened-pass :
       (k depth room seen : ℕ) (t : Tree) (f : Forest) (w d b s s₁ s₂ s₃ s₄ s₅ rest : List ℕ)
       → NodePasses depth s₁ t s₂ → Blanks s₂ (44 ∷ s₃) → ForestPasses depth s₃ f s₄ → Inner loosest w s₄ s₅ → Numbers loosest d b s₅ rest → Follows rest
       → 2 * length s₁ < k → 2 * length s₃ + 1 < k → (p : ℕ)
-      → Passes rest (opened (λ r e s p. readNode k names r e s p) (λ r e s p. readForest k names r e s p) room seen (40 ∷ s₁) p)
+      → Passes rest (opened given (λ r e s p. readNode given k names r e s p) (λ r e s p. readForest given k names r e s p) room seen (40 ∷ s₁) p)
   opened-pass k depth zero seen t f w d b s s₁ s₂ s₃ s₄ s₅ rest first comma others inner behind follows l l′ p = halts eight
   opened-pass k depth (suc room) seen t f w d b s s₁ s₂ s₃ s₄ s₅ rest first comma others inner behind follows l l′ p =
       passes-then
-      (λ t s p. afterFirst (nextIs 44 (skip s)) (nextIs 41 (skip s)) (λ e s p. readForest k names room e s p) seen t (skip s) (p + blanks s))
+      (λ t s p. afterFirst given (nextIs 44 (skip s)) (nextIs 41 (skip s)) (λ e s p. readForest given k names room e s p) seen t (skip s) (p + blanks s))
       (first (comma-follows comma) k room seen (p + 1) l)
       (λ x q. others-pass k depth room seen t f w d b s₂ s₃ s₄ s₅ rest comma others inner behind follows l′ x (q + blanks s₂))
 
@@ -216,13 +236,13 @@ module _ (names : List (List ℕ)) where
   single-pass :
       (k depth room seen : ℕ) (t : Tree) (s₁ s₂ s₃ rest : List ℕ)
       → NodePasses depth s₁ t s₂ → Blanks s₂ (41 ∷ s₃) → 2 * length s₁ < k → (p : ℕ)
-      → Passes rest (opened (λ r e s p. readNode k names r e s p) (λ r e s p. readForest k names r e s p) room seen (40 ∷ s₁) p)
+      → Passes rest (opened given (λ r e s p. readNode given k names r e s p) (λ r e s p. readForest given k names r e s p) room seen (40 ∷ s₁) p)
   single-pass k depth zero seen t s₁ s₂ s₃ rest only closes l p = halts eight
   single-pass k depth (suc room) seen t s₁ s₂ s₃ rest only closes l p =
       let e : skip s₂ ≡ 41 ∷ s₃ = skip-to 41 refl closes in
       let no-comma : nextIs 44 (skip s₂) ≡ false = rw e (next-not 44 41 s₃ refl) in
       passes-then
-      (λ t s p. afterFirst (nextIs 44 (skip s)) (nextIs 41 (skip s)) (λ e s p. readForest k names room e s p) seen t (skip s) (p + blanks s))
+      (λ t s p. afterFirst given (nextIs 44 (skip s)) (nextIs 41 (skip s)) (λ e s p. readForest given k names room e s p) seen t (skip s) (p + blanks s))
       (only (closing-follows closes) k room seen (p + 1) l) (λ x q. rw (no-comma, skip-is 41 refl closes) (halts seven))
 
   single-step :
@@ -243,7 +263,7 @@ module _ (names : List (List ℕ)) where
       let e : skip s₁ ≡ 41 ∷ rest = skip-to 41 refl closes in
       let no-comma : nextIs 44 (skip s₁) ≡ false = rw e (next-not 44 41 rest refl) in
       passes-then
-      (λ t s p. afterChild (nextIs 44 (skip s)) (nextIs 41 (skip s)) (λ e s p. readForest k names room e s p) seen t (skip s) (p + blanks s))
+      (λ t s p. afterChild (nextIs 44 (skip s)) (nextIs 41 (skip s)) (λ e s p. readForest given k names room e s p) seen t (skip s) (p + blanks s))
       (only (closing-follows closes) k room seen p (omega arith)) (λ x q. rw (no-comma, skip-is 41 refl closes, e) reads)
 
   more-step :
@@ -255,7 +275,7 @@ module _ (names : List (List ℕ)) where
       let l₁ = front-shorter (node-front loosest (lifted-placeless 1) child) in
       let l₂ = front-shorter (blanks-front comma) in
       passes-then
-      (λ t s p. afterChild (nextIs 44 (skip s)) (nextIs 41 (skip s)) (λ e s p. readForest k names room e s p) seen t (skip s) (p + blanks s))
+      (λ t s p. afterChild (nextIs 44 (skip s)) (nextIs 41 (skip s)) (λ e s p. readForest given k names room e s p) seen t (skip s) (p + blanks s))
       (first (comma-follows comma) k room seen p (omega arith))
       (λ x q.
       rw (skip-is 44 refl comma, skip-to 44 refl comma)
@@ -278,7 +298,7 @@ module _ (names : List (List ℕ)) where
   ended-passes true t rest p = reads
   ended-passes false t rest p = halts nine
 
-  text-passes : (needed : ℕ) {k : ℕ} {s rest : List ℕ} {t : Tree} → Text loosest k s t rest → (p : ℕ) → Passes rest (readTree names needed s p)
+  text-passes : (needed : ℕ) {k : ℕ} {s rest : List ℕ} {t : Tree} → Text loosest k s t rest → (p : ℕ) → Passes rest (readTree given names needed s p)
   unfolding readTreeBy readTreeToBy
   text-passes needed {s = s} {rest = rest} (text {s₁ = m} d ends) p =
       passes-then (λ t s p. ended (nextIs 59 (skip s)) needed t (skip s) (p + blanks s))
@@ -289,7 +309,7 @@ module _ (names : List (List ℕ)) where
   passed reads e = absurd (parsed-refused e)
   passed {n = n} (halts {n = k} l) e = let f : k ≡ n = cc in rw (← f) l
 
-  -- a text of that grammar is refused by 4 to 9 alone
+  -- a text of that grammar is refused by 4 to 9 and 18 alone
   pub text-limits :
-      (needed : ℕ) {k : ℕ} {s rest : List ℕ} {t : Tree} → Text loosest k s t rest → (p : ℕ) {n q : ℕ} → readTree names needed s p ≡ refused n q → Limit n
+      (needed : ℕ) {k : ℕ} {s rest : List ℕ} {t : Tree} → Text loosest k s t rest → (p : ℕ) {n q : ℕ} → readTree given names needed s p ≡ refused n q → Limit n
   text-limits needed d p h = passed (text-passes needed d p) h

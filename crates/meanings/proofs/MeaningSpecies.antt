@@ -2,7 +2,7 @@
 use Prim.Native.Nat.{ℕ, suc, _+_, _≤_, _<_}
 use mathlib.Core.Path.{_≡_, sym, ap, _∙_}
 use mathlib.Core.Logic.{⊎-elim}
-use mathlib.Core.Bool.{false}
+use mathlib.Core.Bool.{Bool, false}
 use mathlib.Core.List.{List, [], _∷_, _++_, append-assoc}
 use native.Mathlib.Omega.{arith}
 use lib.ListN.{length, take, drop, length-append}
@@ -23,11 +23,11 @@ use Rattle.nodes.proofs.Exact.{stopped-label, comma-follows, closing-follows}
 use Rattle.nodes.proofs.Derivations.{Steps, over-node, two-wanted}
 use Rattle.nodes.proofs.Fronts.{Then, BlanksAnd, front-then, strict-placeless, lifted-placeless, blanks-front, byte-front, numbers-front, inner-front, node-front, children-front, lift-node}
 use Rattle.meanings.specs.Meaning.{LeafAt}
-use Rattle.meanings.proofs.MeaningContexts.{front-shorter, stand-on, opened-stand, last-stand, blanks-node, comma-children, child-comma, NodeOf, Stand, NodeIn, ChildrenIn}
+use Rattle.meanings.proofs.MeaningContexts.{front-shorter, node-may, stand-on, opened-stand, last-stand, blanks-node, comma-children, child-comma, NodeOf, Stand, NodeIn, ChildrenIn}
 use Rattle.meanings.proofs.ReadingSteps.{Stands}
 use Rattle.meanings.proofs.MeaningSteps.{numbers-stop}
 
-module _ (names : List (List ℕ)) (s₀ : List ℕ) where
+module _ (given : Bool) (names : List (List ℕ)) (s₀ : List ℕ) where
   -- species i stands as a leaf's name before what is left
   pub record Met (left : List ℕ) (i : ℕ) : Type 0 where
     pub c : ℕ
@@ -51,7 +51,7 @@ module _ (names : List (List ℕ)) (s₀ : List ℕ) where
   further u {rest = rest} e f = e ∙ (ap (λ (l : List ℕ). u ++ l) (f .split) ∙ sym (append-assoc u (f .bytes) rest))
 
   met-leaf :
-      (k i : ℕ) (w d b s s₁ s₂ rest : List ℕ) → Blanks s s₁ → Spells w s₁ s₂ → strict names .leafName w i s₁ s₂ → Numbers (strict names) d b s₂ rest
+      (k i : ℕ) (w d b s s₁ s₂ rest : List ℕ) → Blanks s s₁ → Spells w s₁ s₂ → strict given names .leafName w i s₁ s₂ → Numbers (strict given names) d b s₂ rest
       → MetIn k s (leaf i (record { name = []; distance = d; support = b })) rest
   unfolding cluster
   met-leaf k i w d b s s₁ s₂ rest bl r known behind u e may stops j h =
@@ -64,9 +64,9 @@ module _ (names : List (List ℕ)) (s₀ : List ℕ) where
       let all : length s₀ ≡ length v + length s₁ = ap length whole ∙ length-append v s₁ in
       record {
         c = length v;
-        before = omega (arith, spells-shorter r, front-shorter (numbers-front (strict names) (strict-placeless names) behind));
+        before = omega (arith, spells-shorter r, front-shorter (numbers-front (strict given names) (strict-placeless given names) behind));
         leaf-there = record {
-          allowed = rw front (stand-on NodeIn NodeIn Blanks blanks-node may f 2);
+          allowed = rw front (node-may (stand-on NodeIn NodeIn Blanks blanks-node may f));
           begins = rw back (spells-first r);
           bytes = x .width;
           ends = rw back (x .short (known .0));
@@ -76,19 +76,19 @@ module _ (names : List (List ℕ)) (s₀ : List ℕ) where
 
   met-inner :
       (k : ℕ) (t : Tree) (f : Forest) (w d b s s₁ s₂ s₃ s₄ s₅ rest : List ℕ)
-      → Blanks s (40 ∷ s₁) → Node (strict names) k s₁ t s₂ → MetIn k s₁ t s₂ → Blanks s₂ (44 ∷ s₃) → Children (strict names) k s₃ f s₄
-      → MetInAll k s₃ f s₄ → Inner (strict names) w s₄ s₅ → Numbers (strict names) d b s₅ rest
+      → Blanks s (40 ∷ s₁) → Node (strict given names) k s₁ t s₂ → MetIn k s₁ t s₂ → Blanks s₂ (44 ∷ s₃) → Children (strict given names) k s₃ f s₄
+      → MetInAll k s₃ f s₄ → Inner (strict given names) w s₄ s₅ → Numbers (strict given names) d b s₅ rest
       → MetIn (suc k) s (node t f (record { name = w; distance = d; support = b })) rest
   unfolding cluster
   met-inner k t f w d b s s₁ s₂ s₃ s₄ s₅ rest bl first p comma others q inner behind u e may stops i h =
       let l₁ : length s₃ ≤ length s₂ = front-shorter (byte-front 44 comma) in
-      let l₂ : length s₄ ≤ length s₃ = front-shorter (children-front (strict names) (strict-placeless names) others) in
-      let l₃ : length s₅ ≤ length s₄ = front-shorter (inner-front (strict names) (strict-placeless names) inner) in
-      let l₄ : length rest ≤ length s₅ = front-shorter (numbers-front (strict names) (strict-placeless names) behind) in
+      let l₂ : length s₄ ≤ length s₃ = front-shorter (children-front (strict given names) (strict-placeless given names) others) in
+      let l₃ : length s₅ ≤ length s₄ = front-shorter (inner-front (strict given names) (strict-placeless given names) inner) in
+      let l₄ : length rest ≤ length s₅ = front-shorter (numbers-front (strict given names) (strict-placeless given names) behind) in
       ⊎-elim
       (λ a. met-less (omega arith) (p (u ++ opening .bytes) (further u e opening) (opened-stand may opening)
       (stopped-label (comma-follows comma .stopped)) i a))
-      (λ a. met-less (omega arith) (q (u ++ till .bytes) (further u e till) (stand-on NodeIn ChildrenIn Till (λ n. comma-children n k t) may till) i a))
+      (λ a. met-less (omega arith) (q (u ++ till .bytes) (further u e till) (stand-on NodeIn ChildrenIn Till (comma-children k t) may till) i a))
       (has-union (cluster t) (clusterOf f) i h)
     where
       X : List ℕ → List ℕ → Type 0
@@ -101,24 +101,28 @@ module _ (names : List (List ℕ)) (s₀ : List ℕ) where
       opening = byte-front 40 bl
 
       till : Front Till s s₃
-      till = front-then X (BlanksAnd 44) (front-then (BlanksAnd 40) (NodeOf k t) opening (node-front lifted (lifted-placeless 2) (lift-node names first))) (byte-front 44 comma)
+      till =
+          front-then X (BlanksAnd 44) (front-then (BlanksAnd 40) (NodeOf k t) opening (node-front lifted (lifted-placeless 2) (lift-node given names first)))
+          (byte-front 44 comma)
 
   met-more :
       (k : ℕ) (t : Tree) (f : Forest) (s s₁ s₂ rest : List ℕ)
-      → Node (strict names) k s t s₁ → MetIn k s t s₁ → Blanks s₁ (44 ∷ s₂) → Children (strict names) k s₂ f rest → MetInAll k s₂ f rest
+      → Node (strict given names) k s t s₁ → MetIn k s t s₁ → Blanks s₁ (44 ∷ s₂) → Children (strict given names) k s₂ f rest → MetInAll k s₂ f rest
       → MetInAll k s (more t f) rest
   unfolding clusterOf
   met-more k t f s s₁ s₂ rest first p comma others q u e may i h =
       let l₁ : length s₂ ≤ length s₁ = front-shorter (byte-front 44 comma) in
-      let l₂ : length rest ≤ length s₂ = front-shorter (children-front (strict names) (strict-placeless names) others) in
+      let l₂ : length rest ≤ length s₂ = front-shorter (children-front (strict given names) (strict-placeless given names) others) in
       let X = Then (NodeOf k t) (BlanksAnd 44) in
-      let till : Front X s s₂ = front-then (NodeOf k t) (BlanksAnd 44) (node-front lifted (lifted-placeless 2) (lift-node names first)) (byte-front 44 comma) in
+      let till : Front X s s₂ =
+      front-then (NodeOf k t) (BlanksAnd 44) (node-front lifted (lifted-placeless 2) (lift-node given names first)) (byte-front 44 comma)
+      in
       ⊎-elim
       (λ a. met-less (omega arith) (p u e (last-stand may) (stopped-label (comma-follows comma .stopped)) i a))
-      (λ a. q (u ++ till .bytes) (further u e till) (stand-on ChildrenIn ChildrenIn X (λ n. child-comma n k t) may till) i a)
+      (λ a. q (u ++ till .bytes) (further u e till) (stand-on ChildrenIn ChildrenIn X (child-comma k t) may till) i a)
       (has-union (cluster t) (clusterOf f) i h)
 
-  met-steps : Steps (strict names) MetIn MetInAll
+  met-steps : Steps (strict given names) MetIn MetInAll
   unfolding clusterOf
   met-steps =
       record {
@@ -132,6 +136,7 @@ module _ (names : List (List ℕ)) (s₀ : List ℕ) where
         at-more = λ k t f s s₁ s₂ rest first p comma others q u e may i h. met-more k t f s s₁ s₂ rest first p comma others q u e may i h;
       }
 
-  pub met-node : {k : ℕ} {t : Tree} {u s rest : List ℕ} {p p₀ : ℕ} → Stands s₀ p₀ u s p → Stand NodeIn u → Node (strict names) k s t rest → nextLabel rest ≡ false
-      → AllMet rest (cluster t)
-  met-node {u = u} st may d stops i h = over-node (strict names) MetIn MetInAll met-steps d u (st .left .whole) may stops i h
+  pub met-node :
+      {k : ℕ} {t : Tree} {u s rest : List ℕ} {p p₀ : ℕ} → Stands s₀ p₀ u s p → Stand NodeIn u → Node (strict given names) k s t rest
+      → nextLabel rest ≡ false → AllMet rest (cluster t)
+  met-node {u = u} st may d stops i h = over-node (strict given names) MetIn MetInAll met-steps d u (st .left .whole) may stops i h

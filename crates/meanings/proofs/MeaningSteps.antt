@@ -2,57 +2,66 @@
 use Prim.Native.Nat.{ℕ, suc, _+_, _-_, _<_}
 use mathlib.Core.Path.{_≡_, refl, sym, _∙_}
 use mathlib.Core.Bool.{Bool, true, false, not}
-use mathlib.Core.List.{List, [], _∷_, _++_, tail, append-cancel-right}
+use mathlib.Core.List.{List, [], _∷_, _++_, append-cancel-right}
 use native.Mathlib.Omega.{arith}
 use lib.ListN.{length}
 use lib.Bits.{bitAnd}
 use Rattle.clusters.specs.Sets.{Has, Within, single, apart, within}
 use Rattle.clusters.proofs.Members.{has-and, and-has, some-has, within-of-has, has-dec}
 use Rattle.clusters.proofs.Sets.{within-false, apart-false, single-apart, minus-some, has-minus}
-use Rattle.labels.specs.Bytes.{oneMore, nextIs, nextLabel}
-use Rattle.labels.specs.Spelling.{Spells}
+use Rattle.labels.specs.Bytes.{oneMore, nextLabel}
 use Rattle.labels.specs.Labels.{letters, Told, told}
 use Rattle.labels.specs.Labels.Told.{ended, faulty}
-use Rattle.labels.proofs.Spelled.{no-label-over, whole-exact}
 use Rattle.labels.proofs.LabelFronts.{Front}
 use Rattle.trees.specs.Tree.{Tree, Forest}
 use Rattle.roster.specs.Roster.{same, position}
 use Rattle.roster.proofs.Positions.{same-is}
 use Rattle.tokens.specs.Answers.Answer.{parsed}
-use Rattle.tokens.specs.Tokens.{blanks, skip, numberBehind, nameBy, name, innerName}
+use Rattle.tokens.specs.Tokens.{nameBy, name, innerName}
 use Rattle.nodes.specs.Reading.{readNode, readForest}
 use Rattle.nodes.specs.Grammar.{Rules, strict, lifted, ColonNumber, Numbers, Inner, Node, Children}
 use Rattle.nodes.specs.Grammar.ColonNumber.{colon}
 use Rattle.nodes.specs.Grammar.Numbers.{nothing, distance, both, support}
 use Rattle.nodes.proofs.Answers.{refused-parsed}
-use Rattle.nodes.proofs.Fronts.{strict-lifted, colon-allowed, inner-allowed, children-allowed, lift-node}
+use Rattle.nodes.proofs.Fronts.{Then, BlanksAnd, strict-lifted, colon-allowed, inner-allowed, children-allowed, lift-node}
 use Rattle.nodes.proofs.Exact.{stopped-label, colon-stops}
 use Rattle.meanings.proofs.MeaningContexts.{NodeOf, ChildrenOf}
-use Rattle.meanings.proofs.ReadingSteps.{Step, step-as, step-colon, step-inner, step-node, step-forest}
+use Rattle.meanings.proofs.ReadingSteps.{Step, step-as, step-inner, step-node, step-forest}
 
 -- ---- steps of reading, limits and roster lifted
 
-module _ (names : List (List ℕ)) where
-  pub lifted-colon :
-      (s : List ℕ) (p : ℕ) {w rest : List ℕ} {q : ℕ}
-      → nextIs 58 (skip s) ≡ true → numberBehind (tail (skip s)) (p + blanks s + 1) ≡ parsed w rest q → Step (ColonNumber lifted w) s p rest q
-  lifted-colon s p {w} is h =
-      step-as (ColonNumber (strict names) w) (ColonNumber lifted w) (λ s rest c. colon-allowed (strict names) lifted (strict-lifted names) c)
-      (step-colon names s p is h)
+module _ (given : Bool) (names : List (List ℕ)) where
+  -- a distance and a second colon
+  pub lifted-second :
+      {d s m : List ℕ} {p r : ℕ} → Step (Then (ColonNumber (strict given names .distance) d) (BlanksAnd 58)) s p m r
+      → Step (Then (ColonNumber (lifted .distance) d) (BlanksAnd 58)) s p m r
+  lifted-second {d} x =
+      let X = ColonNumber (strict given names .distance) d in
+      let Y = ColonNumber (lifted .distance) d in
+      step-as (Then X (BlanksAnd 58)) (Then Y (BlanksAnd 58))
+      (λ s rest h.
+      record {
+        mid = h .mid;
+        first = colon-allowed (strict given names .distance) (lifted .distance) (strict-lifted given names .distances) (h .first);
+        second = h .second;
+      })
+      x
 
   pub lifted-inner : (s : List ℕ) (p : ℕ) {w rest : List ℕ} {q : ℕ} → innerName s p ≡ parsed w rest q → Step (Inner lifted w) s p rest q
   lifted-inner s p {w} h =
-      step-as (Inner (strict names) w) (Inner lifted w) (λ s rest i. inner-allowed (strict names) lifted (strict-lifted names) i) (step-inner names s p h)
+      step-as (Inner (strict given names) w) (Inner lifted w) (λ s rest i. inner-allowed (strict given names) lifted (strict-lifted given names) i)
+      (step-inner given names s p h)
 
   module _ (k room seen : ℕ) (s : List ℕ) (p : ℕ) where
-    pub lifted-node : {t : Tree} {rest : List ℕ} {q : ℕ} → readNode k names room seen s p ≡ parsed t rest q → Step (NodeOf room t) s p rest q
+    pub lifted-node : {t : Tree} {rest : List ℕ} {q : ℕ} → readNode given k names room seen s p ≡ parsed t rest q → Step (NodeOf room t) s p rest q
     lifted-node {t} h =
-        step-as (λ s rest. Node (strict names) room s t rest) (NodeOf room t) (λ s rest d. lift-node names d) (step-node names k room seen s p h)
+        step-as (λ s rest. Node (strict given names) room s t rest) (NodeOf room t) (λ s rest d. lift-node given names d)
+        (step-node given names k room seen s p h)
 
-    pub lifted-forest : {f : Forest} {rest : List ℕ} {q : ℕ} → readForest k names room seen s p ≡ parsed f rest q → Step (ChildrenOf room f) s p rest q
+    pub lifted-forest : {f : Forest} {rest : List ℕ} {q : ℕ} → readForest given k names room seen s p ≡ parsed f rest q → Step (ChildrenOf room f) s p rest q
     lifted-forest {f} h =
-        step-as (λ s rest. Children (strict names) room s f rest) (ChildrenOf room f)
-        (λ s rest d. children-allowed (strict names) lifted (strict-lifted names) d) (step-forest names k room seen s p h)
+        step-as (λ s rest. Children (strict given names) room s f rest) (ChildrenOf room f)
+        (λ s rest d. children-allowed (strict given names) lifted (strict-lifted given names) d) (step-forest given names k room seen s p h)
 
 -- ---- names on the roster
 
@@ -102,10 +111,7 @@ lacking a b h =
     let left = has-minus a both i inside (some .1) in
     (i, left .0, λ m. left .1 (and-has a b i (left .0) m))
 
--- ---- a label is whole where none follows it
-
-pub whole-word : {w s rest : List ℕ} → Spells w s rest → nextLabel rest ≡ false → letters s ≡ w
-whole-word {s = s} {rest = rest} r stops = whole-exact (record { spelled = r; over = no-label-over s rest stops }) .name
+-- ---- numbers stop a label
 
 pub numbers-stop : {R : Rules} {d b s rest : List ℕ} → Numbers R d b s rest → nextLabel rest ≡ false → nextLabel s ≡ false
 numbers-stop nothing h = h

@@ -8,29 +8,35 @@ use native.Mathlib.Numerals.{add-one}
 use native.Mathlib.Omega.{arith}
 use borrow.Author.Tests.{lt-ltb, le-ltb}
 use lib.ListN.{length, getD, take, drop, length-append, length-drop, List·getD-append}
-use lib.Seq.{take-add, take-take, take-append-le, length-take-le, take-suc, drop-cons, drop-drop, getD-take, getD-drop}
+use lib.Seq.{take-add, take-take, take-append-le, take-append-seam, length-take-le, take-suc, drop-cons, drop-drop, getD-take, getD-drop}
 use lib.Dec.{ltb}
 use Rattle.labels.specs.Bytes.{nextIs, nextLabel}
 use Rattle.labels.specs.Labels.{labelBytes, letters, rawTo, Told, told}
 use Rattle.labels.proofs.Bytewise.{all-at}
 use Rattle.labels.proofs.FaultyLabels.{letterEnd, raw-next}
 use Rattle.labels.proofs.Spelled.{told-sound}
+use Rattle.labels.proofs.LabelFronts.{front-elsewhere}
 use Rattle.labels.proofs.FirstBytes.{next-here}
 use Rattle.roster.specs.Roster.{position, byteBefore}
+use Rattle.tokens.specs.Tokens.{numberBytes}
 use Rattle.nodes.specs.Reading.{openMost}
 use Rattle.nodes.specs.Grammar.{lifted, loosest, Number}
 use Rattle.nodes.specs.Grammar.Blanks.{none}
 use Rattle.nodes.specs.Deciding.{border, bytesOf, borderBy, GoesOnAlike}
-use Rattle.nodes.proofs.Fronts.{lift-text, loosen-text}
-use Rattle.meanings.specs.Meaning.{IsText, NodeMayStand, NameMayStand, CouldBegin, FirstMet, ByteAt, LongName, LongNumber, LeafAt, UnknownName, RepeatedName, SingleChild, TooDeep, Missing}
-use Rattle.meanings.specs.Meaning.{Means}
-use Rattle.meanings.specs.Meaning.Means.{stray, long-name, long-number, unknown-name, repeated-name, single-child, too-deep, missing, ends-first}
+use Rattle.nodes.proofs.Fronts.{number-front, lift-text, loosen-text}
+use Rattle.nodes.proofs.Spans.{decimal-length}
+use Rattle.nodes.proofs.Locality.{border-eighteen}
+use Rattle.meanings.specs.Meaning.{IsText, NodeMayStand, NameMayStand, NumberMayStand, CouldBegin, FirstMet, ByteAt, LongName, LongNumber, LeafAt}
+use Rattle.meanings.specs.Meaning.{UnknownName, RepeatedName, SingleChild, TooDeep, Missing, FineSupport, Means}
+use Rattle.meanings.specs.Meaning.Means.{stray, long-name, long-number, unknown-name, repeated-name, single-child, too-deep, missing, ends-first, fine-support}
 use Rattle.meanings.proofs.Alike.{stops-alike, other-alike}
 use Rattle.meanings.proofs.States.{State, onward, from, state, from-append, Open, marked, closing, node-fresh, name-open, number-valued, node-leads, text-ended, over-blanks}
 use Rattle.meanings.proofs.States.State.{fresh, closed, valued, in-name, in-number, in-quotes, at-quote, spaced, ended as over, halted}
 use Rattle.meanings.proofs.States.Open.{open-fresh, open-closed}
 use Rattle.meanings.proofs.MeaningCounts.{differ}
-use Rattle.meanings.proofs.MeaningContexts.{ends-apart, name-node, opening-node}
+use Rattle.meanings.proofs.KeptRules.{number-splits, number-size}
+use Rattle.meanings.proofs.NumberSpans.{fine-decimal, fine-length}
+use Rattle.meanings.proofs.MeaningContexts.{ends-apart, lifted-free, name-node, support-number, opening-node}
 use Rattle.meanings.proofs.Begun.{isNumeral, number-numerals, tokens, label-within, number-within, LabelPart, ended-part, letters-part, NumberPart, number-part}
 use Rattle.meanings.proofs.Begun.NumberPart.{whole-part, point-part}
 
@@ -56,13 +62,14 @@ module _ (s : List ℕ) where
   -- a label that has begun
   label-could : (c m : ℕ) → NameMayStand (take c s) → LabelPart (drop c s) m → CouldBegin s (c + m)
   label-could c m may part =
-      could-with c m (part .more) (may .end) (stops-alike (byteBefore s (c + m)) (part .more ++ may .end) (drop (c + m) s) (ends-apart (part .more) (may .end) (part .apart) (may .apart)))
+      could-with c m (part .more) (may .end)
+      (stops-alike (byteBefore s (c + m)) (part .more ++ may .end) (drop (c + m) s) (ends-apart (part .more) (may .end) (part .apart) (may .apart)))
       (may .text (take m (drop c s) ++ part .more) (part .name, _, none, part .spelled))
 
   -- a name may stand where a node may
   node-name : {u : List ℕ} → NodeMayStand u → NameMayStand u
   node-name may =
-      record { end = may .end; apart = may .apart; text = λ v p. may .text v (rw append-nil at (name-node 2 v p)) }
+      record { end = may .end; apart = may .apart; text = λ v p. may .text v (name-node lifted v [] (lifted-free (length v) 2) p) }
 
   -- ---- the token that stands open, or ends, at a place
 
@@ -115,7 +122,9 @@ module _ (s : List ℕ) where
       rw (part-take c m j (part .more) (part .fits) l) at
       (label-within o (part .spelled) j some (omega (arith, part-length c m (part .more) (part .fits)))))
 
-  number-token : (c m : ℕ) (more : List ℕ) {w : List ℕ} → state (take c s) ≡ valued → m ≤ length (drop c s) → Number w (take m (drop c s) ++ more) [] → Token c (c + m)
+  number-token :
+      (c m : ℕ) (more : List ℕ) {w : List ℕ} → state (take c s) ≡ valued → m ≤ length (drop c s) → Number w (take m (drop c s) ++ more) []
+      → Token c (c + m)
   number-token c m more at fits d =
       token-at c m (ap tokens at) (λ j some l. rw at (rw (part-take c m j more fits l) at (number-within d j some)))
 
@@ -151,29 +160,33 @@ marks spaced = 0
 marks over = 9
 marks halted = 0
 
--- by whether a token goes on there, and then whether it is a number, too long, and known; else by the mark that stands before
-abbrev numberBy : Bool → ℕ → Bool → Bool → Bool → ℕ
-numberBy false mark value long known = mark
-numberBy true mark true long known = 4
-numberBy true mark false true known = 4
-numberBy true mark false false true = 6
-numberBy true mark false false false = 5
+-- by whether a token goes on there, and then whether it is a number, and too long, or a label too long, or a known one; else by the mark that stands before
+abbrev numberBy : Bool → ℕ → Bool → Bool → Bool → Bool → ℕ
+numberBy false mark value many long known = mark
+numberBy true mark true true long known = 4
+numberBy true mark true false long known = 18
+numberBy true mark false many true known = 4
+numberBy true mark false many false true = 6
+numberBy true mark false many false false = 5
 
-abbrev placeBy : Bool → ℕ → Bool → Bool → ℕ → ℕ → ℕ
-placeBy false e value long c raw = e - 1
-placeBy true e true long c raw = c + 12
-placeBy true e false true c raw = c + raw
-placeBy true e false false c raw = c
+abbrev placeBy : Bool → ℕ → Bool → Bool → Bool → ℕ → ℕ → ℕ
+placeBy false e value many long c raw = e - 1
+placeBy true e true true long c raw = c + 12
+placeBy true e true false long c raw = c
+placeBy true e false many true c raw = c + raw
+placeBy true e false many false c raw = c
 
-module _ (names : List (List ℕ)) (s : List ℕ) where
+module _ (given : Bool) (names : List (List ℕ)) (s : List ℕ) where
   -- the number at the border e, of a token that begins at c
   numberAt : ℕ → ℕ → ℕ
   numberAt e c =
-      numberBy (tokens (state (take e s))) (marks (state (take e s))) (values (state (take c s))) (ltb labelBytes (length (letters (drop c s))))
-      (ltb (position (letters (drop c s)) names) (length names))
+      numberBy (tokens (state (take e s))) (marks (state (take e s))) (values (state (take c s))) (ltb numberBytes (e - c))
+      (ltb labelBytes (length (letters (drop c s)))) (ltb (position (letters (drop c s)) names) (length names))
 
   placeAt : ℕ → ℕ → ℕ
-  placeAt e c = placeBy (tokens (state (take e s))) e (values (state (take c s))) (ltb labelBytes (length (letters (drop c s)))) c (rawTo labelBytes (drop c s))
+  placeAt e c =
+      placeBy (tokens (state (take e s))) e (values (state (take c s))) (ltb numberBytes (e - c)) (ltb labelBytes (length (letters (drop c s)))) c
+      (rawTo labelBytes (drop c s))
 
   -- a refusal that is decided by the bytes before e
   data Verdict (e : ℕ) : ℕ → ℕ → Type 0 where
@@ -185,8 +198,8 @@ module _ (names : List (List ℕ)) (s : List ℕ) where
 
   -- what is told of a token depends on where it begins, and that is one place
   one-told :
-      (e c c′ : ℕ) (t : Bool) → tokens (state (take e s)) ≡ t → (tokens (state (take e s)) ≡ true → Token s c e) → (tokens (state (take e s)) ≡ true → Token s c′ e)
-      → (numberAt e c ≡ numberAt e c′) × (placeAt e c ≡ placeAt e c′)
+      (e c c′ : ℕ) (t : Bool) → tokens (state (take e s)) ≡ t → (tokens (state (take e s)) ≡ true → Token s c e)
+      → (tokens (state (take e s)) ≡ true → Token s c′ e) → (numberAt e c ≡ numberAt e c′) × (placeAt e c ≡ placeAt e c′)
   unfolding numberAt placeAt
   one-told e c c′ true is a b = let h = one-token s (a is) (b is) in rw h (refl, refl)
   one-told e c c′ false is a b = rw is (refl, refl)
@@ -210,14 +223,16 @@ module _ (names : List (List ℕ)) (s : List ℕ) where
   label-verdict :
       (c m : ℕ) {n d : ℕ} (long known : Bool) → NameMayStand (take c s) → LabelPart (drop c s) m
       → ltb labelBytes (length (letters (drop c s))) ≡ long → ltb (position (letters (drop c s)) names) (length names) ≡ known
-      → numberBy true (marks (state (take (c + m) s))) false long known ≡ n → placeBy true (c + m) false long c (rawTo labelBytes (drop c s)) ≡ d → Verdict (c + m) n d
+      → ((many : Bool) → numberBy true (marks (state (take (c + m) s))) false many long known ≡ n)
+      → ((many : Bool) → placeBy true (c + m) false many long c (rawTo labelBytes (drop c s)) ≡ d) → Verdict (c + m) n d
   unfolding numberAt placeAt
   label-verdict c m {n} {d} long known may part l k is at =
       let o = name-open may in
       let t = label-token s c m o part in
       let go : tokens (state (take (c + m) s)) ≡ true = t .goes-on (c + m) (omega (arith, part .some)) (omega arith) in
       let v = open-no-value o in
-      told-by {n = n} {d = d} c (label-could s c m may part) (omega (arith, part .fits, part .some, length-drop c s)) (λ h. t) (rw (go, v, l, k) is) (rw (go, v, l) at)
+      told-by {n = n} {d = d} c (label-could s c m may part) (omega (arith, part .fits, part .some, length-drop c s)) (λ h. t)
+      (rw (go, v, l, k) (is (ltb numberBytes (c + m - c)))) (rw (go, v, l) (at (ltb numberBytes (c + m - c))))
 
   long-name-verdict : {d : ℕ} → LongName s d → Verdict (border 4 s d) 4 d
   unfolding border
@@ -225,37 +240,37 @@ module _ (names : List (List ℕ)) (s : List ℕ) where
       let c = r .c in
       let x = drop c s in
       let raw = rawTo labelBytes x in
-      let e : borderBy false (nextIs 39 (drop d s)) d s ≡ c + rawTo 16 x =
-      ap (λ (k : ℕ). borderBy false (nextIs 39 (drop k s)) k s) (r .sixteenth)
-      ∙ (ap (λ (l : List ℕ). borderBy false (nextIs 39 l) (c + raw) s) (sym (drop-drop raw c s))
+      let e : borderBy false false (nextIs 39 (drop d s)) d s ≡ c + rawTo 16 x =
+      ap (λ (k : ℕ). borderBy false false (nextIs 39 (drop k s)) k s) (r .sixteenth)
+      ∙ (ap (λ (l : List ℕ). borderBy false false (nextIs 39 l) (c + raw) s) (sym (drop-drop raw c s))
       ∙ (shifted (nextIs 39 (drop raw x)) c raw ∙ ap (λ (k : ℕ). c + k) (sym (raw-next x labelBytes (r .long)))))
       in
       subst (λ (k : ℕ). Verdict k 4 d) (sym e)
       (label-verdict c (rawTo 16 x) true (ltb (position (letters x) names) (length names)) (r .allowed) (letters-part x 16 (omega arith) (r .long))
-      (lt-ltb labelBytes (length (letters x)) (r .long)) refl refl (sym (r .sixteenth)))
+      (lt-ltb labelBytes (length (letters x)) (r .long)) refl (λ many. refl) (λ many. sym (r .sixteenth)))
     where
-      shifted : (t : Bool) (c k : ℕ) → borderBy false t (c + k) s ≡ c + letterEnd t k
+      shifted : (t : Bool) (c k : ℕ) → borderBy false false t (c + k) s ≡ c + letterEnd t k
       shifted true c k = omega arith
       shifted false c k = omega arith
 
   -- a leaf's label, which has ended
   leaf-verdict : (known : Bool) {n d : ℕ} (l : LeafAt s d) → ltb (position (letters (drop d s)) names) (length names) ≡ known
-      → numberBy true (marks (state (take (d + l .bytes) s))) false false known ≡ n → Verdict (d + bytesOf (told (drop d s))) n d
+      → ((many : Bool) → numberBy true (marks (state (take (d + l .bytes) s))) false many false known ≡ n) → Verdict (d + bytesOf (told (drop d s))) n d
   leaf-verdict known {n} {d} l k is =
       let x = drop d s in
       let short = told-sound x (l .bytes) (l .begins) (l .ends) .short in
       let e : d + bytesOf (told x) ≡ d + l .bytes = ap (λ (t : Told). d + bytesOf t) (l .ends) in
       subst (λ (k : ℕ). Verdict k n d) (sym e)
       (label-verdict d (l .bytes) false known (node-name s (l .allowed)) (ended-part x (l .bytes) (l .begins) (l .ends))
-      (le-ltb labelBytes (length (letters x)) short) k is refl)
+      (le-ltb labelBytes (length (letters x)) short) k is (λ many. refl))
 
   unknown-verdict : {d : ℕ} → UnknownName names s d → Verdict (border 5 s d) 5 d
   unfolding border
-  unknown-verdict {d} r = leaf-verdict false (r .leaf) (le-ltb (position (letters (drop d s)) names) (length names) (omega (arith, r .unknown))) refl
+  unknown-verdict {d} r = leaf-verdict false (r .leaf) (le-ltb (position (letters (drop d s)) names) (length names) (omega (arith, r .unknown))) (λ many. refl)
 
   repeated-verdict : {d : ℕ} → RepeatedName names s d → Verdict (border 6 s d) 6 d
   unfolding border
-  repeated-verdict {d} r = leaf-verdict true (r .leaf) (lt-ltb (position (letters (drop d s)) names) (length names) (r .known)) refl
+  repeated-verdict {d} r = leaf-verdict true (r .leaf) (lt-ltb (position (letters (drop d s)) names) (length names) (r .known)) (λ many. refl)
 
   -- thirteen bytes of a number, which begins at c
   module _ {d : ℕ} (r : LongNumber s d) where
@@ -313,8 +328,46 @@ module _ (names : List (List ℕ)) (s : List ℕ) where
         let at = number-valued (r .allowed) in
         let t = number-token s (r .c) 13 (r .more) at thirteen (r .all-number) in
         let go : tokens (state (take (r .c + 13) s)) ≡ true = t .goes-on (r .c + 13) (omega arith) (omega arith) in
+        let many : ltb numberBytes (r .c + 13 - r .c) ≡ true = lt-ltb numberBytes (r .c + 13 - r .c) (omega arith) in
         subst (λ (k : ℕ). Verdict k 4 d) (sym number-border)
-        (told-by {n = 4} {d = d} (r .c) number-could (omega (arith, thirteen, length-drop (r .c) s)) (λ h. t) (rw (go, at) refl) (rw (go, at) (sym (r .thirteenth))))
+        (told-by {n = 4} {d = d} (r .c) number-could (omega (arith, thirteen, length-drop (r .c) s)) (λ h. t) (rw (go, at, many) refl)
+        (rw (go, at, many) (sym (r .thirteenth))))
+
+  -- a support, whose number has ended
+  module _ {d : ℕ} (r : FineSupport s d) where
+    abbrev size : ℕ
+    size = length (r .bytes)
+
+    may : NumberMayStand (take d s)
+    may = support-number (r .allowed)
+
+    support-border : border 18 s d ≡ d + size
+    support-border = border-eighteen s d ∙ ap (λ (k : ℕ). d + k) (fine-length (r .number) (r .ends) (r .fine))
+
+    fits : size ≤ length (drop d s)
+    fits = omega (arith, number-size (r .number))
+
+    some : 1 ≤ size
+    some = omega (arith, decimal-length (fine-decimal (r .number) (r .fine)), fine-length (r .number) (r .ends) (r .fine))
+
+    whole-number : Number (r .bytes) (take size (drop d s) ++ []) []
+    whole-number =
+        let b = r .bytes in
+        let split : drop d s ≡ b ++ r .rest = number-splits (r .number) in
+        let front : take (length b) (drop d s) ≡ b = ap (take (length b)) split ∙ take-append-seam b (r .rest) in
+        rw front (front-elsewhere (Number b) b (r .rest) [] (number-front (subst (λ (l : List ℕ). Number b l (r .rest)) split (r .number))))
+
+    fine-verdict : Verdict (border 18 s d) 18 d
+    unfolding numberAt placeAt
+    fine-verdict =
+        let at = number-valued may in
+        let t = number-token s d size [] at fits whole-number in
+        let go : tokens (state (take (d + size) s)) ≡ true = t .goes-on (d + size) (omega (arith, some)) (omega arith) in
+        let few : ltb numberBytes (d + size - d) ≡ false = le-ltb numberBytes (d + size - d) (omega (arith, r .short)) in
+        let text = may .text (take size (drop d s) ++ []) (_, _, none, whole-number) in
+        let could = could-with s d size [] (may .end) (stops-alike _ (may .end) _ (may .apart)) text in
+        subst (λ (k : ℕ). Verdict k 18 d) (sym support-border)
+        (told-by {n = 18} {d = d} d could (omega (arith, fits, some, length-drop d s)) (λ h. t) (rw (go, at, few) refl) (rw (go, at, few) refl))
 
   -- `)`, `(` or `;`
   mark-verdict : {n d : ℕ} (x : State) → d < length s → CouldBegin s (suc d) → state (take (suc d) s) ≡ x → tokens x ≡ false → marks x ≡ n → Verdict (suc d) n d
@@ -353,15 +406,15 @@ module _ (names : List (List ℕ)) (s : List ℕ) where
       let could = could-with s d 1 y (may .end) (other-alike _ _ _ (rw before refl) (rw before refl)) (rw byte (may .text (40 ∷ y) opening-node)) in
       mark-verdict fresh (r .opening .0) (rw add-one at could) (state-byte 40 (r .opening) (node-fresh may)) refl refl
 
-  missing-verdict : {needed d : ℕ} → Missing names needed s d → Verdict (border 9 s d) 9 d
+  missing-verdict : {needed d : ℕ} → Missing given names needed s d → Verdict (border 9 s d) 9 d
   unfolding border nextLabel
   missing-verdict {d = d} r =
-      let t = loosen (openMost, r .tree, lift-text names (r .drawn)) in
+      let t = loosen (openMost, r .tree, lift-text given names (r .drawn)) in
       let could : CouldBegin s (suc d) = record { more = []; alike = stops-alike _ [] _ refl; text = rw append-nil t } in
       mark-verdict over (r .ends .0) could (text-ended (r .drawn)) refl refl
 
   -- where a number has its meaning
-  verdict : {needed n d : ℕ} → Means names needed s d n → Verdict (border n s d) n d
+  verdict : {needed n d : ℕ} → Means given names needed s d n → Verdict (border n s d) n d
   unfolding border
   verdict (stray r) = no-text refl (r .inside) (r .not-allowed)
   verdict (long-name r) = long-name-verdict r
@@ -372,21 +425,23 @@ module _ (names : List (List ℕ)) (s : List ℕ) where
   verdict (too-deep r) = deep-verdict r
   verdict (missing r) = missing-verdict r
   verdict (ends-first r) = beyond refl (r .end)
+  verdict (fine-support is r) = fine-verdict r
 
--- from 3 to 9 the bytes that decide are bytes of the text
-pub border-within : {names : List (List ℕ)} {needed : ℕ} {s : List ℕ} {n d : ℕ} → Means names needed s d n → n ≤ 9 → border n s d ≤ length s
-border-within {names} {s = s} m l = by (verdict names s m) l
+-- but for 10, the bytes that decide are bytes of the text
+pub border-within :
+    (given : Bool) {names : List (List ℕ)} {needed : ℕ} {s : List ℕ} {n d : ℕ} → Means given names needed s d n → (n ≡ 10 → ⊥) → border n s d ≤ length s
+border-within given {names} {s = s} m other = by (verdict given names s m) other
   where
-    by : {e n d : ℕ} → Verdict names s e n d → n ≤ 9 → e ≤ length s
+    by : {e n d : ℕ} → Verdict given names s e n d → (n ≡ 10 → ⊥) → e ≤ length s
     by (no-text a l f) h = omega arith
     by (told-by c could l t n d) h = l
-    by (beyond a b) h = absurd (omega arith)
+    by (beyond a b) h = absurd (h refl)
 
 -- ---- the first fault met
 
 -- the border behind which something is at fault is one
-one-border : {names : List (List ℕ)} {s : List ℕ} {e e′ : ℕ} → FirstMet names s e → FirstMet names s e′ → e ≡ e′
-one-border {e = e} {e′ = e′} a b = go (decLt e e′) (decLt e′ e)
+one-border : (given : Bool) {names : List (List ℕ)} {s : List ℕ} {e e′ : ℕ} → FirstMet given names s e → FirstMet given names s e′ → e ≡ e′
+one-border given {e = e} {e′ = e′} a b = go (decLt e e′) (decLt e′ e)
   where
     go : Dec (e < e′) → Dec (e′ < e) → e ≡ e′
     go (yes l) h = absurd (a .lost (b .kept e l))
@@ -395,20 +450,21 @@ one-border {e = e} {e′ = e′} a b = go (decLt e e′) (decLt e′ e)
 
 -- behind the end of a text only 9 has a meaning
 pub ended-nine :
-    {names : List (List ℕ)} {needed : ℕ} {s : List ℕ} {n d : ℕ}
-    → Means names needed s d n → CouldBegin s (border n s d) → border n s d ≤ length s → state (take (border n s d) s) ≡ over → n ≡ 9
+    (given : Bool) {names : List (List ℕ)} {needed : ℕ} {s : List ℕ} {n d : ℕ}
+    → Means given names needed s d n → CouldBegin s (border n s d) → border n s d ≤ length s → state (take (border n s d) s) ≡ over → n ≡ 9
 unfolding numberAt
-ended-nine {names} {s = s} m could l ends = by (verdict names s m) could l ends
+ended-nine given {names} {s = s} m could l ends = by (verdict given names s m) could l ends
   where
-    by : {e n d : ℕ} → Verdict names s e n d → CouldBegin s e → e ≤ length s → state (take e s) ≡ over → n ≡ 9
+    by : {e n d : ℕ} → Verdict given names s e n d → CouldBegin s e → e ≤ length s → state (take e s) ≡ over → n ≡ 9
     by (no-text a l f) could within ends = absurd (f could)
     by (told-by c could l t is at) could′ within ends = sym is ∙ rw ends refl
     by (beyond a b) could within ends = absurd (omega arith)
 
 -- for one text at most one number has its meaning, and at one place
 pub one-answer :
-    {names : List (List ℕ)} {needed : ℕ} {s : List ℕ} {n n′ d d′ : ℕ}
-    → Means names needed s d n → FirstMet names s (border n s d) → Means names needed s d′ n′ → FirstMet names s (border n′ s d′) → (n ≡ n′) × (d ≡ d′)
-one-answer {names} {s = s} {n′ = n′} {d′ = d′} m f m′ f′ =
-    let e = one-border f f′ in
-    one-verdict names s (verdict names s m) (subst (λ (k : ℕ). Verdict names s k n′ d′) (sym e) (verdict names s m′))
+    (given : Bool) {names : List (List ℕ)} {needed : ℕ} {s : List ℕ} {n n′ d d′ : ℕ}
+    → Means given names needed s d n → FirstMet given names s (border n s d) → Means given names needed s d′ n′ → FirstMet given names s (border n′ s d′)
+    → (n ≡ n′) × (d ≡ d′)
+one-answer given {names} {s = s} {n′ = n′} {d′ = d′} m f m′ f′ =
+    let e = one-border given f f′ in
+    one-verdict given names s (verdict given names s m) (subst (λ (k : ℕ). Verdict given names s k n′ d′) (sym e) (verdict given names s m′))

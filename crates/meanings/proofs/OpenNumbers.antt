@@ -1,4 +1,4 @@
--- Numbers that are still open: with nothing or a digit behind them they are numbers by the rules; and where a number is refused it is open.
+-- Numbers that are still open: with nothing or a digit behind them they are numbers by the rules; where a number is refused, or read, it is open.
 use Prim.Native.Nat.{ℕ, zero, suc, _+_, _-_, _≤_, _<_}
 use native.Mathlib.Decide.{decLt}
 use native.Mathlib.Omega.{arith}
@@ -8,13 +8,14 @@ use mathlib.Core.Logic.{_⊎_, inl, inr, ⊎-elim}
 use mathlib.Core.Bool.{Bool, true, false, false≢true}
 use mathlib.Core.List.{List, [], _∷_, _++_, append-assoc}
 use lib.ListN.{length, getD, take, drop, length-drop}
-use lib.Seq.{take-suc, take-add, drop-drop}
+use lib.Seq.{take-suc, take-add, take-append-seam, drop-drop}
 use lib.Dec.{eqb, leb}
 use borrow.Author.Tests.{eqb-true, leb-true, leb-false}
-use Rattle.labels.specs.Bytes.{isDigit, run, nextIs, nextLabel}
+use Rattle.labels.specs.Bytes.{isDigit, run, nextIs}
 use Rattle.labels.specs.Spelling.{Run}
 use Rattle.labels.specs.Spelling.Run.{one}
 use Rattle.labels.proofs.Runs.{run-within, run-byte}
+use Rattle.labels.proofs.LabelFronts.{front-elsewhere}
 use Rattle.labels.proofs.OpenLabels.{run-cut}
 use Rattle.labels.proofs.FirstBytes.{next-here, next-within}
 use Rattle.roster.specs.Roster.{byteBefore}
@@ -23,20 +24,29 @@ use Rattle.tokens.specs.Answers.Answer.{parsed, refused}
 use Rattle.tokens.specs.Tokens.{numberBytes, limited, numeral, pointed, fraction, digits, number}
 use Rattle.nodes.specs.Grammar.{Number}
 use Rattle.nodes.specs.Grammar.Number.{whole, decimal}
-use Rattle.nodes.specs.Deciding.{GoesOnAlike}
 use Rattle.nodes.proofs.Answers.{parsed-refused}
 use Rattle.nodes.proofs.Rests.{tail-drop}
-use Rattle.nodes.proofs.Sound.{nextIs-cons}
-use Rattle.meanings.proofs.Alike.{stops-alike, other-alike}
+use Rattle.nodes.proofs.Sound.{nextIs-cons, number-read}
+use Rattle.nodes.proofs.Fronts.{number-front}
+use Rattle.meanings.proofs.KeptRules.{number-splits, number-size}
 
--- the first j bytes of s are an open number: with an end behind them they are one by the rules, and the end goes on with a label only where s does
+-- the first j bytes of s are an open number: with an end behind them they are one by the rules
 pub record OpenNumber (s : List ℕ) (j : ℕ) : Type 0 where
   pub within : j ≤ length s
-  pub some : 1 ≤ j
   pub word : List ℕ
   pub end : List ℕ
   pub derives : (rest : List ℕ) → Number word (take j s ++ (end ++ rest)) rest
-  pub alike : (rest : List ℕ) → nextLabel rest ≡ false → GoesOnAlike (byteBefore s j) (end ++ rest) (drop j s)
+
+-- the last of them is a point: a digit has to follow
+pub record OpenPoint (s : List ℕ) (j : ℕ) : Type 0 where
+  pub within : j ≤ length s
+  pub some : 1 ≤ j
+  pub point : byteBefore s j ≡ 46
+  pub word : List ℕ
+  pub derives : (rest : List ℕ) → Number word (take j s ++ 48 ∷ rest) rest
+
+point-open : {s : List ℕ} {j : ℕ} → OpenPoint s j → OpenNumber s j
+point-open o = record { within = o .within; word = o .word; end = 48 ∷ []; derives = o .derives }
 
 -- some bytes of a run
 run-part : (test : ℕ → Bool) (s : List ℕ) (i : ℕ) → i < run test s → (rest : List ℕ) → Run test (take (suc i) s) (take (suc i) s ++ rest) rest
@@ -53,11 +63,9 @@ open-digits s zero some l = absurd (omega arith)
 open-digits s (suc i) some l =
     record {
       within = omega (arith, run-within isDigit s);
-      some = some;
       word = take (suc i) s;
       end = [];
       derives = λ rest. whole (run-part isDigit s i (omega arith) rest);
-      alike = λ rest stops. stops-alike (byteBefore s (suc i)) rest (drop (suc i) s) stops;
     }
 
 pub point-behind : (d : ℕ) (s : List ℕ) → nextIs 46 (drop d s) ≡ true → drop d s ≡ 46 ∷ drop (d + 1) s
@@ -80,16 +88,14 @@ module _ (s : List ℕ) (d : ℕ) (all : run isDigit s ≡ suc d) (point : nextI
   point-byte : byteBefore s (suc d + 1) ≡ 46
   point-byte = rw (add-one (suc d)) (eqb-true (getD s (suc d) 0) 46 (sym (next-here 46 s (suc d) inside) ∙ point))
 
-  -- a digit has to follow the point
-  open-point : OpenNumber s (suc d + 1)
+  open-point : OpenPoint s (suc d + 1)
   open-point =
       record {
         within = omega (arith, inside);
         some = omega arith;
+        point = point-byte;
         word = take (suc d) s ++ 46 ∷ 48 ∷ [];
-        end = 48 ∷ [];
         derives = λ rest. rw (point-bytes, append-assoc (take (suc d) s) (46 ∷ []) (48 ∷ rest)) (decimal (digits-part (46 ∷ 48 ∷ rest)) (one refl));
-        alike = λ rest stops. rw point-byte (other-alike 46 (48 ∷ rest) (drop (suc d + 1) s) refl refl);
       }
 
   open-decimal : (e : ℕ) → e < run isDigit mid → OpenNumber s (suc d + 1 + suc e)
@@ -100,23 +106,20 @@ module _ (s : List ℕ) (d : ℕ) (all : run isDigit s ≡ suc d) (point : nextI
       in
       record {
         within = omega (arith, run-within isDigit mid, length-drop (suc d + 1) s);
-        some = omega arith;
         word = take (suc d) s ++ 46 ∷ v;
         end = [];
         derives = λ rest.
             rw (bytes, append-assoc (take (suc d) s) (46 ∷ v) rest) (decimal (digits-part (46 ∷ (v ++ rest))) (run-part isDigit mid e l rest));
-        alike = λ rest stops. stops-alike (byteBefore s (suc d + 1 + suc e)) rest (drop (suc d + 1 + suc e) s) stops;
       }
 
 -- ---- where a number is refused
 
 -- too long by its thirteenth byte, which is no quote, and with which it is open still; no digit stands where one has to; none stands behind the point
 pub data NumberFault (s : List ℕ) (p n q : ℕ) : Type 0 where
-  too-long :
-      OpenNumber s numberBytes → OpenNumber s (suc numberBytes) → nextIs 39 (drop numberBytes s) ≡ false → n ≡ 4 → q ≡ p + numberBytes → NumberFault s p n q
+  too-long : OpenNumber s (suc numberBytes) → nextIs 39 (drop numberBytes s) ≡ false → n ≡ 4 → q ≡ p + numberBytes → NumberFault s p n q
   none-yet : _≡_ {A = Answer (List ℕ)} (unexpected s p) (refused n q) → NumberFault s p n q
   pointed-only :
-      (j : ℕ) → OpenNumber s j → j ≤ numberBytes → _≡_ {A = Answer (List ℕ)} (unexpected (drop j s) (p + j)) (refused n q) → NumberFault s p n q
+      (j : ℕ) → OpenPoint s j → j ≤ numberBytes → _≡_ {A = Answer (List ℕ)} (unexpected (drop j s) (p + j)) (refused n q) → NumberFault s p n q
 
 -- a number refused for its length
 record TooLong (c p n q : ℕ) : Type 0 where
@@ -149,7 +152,7 @@ digit-follows s k l = next-here 39 s k (omega (arith, run-within isDigit s)) ∙
 module _ (s : List ℕ) (p : ℕ) {n q : ℕ} where
   long-digits : (d : ℕ) → run isDigit s ≡ d → TooLong d p n q → NumberFault s p n q
   long-digits d all l =
-      too-long (open-digits s numberBytes (omega arith) (omega (arith, l .long))) (open-digits s (suc numberBytes) (omega arith) (omega (arith, l .long)))
+      too-long (open-digits s (suc numberBytes) (omega arith) (omega (arith, l .long)))
       (digit-follows s numberBytes (omega (arith, l .long))) (l .number) (l .place)
 
   long-pointed :
@@ -158,25 +161,21 @@ module _ (s : List ℕ) (p : ℕ) {n q : ℕ} where
   unfolding nextIs
   long-pointed d e all point digits l = go (decLt numberBytes (suc d)) (decLt (suc d) numberBytes)
     where
-      behind : (k : ℕ) → suc d + 1 + k ≡ numberBytes → OpenNumber s numberBytes → NumberFault s p n q
-      behind k sum o =
+      behind : (k : ℕ) → suc d + 1 + k ≡ numberBytes → NumberFault s p n q
+      behind k sum =
           let there : drop k (drop (suc d + 1) s) ≡ drop numberBytes s = drop-drop k (suc d + 1) s ∙ ap (λ (n : ℕ). drop n s) sum in
           let more : suc d + 1 + suc k ≡ suc numberBytes = omega arith in
-          too-long o (rw more at (open-decimal s d all point k (omega (arith, l .long))))
+          too-long (rw more at (open-decimal s d all point k (omega (arith, l .long))))
           (rw there at (digit-follows (drop (suc d + 1) s) k (omega (arith, l .long)))) (l .number) (l .place)
-
-      before : (k : ℕ) → suc d + 1 + k ≡ numberBytes → NumberFault s p n q
-      before zero sum = let j : suc d + 1 ≡ numberBytes = omega arith in behind 0 sum (rw j at (open-point s d all point))
-      before (suc k) sum = behind (suc k) sum (rw sum at (open-decimal s d all point k (omega (arith, l .long))))
 
       go : Dec (numberBytes < suc d) → Dec (suc d < numberBytes) → NumberFault s p n q
       go (yes more) b = long-digits (suc d) all (record { long = more; number = l .number; place = l .place })
-      go (no few) (yes less) = before (numberBytes - (suc d + 1)) (omega arith)
+      go (no few) (yes less) = behind (numberBytes - (suc d + 1)) (omega arith)
       go (no few) (no less) =
           let same : suc d ≡ numberBytes = omega arith in
           let there : drop numberBytes s ≡ 46 ∷ drop (suc d + 1) s = ap (λ (n : ℕ). drop n s) (sym same) ∙ point-behind (suc d) s point in
           let more : suc d + 1 ≡ suc numberBytes = omega arith in
-          too-long (open-digits s numberBytes (omega arith) (omega arith)) (rw more at (open-point s d all point)) (rw there refl) (l .number) (l .place)
+          too-long (rw more at (point-open (open-point s d all point))) (rw there refl) (l .number) (l .place)
 
   pointed-fault :
       (d e : ℕ) → run isDigit s ≡ suc d → nextIs 46 (drop (suc d) s) ≡ true → run isDigit (drop (suc d + 1) s) ≡ e → pointed (suc d) e s p ≡ refused n q
@@ -199,3 +198,18 @@ module _ (s : List ℕ) (p : ℕ) {n q : ℕ} where
   pub number-fault : number s p ≡ refused n q → NumberFault s p n q
   unfolding number
   number-fault h = digits-fault (run isDigit s) refl h
+
+-- ---- where a number is read
+
+-- it is open up to its end
+pub number-open : (s : List ℕ) (p : ℕ) {w rest : List ℕ} {q : ℕ} → number s p ≡ parsed w rest q → OpenNumber s (length w)
+number-open s p {w} {rest} h =
+    let n = number-read s p h .derives in
+    let split : s ≡ w ++ rest = number-splits n in
+    let front : take (length w) s ≡ w = ap (take (length w)) split ∙ take-append-seam w rest in
+    record {
+      within = omega (arith, number-size n);
+      word = w;
+      end = [];
+      derives = λ behind. rw front (front-elsewhere (Number w) w rest behind (number-front (rw split at n)));
+    }

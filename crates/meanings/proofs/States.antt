@@ -22,7 +22,7 @@ use Rattle.nodes.specs.Grammar.Text.{text}
 use Rattle.meanings.specs.Meaning.{IsNode, IsName, IsNumber, MayStand, NodeMayStand, NameMayStand, NumberMayStand}
 use Rattle.nodes.proofs.Derivations.{Steps, over-node}
 use Rattle.nodes.proofs.Exact.{blank-all}
-use Rattle.meanings.proofs.MeaningContexts.{blanks-node, opening-node}
+use Rattle.meanings.proofs.MeaningContexts.{node-behind-blanks, opening-node}
 
 -- ---- the machine
 
@@ -201,13 +201,13 @@ pub number-leads : {w s rest : List ℕ} → Number w s rest → from valued s �
 number-leads (whole r) = digits-lead r
 number-leads (decimal {mid = mid} r u) = digits-lead r ∙ (from-byte in-number 46 mid refl ∙ run-stays in-number (λ b is. rw is) u)
 
-module _ {R : Rules} where
-  -- a colon and a number, from a state from which a colon leads on
-  colon-leads :
-      (x : State) {w s rest : List ℕ} → ((m : List ℕ) → Blanks s (58 ∷ m) → from x s ≡ from valued m) → ColonNumber R w s rest
-      → from x s ≡ from in-number rest
-  colon-leads x leads (colon {s₁ = m} bl gap n fits) = leads m bl ∙ (calm-blanks calm-valued gap ∙ number-leads n)
+-- a colon and a number, from a state from which a colon leads on
+colon-leads :
+    {Takes : List ℕ → List ℕ → List ℕ → Type 0} (x : State) {w s rest : List ℕ} → ((m : List ℕ) → Blanks s (58 ∷ m) → from x s ≡ from valued m)
+    → ColonNumber Takes w s rest → from x s ≡ from in-number rest
+colon-leads x leads (colon {s₁ = m} bl gap n fits) = leads m bl ∙ (calm-blanks calm-valued gap ∙ number-leads n)
 
+module _ {R : Rules} where
   numbers-lead : {x : State} {d b s rest : List ℕ} → Over x → Numbers R d b s rest → Leads x s rest
   numbers-lead {x} o nothing = record { to = x; over = o; leads = refl }
   numbers-lead {x} o (distance c) = record { to = in-number; over = over-number; leads = colon-leads x (λ m bl. over-mark 58 colons o bl) c }
@@ -289,7 +289,7 @@ may-go-on {u = u} may v p h =
 
 -- a line feed and the node `(a,a)`
 feed-node : IsNode lifted (10 ∷ 40 ∷ 97 ∷ 44 ∷ 97 ∷ 41 ∷ [])
-feed-node = blanks-node 2 _ _ (blank refl none) opening-node
+feed-node = (_, _, node-behind-blanks (blank refl none) (opening-node .2))
 
 -- a line feed and the name `a`
 feed-name : IsName (10 ∷ 97 ∷ [])

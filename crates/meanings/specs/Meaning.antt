@@ -1,4 +1,4 @@
--- What a refusal says of the text (01, "Tree text" and "Numbers returned"; #103).
+-- What a refusal says of the text (01, "Tree text" and "Numbers returned"; #103, #113). `given` says whether a threshold is.
 use Prim.Native.Nat.{ℕ, zero, suc, _+_, _-_, _≤_, _<_, max}
 use mathlib.Core.Path.{_≡_}
 use mathlib.Core.Bool.{Bool, true, false, not}
@@ -14,9 +14,11 @@ use Rattle.trees.specs.Lists.{keep, NoneTwice}
 use Rattle.trees.specs.Tree.{Tree, leaves, cluster}
 use Rattle.roster.specs.Roster.{position, byteBefore, turnedIf}
 use Rattle.tokens.specs.Tokens.{numberBytes}
+use Rattle.tokens.specs.Values.{tooFine}
+use Rattle.tokens.specs.Supports.{refusesFine}
 use Rattle.nodes.specs.Reading.{openMost}
 use Rattle.nodes.specs.Grammar.{Rules, strict, lifted, loosest, Blanks, Number, Node, Text}
-use Rattle.nodes.specs.Deciding.{border, GoesOnAlike}
+use Rattle.nodes.specs.Deciding.{nextDigit, border, GoesOnAlike}
 
 -- ---- what could stand: the grammar with limits and roster lifted, and where 7 is lifted too with single nodes in parentheses
 
@@ -54,13 +56,29 @@ NameMayStand u = MayStand lifted IsName u
 abbrev pub NumberMayStand : List ℕ → Type 0
 NumberMayStand u = MayStand lifted IsNumber u
 
--- the bytes of s before e begin some text by these rules, in which a label that has ended there, by the byte at e or by the end of s, has ended
+-- all lifted, but the numbers of the last m bytes are no distances: "the b after a node, in `:d:b` or `::b`, is its support" (#113)
+abbrev pub distancesBefore : ℕ → Rules
+distancesBefore m = record {
+  leafName = λ w i s rest. Unit {0};
+  innerName = λ w s rest. Unit {0};
+  distance = λ w s rest. m < length s;
+  support = λ w s rest. Unit {0};
+  fewest = 2;
+}
+
+-- a support may stand behind u: with any number there, and one and the same end, which does not go on with it, it makes a text in which that number is no distance
+pub record SupportMayStand (u : List ℕ) : Type 0 where
+  pub end : List ℕ
+  pub apart : nextLabel end ≡ false
+  pub text : (v : List ℕ) → IsNumber v → IsText (distancesBefore (length (v ++ end))) (u ++ v ++ end)
+
+-- the bytes of s before e begin some text by these rules, in which a label or number that has ended there, by the byte at e or by the end of s, has ended
 pub record Begins (R : Rules) (s : List ℕ) (e : ℕ) : Type 0 where
   pub more : List ℕ
   pub alike : GoesOnAlike (byteBefore s e) more (drop e s)
   pub text : IsText R (take e s ++ more)
 
--- all lifted that 4 to 9 name: "but for the fault they name"
+-- all lifted that 4 to 9 and 18 name: "but for the fault they name"
 abbrev pub CouldBegin : List ℕ → ℕ → Type 0
 CouldBegin s d = Begins loosest s d
 
@@ -70,12 +88,14 @@ CouldBegin s d = Begins loosest s d
 abbrev pub partBefore : ℕ → List ℕ → List ℕ → List ℕ
 partBefore m s rest = take (length s - max m (length rest)) s
 
--- of each label at most fifteen decoded bytes stand before the place, of each number at most twelve bytes, and every leaf's label that has ended there is on the roster
-abbrev pub keptTo : List (List ℕ) → ℕ → Rules
-keptTo names m = record {
+-- of each label at most fifteen decoded bytes stand before the place, of each number at most twelve bytes, every leaf's label that has ended there is on the roster,
+-- and no support that has ended there is refused
+abbrev pub keptTo : Bool → List (List ℕ) → ℕ → Rules
+keptTo given names m = record {
   leafName = λ w i s rest. (length (letters (partBefore m s rest)) ≤ labelBytes) × (m ≤ length rest → (position w names ≡ i) × (i < length names));
   innerName = λ w s rest. length (letters (partBefore m s rest)) ≤ labelBytes;
-  number = λ w s rest. length (partBefore m s rest) ≤ numberBytes;
+  distance = λ w s rest. length (partBefore m s rest) ≤ numberBytes;
+  support = λ w s rest. (length (partBefore m s rest) ≤ numberBytes) × (m ≤ length rest → refusesFine given w ≡ false);
   fewest = 2;
 }
 
@@ -85,20 +105,20 @@ known names t = keep (λ i. ltb i (length names)) (leaves t)
 
 -- nothing is at fault before the place d: the bytes before it begin a text of the grammar, the text not yet over, in which every label and number that has ended there keeps its limit,
 -- one still open there has at most fifteen decoded bytes (twelve for a number) before it, at most fifteen parentheses are open, every leaf's label that has ended there is on the roster,
--- and no two are the same
-pub record Kept (names : List (List ℕ)) (s : List ℕ) (d : ℕ) : Type 0 where
+-- no two are the same, and, where a threshold is given, no support that has ended there has more than three decimals
+pub record Kept (given : Bool) (names : List (List ℕ)) (s : List ℕ) (d : ℕ) : Type 0 where
   pub inside : d ≤ length s
   pub more : List ℕ
   pub unended : 1 ≤ length more
   pub alike : GoesOnAlike (byteBefore s d) more (drop d s)
   pub tree : Tree
-  pub text : Text (keptTo names (length more)) openMost (take d s ++ more) tree []
+  pub text : Text (keptTo given names (length more)) openMost (take d s ++ more) tree []
   pub once : NoneTwice (known names tree)
 
 -- the fault is met at the border e: nothing is at fault before any place up to it, and something is before e
-pub record FirstMet (names : List (List ℕ)) (s : List ℕ) (e : ℕ) : Type 0 where
-  pub kept : (x : ℕ) → x < e → Kept names s x
-  pub lost : Kept names s e → ⊥
+pub record FirstMet (given : Bool) (names : List (List ℕ)) (s : List ℕ) (e : ℕ) : Type 0 where
+  pub kept : (x : ℕ) → x < e → Kept given names s x
+  pub lost : Kept given names s e → ⊥
 
 -- ---- bytes
 
@@ -193,10 +213,10 @@ pub record TooDeep (s : List ℕ) (d : ℕ) : Type 0 where
   pub full : opens (take d s) ≡ openMost
 
 -- "9 | `;` with a species missing | the `;`": the text up to it is a tree of the grammar, limits and roster kept, each species at most once, without a needed species
-pub record Missing (names : List (List ℕ)) (needed : ℕ) (s : List ℕ) (d : ℕ) : Type 0 where
+pub record Missing (given : Bool) (names : List (List ℕ)) (needed : ℕ) (s : List ℕ) (d : ℕ) : Type 0 where
   pub ends : ByteAt s d 59
   pub tree : Tree
-  pub drawn : Text (strict names) openMost (take (suc d) s) tree []
+  pub drawn : Text (strict given names) openMost (take (suc d) s) tree []
   pub once : NoneTwice (leaves tree)
   pub species : ℕ
   pub wanted : Has needed species
@@ -206,21 +226,32 @@ pub record Missing (names : List (List ℕ)) (needed : ℕ) (s : List ℕ) (d : 
 pub record EndsFirst (s : List ℕ) (d : ℕ) : Type 0 where
   pub end : d ≡ length s
 
+-- "18 .. for a support with more than three decimals, place its first byte" (#113): a support may stand there, and the number that does, within its limit, has them
+pub record FineSupport (s : List ℕ) (d : ℕ) : Type 0 where
+  pub allowed : SupportMayStand (take d s)
+  pub bytes : List ℕ
+  pub rest : List ℕ
+  pub number : Number bytes (drop d s) rest
+  pub ends : nextDigit rest ≡ false
+  pub short : length bytes ≤ numberBytes
+  pub fine : tooFine bytes ≡ true
+
 -- what a refusal by this number at the byte d says; no other number refuses a tree text
-pub data Means (names : List (List ℕ)) (needed : ℕ) (s : List ℕ) (d : ℕ) : ℕ → Type 0 where
-  stray : Stray s d → Means names needed s d 3
-  long-name : LongName s d → Means names needed s d 4
-  long-number : LongNumber s d → Means names needed s d 4
-  unknown-name : UnknownName names s d → Means names needed s d 5
-  repeated-name : RepeatedName names s d → Means names needed s d 6
-  single-child : SingleChild s d → Means names needed s d 7
-  too-deep : TooDeep s d → Means names needed s d 8
-  missing : Missing names needed s d → Means names needed s d 9
-  ends-first : EndsFirst s d → Means names needed s d 10
+pub data Means (given : Bool) (names : List (List ℕ)) (needed : ℕ) (s : List ℕ) (d : ℕ) : ℕ → Type 0 where
+  stray : Stray s d → Means given names needed s d 3
+  long-name : LongName s d → Means given names needed s d 4
+  long-number : LongNumber s d → Means given names needed s d 4
+  unknown-name : UnknownName names s d → Means given names needed s d 5
+  repeated-name : RepeatedName names s d → Means given names needed s d 6
+  single-child : SingleChild s d → Means given names needed s d 7
+  too-deep : TooDeep s d → Means given names needed s d 8
+  missing : Missing given names needed s d → Means given names needed s d 9
+  ends-first : EndsFirst s d → Means given names needed s d 10
+  fine-support : given ≡ true → FineSupport s d → Means given names needed s d 18
 
 -- a refusal at place q of the text s, which begins at place p: the number has its meaning there, and it is the first fault met
-pub record Refusal (names : List (List ℕ)) (needed : ℕ) (s : List ℕ) (p number q : ℕ) : Type 0 where
+pub record Refusal (given : Bool) (names : List (List ℕ)) (needed : ℕ) (s : List ℕ) (p number q : ℕ) : Type 0 where
   pub byte : ℕ
   pub place : q ≡ p + byte
-  pub means : Means names needed s byte number
-  pub first : FirstMet names s (border number s byte)
+  pub means : Means given names needed s byte number
+  pub first : FirstMet given names s (border number s byte)

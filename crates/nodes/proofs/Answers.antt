@@ -14,6 +14,10 @@ refused-parsed e = let z : _≡_ {A = ℕ} 0 1 = cc in omega arith
 pub parsed-refused : {A : Type 0} {n q p : ℕ} {x : A} {s : List ℕ} → parsed x s p ≡ refused n q → ⊥
 parsed-refused e = let z : _≡_ {A = ℕ} 0 1 = cc in omega arith
 
+-- two readings are the same only if what was read is
+pub parsed-same : {A : Type 0} {x y : A} {s t : List ℕ} {p q : ℕ} → parsed x s p ≡ parsed y t q → x ≡ y
+parsed-same e = cc
+
 -- the first piece read something, and the next answered on from there
 pub record Reached {A B : Type 0} (a : Answer A) (f : A → List ℕ → ℕ → Answer B) (answer : Answer B) : Type 0 where
   pub value : A

@@ -18,6 +18,8 @@ use Rattle.trees.specs.Tree.{Behind}
 use Rattle.tokens.specs.Answers.{Answer, andThen}
 use Rattle.tokens.specs.Answers.Answer.{parsed}
 use Rattle.tokens.specs.Tokens.{numberBytes, blanks, skip, numeral, pointed, digits, number, numberBehind, secondNumber, numbersBy, numbers, name, innerName}
+use Rattle.tokens.specs.Values.{leading, decimals, tooFine}
+use Rattle.tokens.specs.Supports.{refusesFine, unlessFine, supported}
 use Rattle.nodes.specs.Grammar.{Rules, strict, Blanks, Number, ColonNumber, Numbers, Inner}
 use Rattle.nodes.specs.Grammar.Blanks.{none, blank}
 use Rattle.nodes.specs.Grammar.Number.{whole, decimal}
@@ -257,52 +259,70 @@ numberBehind-gives {s = s} {m = m} gap n stop short p =
 
 -- a number written behind w, and what stands behind it
 second-gives :
-    (names : List (List ℕ)) (w d : List ℕ) {b s rest : List ℕ} → ColonNumber (strict names) b s rest → Follows rest → (p : ℕ)
+    (given : Bool) (names : List (List ℕ)) (w d : List ℕ) {b s rest : List ℕ} → ColonNumber (strict given names .support) b s rest → Follows rest → (p : ℕ)
     → Gives (secondNumber (nextIs 58 (skip s)) w d s p) (record { name = w; distance = d; support = b }) rest
-second-gives names w d {b} {s} {rest} (colon {s₁ = s₁} bl gap n short) follows p =
+second-gives given names w d {b} {s} {rest} (colon {s₁ = s₁} bl gap n short) follows p =
     rw (skip-is 58 refl bl, skip-to 58 refl bl)
     (gives-then (numberBehind s₁ (p + blanks s + 1)) (λ b s p. parsed (record { name = w; distance = d; support = b }) s p)
-    (numberBehind-gives gap n (follows .stopped) short (p + blanks s + 1))
+    (numberBehind-gives gap n (follows .stopped) (short .0) (p + blanks s + 1))
     (λ q. gives (record { name = w; distance = d; support = b }) rest q))
 
-pub colon-stopped : {R : Rules} {w s rest : List ℕ} → ColonNumber R w s rest → Stopped s
+pub colon-stopped : {Takes : List ℕ → List ℕ → List ℕ → Type 0} {w s rest : List ℕ} → ColonNumber Takes w s rest → Stopped s
 colon-stopped (colon bl gap n short) = colon-stops bl
 
 -- the number behind a first colon is no second colon
 first-gives :
-    (names : List (List ℕ)) (w : List ℕ) {d s mid : List ℕ} (x : Behind) (rest : List ℕ)
-    → ColonNumber (strict names) d s mid → Stopped mid → ((q : ℕ) → Gives (secondNumber (nextIs 58 (skip mid)) w d mid q) x rest) → (p : ℕ)
+    (given : Bool) (names : List (List ℕ)) (w : List ℕ) {d s mid : List ℕ} (x : Behind) (rest : List ℕ)
+    → ColonNumber (strict given names .distance) d s mid → Stopped mid → ((q : ℕ) → Gives (secondNumber (nextIs 58 (skip mid)) w d mid q) x rest) → (p : ℕ)
     → Gives (numbersBy (nextIs 58 (skip s)) w s p) x rest
-first-gives names w {d} {s} {mid} x rest (colon {s₁ = s₁} {s₂ = s₂} bl gap n short) stop more p =
+first-gives given names w {d} {s} {mid} x rest (colon {s₁ = s₁} {s₂ = s₂} bl gap n short) stop more p =
     let e : skip s₁ ≡ s₂ = blanks-skip gap (label-no-blank s₂ (number-first n)) in
     rw (skip-is 58 refl bl, skip-to 58 refl bl, e, label-no-byte 58 s₂ refl (number-first n))
     (gives-then (numberBehind s₁ (p + blanks s + 1)) (λ d s p. secondNumber (nextIs 58 (skip s)) w d s p)
     (numberBehind-gives gap n stop short (p + blanks s + 1)) more)
 
 support-gives :
-    (names : List (List ℕ)) (w : List ℕ) {b s mid rest : List ℕ}
-    → Blanks s (58 ∷ mid) → ColonNumber (strict names) b mid rest → Follows rest → (p : ℕ)
+    (given : Bool) (names : List (List ℕ)) (w : List ℕ) {b s mid rest : List ℕ}
+    → Blanks s (58 ∷ mid) → ColonNumber (strict given names .support) b mid rest → Follows rest → (p : ℕ)
     → Gives (numbersBy (nextIs 58 (skip s)) w s p) (record { name = w; distance = []; support = b }) rest
-support-gives names w {b} {s} {mid} {rest} bl (colon {s₁ = s₁} bl₁ gap n short) follows p =
+support-gives given names w {b} {s} {mid} {rest} bl (colon {s₁ = s₁} bl₁ gap n short) follows p =
     let q = p + blanks s + 1 in
     rw (skip-is 58 refl bl, skip-to 58 refl bl, skip-is 58 refl bl₁, skip-to 58 refl bl₁)
     (gives-then (numberBehind s₁ (q + blanks mid + 1)) (λ b s p. parsed (record { name = w; distance = []; support = b }) s p)
-    (numberBehind-gives gap n (follows .stopped) short (q + blanks mid + 1))
+    (numberBehind-gives gap n (follows .stopped) (short .0) (q + blanks mid + 1))
     (λ r. gives (record { name = w; distance = []; support = b }) rest r))
 
 pub numbers-gives :
-    (names : List (List ℕ)) (w : List ℕ) {d b s rest : List ℕ} → Numbers (strict names) d b s rest → Follows rest → (p : ℕ)
+    (given : Bool) (names : List (List ℕ)) (w : List ℕ) {d b s rest : List ℕ} → Numbers (strict given names) d b s rest → Follows rest → (p : ℕ)
     → Gives (numbers w s p) (record { name = w; distance = d; support = b }) rest
 unfolding numbers
-numbers-gives names w {rest = rest} nothing follows p =
+numbers-gives given names w {rest = rest} nothing follows p =
     rw (follows-no-colon follows) (gives (record { name = w; distance = []; support = [] }) rest p)
-numbers-gives names w {rest = rest} (distance {d = d} c) follows p =
-    first-gives names w (record { name = w; distance = d; support = [] }) rest c (follows .stopped)
+numbers-gives given names w {rest = rest} (distance {d = d} c) follows p =
+    first-gives given names w (record { name = w; distance = d; support = [] }) rest c (follows .stopped)
     (λ q. rw (follows-no-colon follows) (gives (record { name = w; distance = d; support = [] }) rest q)) p
-numbers-gives names w {rest = rest} (both {d = d} {b = b} c e) follows p =
-    first-gives names w (record { name = w; distance = d; support = b }) rest c (colon-stopped e)
-    (λ q. second-gives names w d e follows q) p
-numbers-gives names w (support bl c) follows p = support-gives names w bl c follows p
+numbers-gives given names w {rest = rest} (both {d = d} {b = b} c e) follows p =
+    first-gives given names w (record { name = w; distance = d; support = b }) rest c (colon-stopped e)
+    (λ q. second-gives given names w d e follows q) p
+numbers-gives given names w (support bl c) follows p = support-gives given names w bl c follows p
+
+-- a support that the grammar takes is not refused
+taken-support : (given : Bool) (names : List (List ℕ)) {d b s rest : List ℕ} → Numbers (strict given names) d b s rest → refusesFine given b ≡ false
+unfolding tooFine decimals leading run
+taken-support false names n = refl
+taken-support true names nothing = refl
+taken-support true names (distance c) = refl
+taken-support true names (both c (colon bl gap n short)) = short .1
+taken-support true names (support bl (colon bl₁ gap n short)) = short .1
+
+-- so what stands behind a node is read as it is written
+pub supported-gives :
+    (given : Bool) (names : List (List ℕ)) (w : List ℕ) {d b s rest : List ℕ} → Numbers (strict given names) d b s rest → Follows rest → (p : ℕ)
+    → Gives (supported given w s p) (record { name = w; distance = d; support = b }) rest
+unfolding supported
+supported-gives given names w {d} {b} {s} {rest} n follows p =
+    gives-then (numbers w s p) (λ b s p. unlessFine (refusesFine given (b .support)) b s p) (numbers-gives given names w n follows p)
+    (λ q. rw (taken-support given names n) (gives (record { name = w; distance = d; support = b }) rest q))
 
 -- behind a name stands what stops it
 pub numbers-stopped : {R : Rules} {d b s rest : List ℕ} → Numbers R d b s rest → Follows rest → Stopped s
@@ -320,11 +340,11 @@ name-gives {w} {s} {rest} r stops short p =
     rw (e .short short, e .name, e .left) (gives w rest (p + e .width))
 
 pub innerName-gives :
-    (names : List (List ℕ)) {w s rest : List ℕ} → Inner (strict names) w s rest → Stopped rest → (p : ℕ) → Gives (innerName s p) w rest
+    (given : Bool) (names : List (List ℕ)) {w s rest : List ℕ} → Inner (strict given names) w s rest → Stopped rest → (p : ℕ) → Gives (innerName s p) w rest
 unfolding innerName
-innerName-gives names {rest = rest} nameless stop p =
+innerName-gives given names {rest = rest} nameless stop p =
     rw (stopped-skip-label stop) (gives [] rest p)
-innerName-gives names {s = s} (named {mid = mid} gap r short) stop p =
+innerName-gives given names {s = s} (named {mid = mid} gap r short) stop p =
     let e = blanks-skip gap (label-no-blank mid (spells-first r)) in
     let is : nextLabel (skip s) ≡ true = rw e (spells-first r) in
     rw (is, e) (name-gives r (stopped-label stop) short (p + blanks s))

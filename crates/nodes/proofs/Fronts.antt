@@ -1,4 +1,5 @@
 -- What a derivation uses up is a front of the text, and it is one before any other rest; and limits and roster can be lifted.
+use mathlib.Core.Bool.{Bool}
 use Prim.Native.Nat.{ℕ, suc, _≤_}
 use mathlib.Core.Path.{refl, sym, ap, _∙_}
 use mathlib.Core.List.{List, [], _∷_, _++_, append-assoc}
@@ -23,13 +24,14 @@ use Rattle.nodes.proofs.Derivations.{two-wanted, Steps, over-node, over
 pub record Placeless (R : Rules) : Type 0 where
   pub leafNames : {w : List ℕ} {i : ℕ} {s rest : List ℕ} → R .leafName w i s rest → (s′ rest′ : List ℕ) → R .leafName w i s′ rest′
   pub innerNames : {w s rest : List ℕ} → R .innerName w s rest → (s′ rest′ : List ℕ) → R .innerName w s′ rest′
-  pub numbers : {w s rest : List ℕ} → R .number w s rest → (s′ rest′ : List ℕ) → R .number w s′ rest′
+  pub distances : (w s rest s′ rest′ : List ℕ) → R .distance w s rest → R .distance w s′ rest′
+  pub supports : (w s rest s′ rest′ : List ℕ) → R .support w s rest → R .support w s′ rest′
 
-pub strict-placeless : (names : List (List ℕ)) → Placeless (strict names)
-strict-placeless names = record { leafNames = λ h s rest. h; innerNames = λ h s rest. h; numbers = λ h s rest. h }
+pub strict-placeless : (given : Bool) (names : List (List ℕ)) → Placeless (strict given names)
+strict-placeless given names = record { leafNames = λ h s rest. h; innerNames = λ h s rest. h; distances = λ w s rest s′ rest′ h. h; supports = λ w s rest s′ rest′ h. h }
 
 pub lifted-placeless : (least : ℕ) → Placeless (liftedTo least)
-lifted-placeless least = record { leafNames = λ h s rest. h; innerNames = λ h s rest. h; numbers = λ h s rest. h }
+lifted-placeless least = record { leafNames = λ h s rest. h; innerNames = λ h s rest. h; distances = λ w s rest s′ rest′ h. h; supports = λ w s rest s′ rest′ h. h }
 
 -- ---- one piece behind another
 
@@ -84,22 +86,26 @@ number-front (decimal {v = v} {w = w} r u) =
     front-as (Then Digits (Run isDigit w)) (Number (v ++ 46 ∷ w)) (λ s rest h. decimal (h .first) (h .second))
     (front-then Digits (Run isDigit w) (front-byte (Run isDigit v) 46 (run-front r)) (run-front u))
 
-module _ (R : Rules) (placeless : Placeless R) where
-  pub colon-front : {w s rest : List ℕ} → ColonNumber R w s rest → Front (ColonNumber R w) s rest
-  colon-front (colon {w = w} bl gap n short) =
-      front-as (Then (BlanksAnd 58) (Then Blanks (Number w))) (ColonNumber R w)
-      (λ s rest h. colon (h .first) (h .second .first) (h .second .second) (placeless .numbers short (h .second .mid) rest))
-      (front-then (BlanksAnd 58) (Then Blanks (Number w)) (byte-front 58 bl) (front-then Blanks (Number w) (blanks-front gap) (number-front n)))
+pub colon-front :
+    (Takes : List ℕ → List ℕ → List ℕ → Type 0) {w s rest : List ℕ}
+    → ((w s rest s′ rest′ : List ℕ) → Takes w s rest → Takes w s′ rest′) → ColonNumber Takes w s rest → Front (ColonNumber Takes w) s rest
+colon-front Takes anywhere (colon {w = w} {s₂ = s₂} {rest = rest} bl gap n short) =
+    front-as (Then (BlanksAnd 58) (Then Blanks (Number w))) (ColonNumber Takes w)
+    (λ s behind h. colon (h .first) (h .second .first) (h .second .second) (anywhere w s₂ rest (h .second .mid) behind short))
+    (front-then (BlanksAnd 58) (Then Blanks (Number w)) (byte-front 58 bl) (front-then Blanks (Number w) (blanks-front gap) (number-front n)))
 
+module _ (R : Rules) (placeless : Placeless R) where
   pub numbers-front : {d b s rest : List ℕ} → Numbers R d b s rest → Front (Numbers R d b) s rest
   numbers-front {s = s} nothing = front-none (Numbers R [] []) s (λ s. nothing)
-  numbers-front (distance {d = d} c) = front-as (ColonNumber R d) (Numbers R d []) (λ s rest c. distance c) (colon-front c)
+  numbers-front (distance {d = d} c) =
+      front-as (ColonNumber (R .distance) d) (Numbers R d []) (λ s rest c. distance c) (colon-front (R .distance) (placeless .distances) c)
   numbers-front (both {d = d} {b = b} c e) =
-      front-as (Then (ColonNumber R d) (ColonNumber R b)) (Numbers R d b) (λ s rest h. both (h .first) (h .second))
-      (front-then (ColonNumber R d) (ColonNumber R b) (colon-front c) (colon-front e))
+      front-as (Then (ColonNumber (R .distance) d) (ColonNumber (R .support) b)) (Numbers R d b) (λ s rest h. both (h .first) (h .second))
+      (front-then (ColonNumber (R .distance) d) (ColonNumber (R .support) b) (colon-front (R .distance) (placeless .distances) c)
+      (colon-front (R .support) (placeless .supports) e))
   numbers-front (support {b = b} bl c) =
-      front-as (Then (BlanksAnd 58) (ColonNumber R b)) (Numbers R [] b) (λ s rest h. support (h .first) (h .second))
-      (front-then (BlanksAnd 58) (ColonNumber R b) (byte-front 58 bl) (colon-front c))
+      front-as (Then (BlanksAnd 58) (ColonNumber (R .support) b)) (Numbers R [] b) (λ s rest h. support (h .first) (h .second))
+      (front-then (BlanksAnd 58) (ColonNumber (R .support) b) (byte-front 58 bl) (colon-front (R .support) (placeless .supports) c))
 
   pub inner-front : {w s rest : List ℕ} → Inner R w s rest → Front (Inner R w) s rest
   inner-front {s = s} nameless = front-none (Inner R []) s (λ s. nameless)
@@ -207,22 +213,38 @@ module _ (R : Rules) (placeless : Placeless R) where
 pub record Allows (R R′ : Rules) : Type 0 where
   pub leafNames : (w : List ℕ) (i : ℕ) (s rest : List ℕ) → R .leafName w i s rest → R′ .leafName w i s rest
   pub innerNames : (w s rest : List ℕ) → R .innerName w s rest → R′ .innerName w s rest
-  pub numbers : (w s rest : List ℕ) → R .number w s rest → R′ .number w s rest
+  pub distances : (w s rest : List ℕ) → R .distance w s rest → R′ .distance w s rest
+  pub supports : (w s rest : List ℕ) → R .support w s rest → R′ .support w s rest
   pub singles : R .fewest ≤ 1 → R′ .fewest ≤ 1
 
 -- where two nodes are wanted, limits and roster are lifted for any number of nodes
 pub lifted-allows : (R : Rules) (least : ℕ) → (R .fewest ≤ 1 → ⊥) → Allows R (liftedTo least)
-lifted-allows R least two = record { leafNames = λ w i s rest h. tt; innerNames = λ w s rest h. tt; numbers = λ w s rest h. tt; singles = λ enough. absurd (two enough) }
+lifted-allows R least two =
+    record {
+      leafNames = λ w i s rest h. tt;
+      innerNames = λ w s rest h. tt;
+      distances = λ w s rest h. tt;
+      supports = λ w s rest h. tt;
+      singles = λ enough. absurd (two enough);
+    }
+
+pub colon-allowed :
+    (Takes Takes′ : List ℕ → List ℕ → List ℕ → Type 0) {w s rest : List ℕ}
+    → ((w s rest : List ℕ) → Takes w s rest → Takes′ w s rest) → ColonNumber Takes w s rest → ColonNumber Takes′ w s rest
+colon-allowed Takes Takes′ allows (colon {w = w} {s₂ = s₂} {rest = rest} bl gap n short) = colon bl gap n (allows w s₂ rest short)
 
 module _ (R R′ : Rules) (allows : Allows R R′) where
-  pub colon-allowed : {w s rest : List ℕ} → ColonNumber R w s rest → ColonNumber R′ w s rest
-  colon-allowed (colon {w = w} {s₂ = s₂} {rest = rest} bl gap n short) = colon bl gap n (allows .numbers w s₂ rest short)
+  distance-allowed : {w s rest : List ℕ} → ColonNumber (R .distance) w s rest → ColonNumber (R′ .distance) w s rest
+  distance-allowed c = colon-allowed (R .distance) (R′ .distance) (allows .distances) c
+
+  support-allowed : {w s rest : List ℕ} → ColonNumber (R .support) w s rest → ColonNumber (R′ .support) w s rest
+  support-allowed c = colon-allowed (R .support) (R′ .support) (allows .supports) c
 
   pub numbers-allowed : {d b s rest : List ℕ} → Numbers R d b s rest → Numbers R′ d b s rest
   numbers-allowed nothing = nothing
-  numbers-allowed (distance c) = distance (colon-allowed c)
-  numbers-allowed (both c e) = both (colon-allowed c) (colon-allowed e)
-  numbers-allowed (support bl c) = support bl (colon-allowed c)
+  numbers-allowed (distance c) = distance (distance-allowed c)
+  numbers-allowed (both c e) = both (distance-allowed c) (support-allowed e)
+  numbers-allowed (support bl c) = support bl (support-allowed c)
 
   pub inner-allowed : {w s rest : List ℕ} → Inner R w s rest → Inner R′ w s rest
   inner-allowed nameless = nameless
@@ -250,14 +272,14 @@ module _ (R R′ : Rules) (allows : Allows R R′) where
   text-allowed (text only ends) = text (node-allowed only) ends
 
 -- with limits and roster lifted, what was a tree is one
-pub strict-lifted : (names : List (List ℕ)) → Allows (strict names) lifted
-strict-lifted names = lifted-allows (strict names) 2 two-wanted
+pub strict-lifted : (given : Bool) (names : List (List ℕ)) → Allows (strict given names) lifted
+strict-lifted given names = lifted-allows (strict given names) 2 two-wanted
 
-pub lift-node : (names : List (List ℕ)) {k : ℕ} {s rest : List ℕ} {t : Tree} → Node (strict names) k s t rest → Node lifted k s t rest
-lift-node names d = node-allowed (strict names) lifted (strict-lifted names) d
+pub lift-node : (given : Bool) (names : List (List ℕ)) {k : ℕ} {s rest : List ℕ} {t : Tree} → Node (strict given names) k s t rest → Node lifted k s t rest
+lift-node given names d = node-allowed (strict given names) lifted (strict-lifted given names) d
 
-pub lift-text : (names : List (List ℕ)) {k : ℕ} {s rest : List ℕ} {t : Tree} → Text (strict names) k s t rest → Text lifted k s t rest
-lift-text names d = text-allowed (strict names) lifted (strict-lifted names) d
+pub lift-text : (given : Bool) (names : List (List ℕ)) {k : ℕ} {s rest : List ℕ} {t : Tree} → Text (strict given names) k s t rest → Text lifted k s t rest
+lift-text given names d = text-allowed (strict given names) lifted (strict-lifted given names) d
 
 -- and it stays one where a parenthesis may have fewer nodes
 module _ (least : ℕ) where
@@ -269,9 +291,6 @@ module _ (least : ℕ) where
 
   pub loosen-inner : {w s rest : List ℕ} → Inner lifted w s rest → Inner (liftedTo least) w s rest
   loosen-inner d = inner-allowed lifted (liftedTo least) (lifted-allows lifted least two-wanted) d
-
-  pub loosen-colon : {w s rest : List ℕ} → ColonNumber lifted w s rest → ColonNumber (liftedTo least) w s rest
-  loosen-colon d = colon-allowed lifted (liftedTo least) (lifted-allows lifted least two-wanted) d
 
   pub loosen-text : {k : ℕ} {s rest : List ℕ} {t : Tree} → Text lifted k s t rest → Text (liftedTo least) k s t rest
   loosen-text d = text-allowed lifted (liftedTo least) (lifted-allows lifted least two-wanted) d

@@ -32,41 +32,41 @@ pub tail-shorter : (b : ℕ) (s : List ℕ) → nextIs b s ≡ true → length (
 tail-shorter b s is = advances-shorter (nextIs-tail b s 0 is)
 
 afterFirst-same :
-    (n : ℕ) (t u : Bool) (others again : Reader Forest) (seen : ℕ) (c : Tree) (s : List ℕ) (p : ℕ)
-    → AgreeBelow n others again → length s ≤ n → nextIs 44 s ≡ t → afterFirst t u others seen c s p ≡ afterFirst t u again seen c s p
-afterFirst-same n true u others again seen c s p same l is =
-    ap (λ (a : Answer Forest). andThen a (λ f s p. closing c f s p))
+    (given : Bool) (n : ℕ) (t u : Bool) (others again : Reader Forest) (seen : ℕ) (c : Tree) (s : List ℕ) (p : ℕ)
+    → AgreeBelow n others again → length s ≤ n → nextIs 44 s ≡ t → afterFirst given t u others seen c s p ≡ afterFirst given t u again seen c s p
+afterFirst-same given n true u others again seen c s p same l is =
+    ap (λ (a : Answer Forest). andThen a (λ f s p. closing given c f s p))
     (same (union seen (cluster c)) (tail s) (p + 1) (omega (arith, tail-shorter 44 s is)))
-afterFirst-same n false true others again seen c s p same l is = refl
-afterFirst-same n false false others again seen c s p same l is = refl
+afterFirst-same given n false true others again seen c s p same l is = refl
+afterFirst-same given n false false others again seen c s p same l is = refl
 
 opened-same :
-    (first first′ : ℕ → Reader Tree) (others others′ : ℕ → Reader Forest) (room seen : ℕ) (s : List ℕ) (p : ℕ)
+    (given : Bool) (first first′ : ℕ → Reader Tree) (others others′ : ℕ → Reader Forest) (room seen : ℕ) (s : List ℕ) (p : ℕ)
     → ((r : ℕ) → AllAdvance (first r)) → ((r : ℕ) → AgreeBelow (length s) (first r) (first′ r))
     → ((r : ℕ) → AgreeBelow (length s) (others r) (others′ r)) → nextIs 40 s ≡ true
-    → opened first others room seen s p ≡ opened first′ others′ room seen s p
-opened-same first first′ others others′ zero seen s p one same alike is = refl
-opened-same first first′ others others′ (suc room) seen s p one same alike is =
+    → opened given first others room seen s p ≡ opened given first′ others′ room seen s p
+opened-same given first first′ others others′ zero seen s p one same alike is = refl
+opened-same given first first′ others others′ (suc room) seen s p one same alike is =
     let l = tail-shorter 40 s is in
     let next : (ℕ → Reader Forest) → Tree → List ℕ → ℕ → Answer Tree =
-    λ o t s p. afterFirst (nextIs 44 (skip s)) (nextIs 41 (skip s)) (λ e s p. o room e s p) seen t (skip s) (p + blanks s)
+    λ o t s p. afterFirst given (nextIs 44 (skip s)) (nextIs 41 (skip s)) (λ e s p. o room e s p) seen t (skip s) (p + blanks s)
     in
     andThen-same (first room seen (tail s) (p + 1)) (next others) (next others′)
     (λ t m q h.
     let k = advances-shorter (one room seen (tail s) (p + 1) t m q h) in
-    afterFirst-same (length s) (nextIs 44 (skip m)) (nextIs 41 (skip m)) (λ e s p. others room e s p) (λ e s p. others′ room e s p) seen t (skip m)
+    afterFirst-same given (length s) (nextIs 44 (skip m)) (nextIs 41 (skip m)) (λ e s p. others room e s p) (λ e s p. others′ room e s p) seen t (skip m)
     (q + blanks m) (alike room) (omega (arith, skip-shorter m)) refl)
     ∙ ap (λ (a : Answer Tree). andThen a (next others′)) (same room seen (tail s) (p + 1) l)
 
 nodeBy-same :
-    (t u : Bool) (names : List (List ℕ)) (first first′ : ℕ → Reader Tree) (others others′ : ℕ → Reader Forest) (room seen : ℕ) (s : List ℕ) (p : ℕ)
+    (given : Bool) (t u : Bool) (names : List (List ℕ)) (first first′ : ℕ → Reader Tree) (others others′ : ℕ → Reader Forest) (room seen : ℕ) (s : List ℕ) (p : ℕ)
     → ((r : ℕ) → AllAdvance (first r)) → ((r : ℕ) → AgreeBelow (length s) (first r) (first′ r))
     → ((r : ℕ) → AgreeBelow (length s) (others r) (others′ r)) → nextIs 40 s ≡ u
-    → nodeBy t u names first others room seen s p ≡ nodeBy t u names first′ others′ room seen s p
-nodeBy-same true u names first first′ others others′ room seen s p one same alike is = refl
-nodeBy-same false true names first first′ others others′ room seen s p one same alike is =
-    opened-same first first′ others others′ room seen s p one same alike is
-nodeBy-same false false names first first′ others others′ room seen s p one same alike is = refl
+    → nodeBy given t u names first others room seen s p ≡ nodeBy given t u names first′ others′ room seen s p
+nodeBy-same given true u names first first′ others others′ room seen s p one same alike is = refl
+nodeBy-same given false true names first first′ others others′ room seen s p one same alike is =
+    opened-same given first first′ others others′ room seen s p one same alike is
+nodeBy-same given false false names first first′ others others′ room seen s p one same alike is = refl
 
 afterChild-same :
     (n : ℕ) (t u : Bool) (others again : Reader Forest) (seen : ℕ) (c : Tree) (s : List ℕ) (p : ℕ)
@@ -97,35 +97,35 @@ mutual
   unfolding readNodeBy readForestBy
 
   pub node-fuel :
-      (k k′ : ℕ) (names : List (List ℕ)) (room seen : ℕ) (s : List ℕ) (p : ℕ)
-      → 2 * length s < k → 2 * length s < k′ → readNode k names room seen s p ≡ readNode k′ names room seen s p
-  node-fuel zero k′ names room seen s p l l′ = absurd (omega arith)
-  node-fuel (suc k) zero names room seen s p l l′ = absurd (omega arith)
-  node-fuel (suc k) (suc k′) names room seen s p l l′ =
-      nodeBy-same (nextLabel (skip s)) (nextIs 40 (skip s)) names (λ r e s p. readNode k names r e s p) (λ r e s p. readNode k′ names r e s p)
-      (λ r e s p. readForest k names r e s p) (λ r e s p. readForest k′ names r e s p) room seen (skip s) (p + blanks s)
-      (λ r e s p x rest q h. readNode-advances k names r e s p x rest q h)
-      (λ r e m q d. node-fuel k k′ names r e m q (omega (arith, skip-shorter s)) (omega (arith, skip-shorter s)))
-      (λ r e m q d. forest-fuel k k′ names r e m q (omega (arith, skip-shorter s)) (omega (arith, skip-shorter s)))
+      (given : Bool) (k k′ : ℕ) (names : List (List ℕ)) (room seen : ℕ) (s : List ℕ) (p : ℕ)
+      → 2 * length s < k → 2 * length s < k′ → readNode given k names room seen s p ≡ readNode given k′ names room seen s p
+  node-fuel given zero k′ names room seen s p l l′ = absurd (omega arith)
+  node-fuel given (suc k) zero names room seen s p l l′ = absurd (omega arith)
+  node-fuel given (suc k) (suc k′) names room seen s p l l′ =
+      nodeBy-same given (nextLabel (skip s)) (nextIs 40 (skip s)) names (λ r e s p. readNode given k names r e s p) (λ r e s p. readNode given k′ names r e s p)
+      (λ r e s p. readForest given k names r e s p) (λ r e s p. readForest given k′ names r e s p) room seen (skip s) (p + blanks s)
+      (λ r e s p x rest q h. readNode-advances given k names r e s p x rest q h)
+      (λ r e m q d. node-fuel given k k′ names r e m q (omega (arith, skip-shorter s)) (omega (arith, skip-shorter s)))
+      (λ r e m q d. forest-fuel given k k′ names r e m q (omega (arith, skip-shorter s)) (omega (arith, skip-shorter s)))
       refl
 
   pub forest-fuel :
-      (k k′ : ℕ) (names : List (List ℕ)) (room seen : ℕ) (s : List ℕ) (p : ℕ)
-      → 2 * length s + 1 < k → 2 * length s + 1 < k′ → readForest k names room seen s p ≡ readForest k′ names room seen s p
-  forest-fuel zero k′ names room seen s p l l′ = absurd (omega arith)
-  forest-fuel (suc k) zero names room seen s p l l′ = absurd (omega arith)
-  forest-fuel (suc k) (suc k′) names room seen s p l l′ =
-      forest-same (λ e s p. readNode k names room e s p) (λ e s p. readNode k′ names room e s p) (λ e s p. readForest k names room e s p)
-      (λ e s p. readForest k′ names room e s p) seen s p
-      (λ e s p x rest q h. readNode-advances k names room e s p x rest q h)
-      (node-fuel k k′ names room seen s p (omega arith) (omega arith))
-      (λ e m q d. forest-fuel k k′ names room e m q (omega arith) (omega arith))
+      (given : Bool) (k k′ : ℕ) (names : List (List ℕ)) (room seen : ℕ) (s : List ℕ) (p : ℕ)
+      → 2 * length s + 1 < k → 2 * length s + 1 < k′ → readForest given k names room seen s p ≡ readForest given k′ names room seen s p
+  forest-fuel given zero k′ names room seen s p l l′ = absurd (omega arith)
+  forest-fuel given (suc k) zero names room seen s p l l′ = absurd (omega arith)
+  forest-fuel given (suc k) (suc k′) names room seen s p l l′ =
+      forest-same (λ e s p. readNode given k names room e s p) (λ e s p. readNode given k′ names room e s p) (λ e s p. readForest given k names room e s p)
+      (λ e s p. readForest given k′ names room e s p) seen s p
+      (λ e s p x rest q h. readNode-advances given k names room e s p x rest q h)
+      (node-fuel given k k′ names room seen s p (omega arith) (omega arith))
+      (λ e m q d. forest-fuel given k k′ names room e m q (omega arith) (omega arith))
 
 -- any depth above twice the text's length gives the answer of `readTree`
 pub never-out :
-    (k : ℕ) (names : List (List ℕ)) (needed : ℕ) (s : List ℕ) (p : ℕ)
-    → 2 * length s < k → readTreeTo k names needed s p ≡ readTree names needed s p
+    (given : Bool) (k : ℕ) (names : List (List ℕ)) (needed : ℕ) (s : List ℕ) (p : ℕ)
+    → 2 * length s < k → readTreeTo given k names needed s p ≡ readTree given names needed s p
 unfolding readTreeToBy readTreeBy
-never-out k names needed s p l =
+never-out given k names needed s p l =
     ap (λ (a : Answer Tree). andThen a (λ t s p. ended (nextIs 59 (skip s)) needed t (skip s) (p + blanks s)))
-    (node-fuel k (2 * length s + 1) names openMost 0 s p l (omega arith))
+    (node-fuel given k (2 * length s + 1) names openMost 0 s p l (omega arith))

@@ -19,7 +19,8 @@ use Rattle.trees.specs.Tree.Forest.{last, more}
 use Rattle.roster.specs.Roster.{position}
 use Rattle.tokens.specs.Answers.{Answer, andThen}
 use Rattle.tokens.specs.Answers.Answer.{parsed}
-use Rattle.tokens.specs.Tokens.{blanks, skip, numbers, name, innerName}
+use Rattle.tokens.specs.Tokens.{blanks, skip, name, innerName}
+use Rattle.tokens.specs.Supports.{supported}
 use Rattle.nodes.specs.Reading.{leafNew, leafKnown, leafAt, closing, afterFirst, opened, nodeBy, afterChild, readNode, readForest, closingBy, leafBy, readForestBy, readNodeBy}
 use Rattle.nodes.proofs.Answers.{refused-parsed, andThen-parsed, unexpected-parsed}
 
@@ -92,38 +93,38 @@ abbrev pub FreshForest : ℕ → ℕ → Forest → Type 0
 FreshForest n seen f = Fresh n seen (clusterOf f) (clustersOf f)
 
 leafNew-fresh :
-    (n seen : ℕ) (t : Bool) (i begun : ℕ) (s : List ℕ) (p : ℕ) {x : Tree} {rest : List ℕ} {q : ℕ}
-    → apart (single i) seen ≡ t → i < n → leafNew t i begun s p ≡ parsed x rest q → FreshTree n seen x
+    (given : Bool) (n seen : ℕ) (t : Bool) (i begun : ℕ) (s : List ℕ) (p : ℕ) {x : Tree} {rest : List ℕ} {q : ℕ}
+    → apart (single i) seen ≡ t → i < n → leafNew given t i begun s p ≡ parsed x rest q → FreshTree n seen x
 unfolding cluster clusters
-leafNew-fresh n seen false i begun s p a h e = absurd (refused-parsed e)
-leafNew-fresh n seen true i begun s p {x} {rest} {q} a h e =
-    let r = andThen-parsed (numbers [] s p) (λ b s p. parsed (leaf i b) s p) e in
+leafNew-fresh given n seen false i begun s p a h e = absurd (refused-parsed e)
+leafNew-fresh given n seen true i begun s p {x} {rest} {q} a h e =
+    let r = andThen-parsed (supported given [] s p) (λ b s p. parsed (leaf i b) s p) e in
     let is : x ≡ leaf i (r .value) = cc (r .after) in
     rw is (fresh-leaf n seen i a h)
 
 leafKnown-fresh :
-    (n seen : ℕ) (t : Bool) (i begun : ℕ) (s : List ℕ) (p : ℕ) {x : Tree} {rest : List ℕ} {q : ℕ}
-    → ltb i n ≡ t → leafKnown t i seen begun s p ≡ parsed x rest q → FreshTree n seen x
-leafKnown-fresh n seen false i begun s p k e = absurd (refused-parsed e)
-leafKnown-fresh n seen true i begun s p k e = leafNew-fresh n seen (apart (single i) seen) i begun s p refl (ltb-true i n k) e
+    (given : Bool) (n seen : ℕ) (t : Bool) (i begun : ℕ) (s : List ℕ) (p : ℕ) {x : Tree} {rest : List ℕ} {q : ℕ}
+    → ltb i n ≡ t → leafKnown given t i seen begun s p ≡ parsed x rest q → FreshTree n seen x
+leafKnown-fresh given n seen false i begun s p k e = absurd (refused-parsed e)
+leafKnown-fresh given n seen true i begun s p k e = leafNew-fresh given n seen (apart (single i) seen) i begun s p refl (ltb-true i n k) e
 
 leafAt-fresh :
-    (names : List (List ℕ)) (seen : ℕ) (s : List ℕ) (p : ℕ) {x : Tree} {rest : List ℕ} {q : ℕ}
-    → leafAt names seen s p ≡ parsed x rest q → FreshTree (length names) seen x
+    (given : Bool) (names : List (List ℕ)) (seen : ℕ) (s : List ℕ) (p : ℕ) {x : Tree} {rest : List ℕ} {q : ℕ}
+    → leafAt given names seen s p ≡ parsed x rest q → FreshTree (length names) seen x
 unfolding leafBy
-leafAt-fresh names seen s p e =
-    let r = andThen-parsed (name s p) (λ w rest q. leafKnown (ltb (position w names) (length names)) (position w names) seen p rest q) e in
+leafAt-fresh given names seen s p e =
+    let r = andThen-parsed (name s p) (λ w rest q. leafKnown given (ltb (position w names) (length names)) (position w names) seen p rest q) e in
     let i = position (r .value) names in
-    leafKnown-fresh (length names) seen (ltb i (length names)) i p (r .left) (r .place) refl (r .after)
+    leafKnown-fresh given (length names) seen (ltb i (length names)) i p (r .left) (r .place) refl (r .after)
 
 closing-node :
-    (t : Tree) (f : Forest) (s : List ℕ) (p : ℕ) {x : Tree} {rest : List ℕ} {q : ℕ}
-    → closing t f s p ≡ parsed x rest q
+    (given : Bool) (t : Tree) (f : Forest) (s : List ℕ) (p : ℕ) {x : Tree} {rest : List ℕ} {q : ℕ}
+    → closing given t f s p ≡ parsed x rest q
     → (cluster x ≡ union (cluster t) (clusterOf f)) × (clusters x ≡ clusters t ++ clustersOf f ++ (union (cluster t) (clusterOf f) ∷ []))
 unfolding closingBy cluster clusters
-closing-node t f s p {x} e =
-    let r = andThen-parsed (innerName s p) (λ w s p. andThen (numbers w s p) (λ b s p. parsed (node t f b) s p)) e in
-    let n = andThen-parsed (numbers (r .value) (r .left) (r .place)) (λ b s p. parsed (node t f b) s p) (r .after) in
+closing-node given t f s p {x} e =
+    let r = andThen-parsed (innerName s p) (λ w s p. andThen (supported given w s p) (λ b s p. parsed (node t f b) s p)) e in
+    let n = andThen-parsed (supported given (r .value) (r .left) (r .place)) (λ b s p. parsed (node t f b) s p) (r .after) in
     let is : x ≡ node t f (n .value) = cc (n .after) in
     (rw is, rw is)
 
@@ -131,40 +132,40 @@ abbrev AllFresh : {A : Type 0} → (ℕ → ℕ → A → Type 0) → ℕ → (�
 AllFresh {A} Good n read = (e : ℕ) (s : List ℕ) (p : ℕ) (x : A) (rest : List ℕ) (q : ℕ) → read e s p ≡ parsed x rest q → Good n e x
 
 afterFirst-fresh :
-    (n : ℕ) (t u : Bool) (others : ℕ → List ℕ → ℕ → Answer Forest) (seen : ℕ) (c : Tree) (s : List ℕ) (p : ℕ) {x : Tree} {rest : List ℕ} {q : ℕ}
-    → AllFresh FreshForest n others → FreshTree n seen c → afterFirst t u others seen c s p ≡ parsed x rest q → FreshTree n seen x
-afterFirst-fresh n true u others seen c s p on first e =
-    let r = andThen-parsed (others (union seen (cluster c)) (tail s) (p + 1)) (λ f s p. closing c f s p) e in
+    (given : Bool) (n : ℕ) (t u : Bool) (others : ℕ → List ℕ → ℕ → Answer Forest) (seen : ℕ) (c : Tree) (s : List ℕ) (p : ℕ) {x : Tree} {rest : List ℕ} {q : ℕ}
+    → AllFresh FreshForest n others → FreshTree n seen c → afterFirst given t u others seen c s p ≡ parsed x rest q → FreshTree n seen x
+afterFirst-fresh given n true u others seen c s p on first e =
+    let r = andThen-parsed (others (union seen (cluster c)) (tail s) (p + 1)) (λ f s p. closing given c f s p) e in
     let f = r .value in
     let more = on (union seen (cluster c)) (tail s) (p + 1) f (r .left) (r .place) (r .first) in
-    let is = closing-node c f (r .left) (r .place) (r .after) in
+    let is = closing-node given c f (r .left) (r .place) (r .after) in
     rw (is .0, is .1) (fresh-node n seen (cluster c) (clusterOf f) (clusters c) (clustersOf f) first more)
-afterFirst-fresh n false true others seen c s p on first e = absurd (refused-parsed e)
-afterFirst-fresh n false false others seen c s p on first e = absurd (unexpected-parsed s p e)
+afterFirst-fresh given n false true others seen c s p on first e = absurd (refused-parsed e)
+afterFirst-fresh given n false false others seen c s p on first e = absurd (unexpected-parsed s p e)
 
 opened-fresh :
-    (n : ℕ) (first : ℕ → ℕ → List ℕ → ℕ → Answer Tree) (others : ℕ → ℕ → List ℕ → ℕ → Answer Forest) (room seen : ℕ) (s : List ℕ) (p : ℕ)
+    (given : Bool) (n : ℕ) (first : ℕ → ℕ → List ℕ → ℕ → Answer Tree) (others : ℕ → ℕ → List ℕ → ℕ → Answer Forest) (room seen : ℕ) (s : List ℕ) (p : ℕ)
     {x : Tree} {rest : List ℕ} {q : ℕ}
     → ((r : ℕ) → AllFresh FreshTree n (first r)) → ((r : ℕ) → AllFresh FreshForest n (others r))
-    → opened first others room seen s p ≡ parsed x rest q → FreshTree n seen x
-opened-fresh n first others zero seen s p one on e = absurd (refused-parsed e)
-opened-fresh n first others (suc room) seen s p one on e =
+    → opened given first others room seen s p ≡ parsed x rest q → FreshTree n seen x
+opened-fresh given n first others zero seen s p one on e = absurd (refused-parsed e)
+opened-fresh given n first others (suc room) seen s p one on e =
     let r =
     andThen-parsed (first room seen (tail s) (p + 1))
-    (λ t s p. afterFirst (nextIs 44 (skip s)) (nextIs 41 (skip s)) (λ e s p. others room e s p) seen t (skip s) (p + blanks s)) e
+    (λ t s p. afterFirst given (nextIs 44 (skip s)) (nextIs 41 (skip s)) (λ e s p. others room e s p) seen t (skip s) (p + blanks s)) e
     in
     let m = r .left in
-    afterFirst-fresh n (nextIs 44 (skip m)) (nextIs 41 (skip m)) (λ e s p. others room e s p) seen (r .value) (skip m) (r .place + blanks m) (on room)
+    afterFirst-fresh given n (nextIs 44 (skip m)) (nextIs 41 (skip m)) (λ e s p. others room e s p) seen (r .value) (skip m) (r .place + blanks m) (on room)
     (one room seen (tail s) (p + 1) (r .value) m (r .place) (r .first)) (r .after)
 
 nodeBy-fresh :
-    (t u : Bool) (names : List (List ℕ)) (first : ℕ → ℕ → List ℕ → ℕ → Answer Tree) (others : ℕ → ℕ → List ℕ → ℕ → Answer Forest) (room seen : ℕ)
+    (given : Bool) (t u : Bool) (names : List (List ℕ)) (first : ℕ → ℕ → List ℕ → ℕ → Answer Tree) (others : ℕ → ℕ → List ℕ → ℕ → Answer Forest) (room seen : ℕ)
     (s : List ℕ) (p : ℕ) {x : Tree} {rest : List ℕ} {q : ℕ}
     → ((r : ℕ) → AllFresh FreshTree (length names) (first r)) → ((r : ℕ) → AllFresh FreshForest (length names) (others r))
-    → nodeBy t u names first others room seen s p ≡ parsed x rest q → FreshTree (length names) seen x
-nodeBy-fresh true u names first others room seen s p one on e = leafAt-fresh names seen s p e
-nodeBy-fresh false true names first others room seen s p one on e = opened-fresh (length names) first others room seen s p one on e
-nodeBy-fresh false false names first others room seen s p one on e = absurd (unexpected-parsed s p e)
+    → nodeBy given t u names first others room seen s p ≡ parsed x rest q → FreshTree (length names) seen x
+nodeBy-fresh given true u names first others room seen s p one on e = leafAt-fresh given names seen s p e
+nodeBy-fresh given false true names first others room seen s p one on e = opened-fresh given (length names) first others room seen s p one on e
+nodeBy-fresh given false false names first others room seen s p one on e = absurd (unexpected-parsed s p e)
 
 afterChild-fresh :
     (n : ℕ) (t u : Bool) (others : ℕ → List ℕ → ℕ → Answer Forest) (seen : ℕ) (c : Tree) (s : List ℕ) (p : ℕ) {x : Forest} {rest : List ℕ} {q : ℕ}
@@ -197,18 +198,18 @@ mutual
   unfolding readNodeBy readForestBy
 
   pub readNode-fresh :
-      (k : ℕ) (names : List (List ℕ)) (room seen : ℕ) (s : List ℕ) (p : ℕ) (x : Tree) (rest : List ℕ) (q : ℕ)
-      → readNode k names room seen s p ≡ parsed x rest q → FreshTree (length names) seen x
-  readNode-fresh zero names room seen s p x rest q e = absurd (refused-parsed e)
-  readNode-fresh (suc k) names room seen s p x rest q e =
-      nodeBy-fresh (nextLabel (skip s)) (nextIs 40 (skip s)) names (λ r e s p. readNode k names r e s p) (λ r e s p. readForest k names r e s p)
+      (given : Bool) (k : ℕ) (names : List (List ℕ)) (room seen : ℕ) (s : List ℕ) (p : ℕ) (x : Tree) (rest : List ℕ) (q : ℕ)
+      → readNode given k names room seen s p ≡ parsed x rest q → FreshTree (length names) seen x
+  readNode-fresh given zero names room seen s p x rest q e = absurd (refused-parsed e)
+  readNode-fresh given (suc k) names room seen s p x rest q e =
+      nodeBy-fresh given (nextLabel (skip s)) (nextIs 40 (skip s)) names (λ r e s p. readNode given k names r e s p) (λ r e s p. readForest given k names r e s p)
       room seen (skip s) (p + blanks s)
-      (λ r e s p x rest q h. readNode-fresh k names r e s p x rest q h) (λ r e s p x rest q h. readForest-fresh k names r e s p x rest q h) e
+      (λ r e s p x rest q h. readNode-fresh given k names r e s p x rest q h) (λ r e s p x rest q h. readForest-fresh given k names r e s p x rest q h) e
 
   pub readForest-fresh :
-      (k : ℕ) (names : List (List ℕ)) (room seen : ℕ) (s : List ℕ) (p : ℕ) (x : Forest) (rest : List ℕ) (q : ℕ)
-      → readForest k names room seen s p ≡ parsed x rest q → FreshForest (length names) seen x
-  readForest-fresh zero names room seen s p x rest q e = absurd (refused-parsed e)
-  readForest-fresh (suc k) names room seen s p x rest q e =
-      forest-fresh (length names) (λ e s p. readNode k names room e s p) (λ e s p. readForest k names room e s p) seen s p
-      (λ e s p x rest q h. readNode-fresh k names room e s p x rest q h) (λ e s p x rest q h. readForest-fresh k names room e s p x rest q h) e
+      (given : Bool) (k : ℕ) (names : List (List ℕ)) (room seen : ℕ) (s : List ℕ) (p : ℕ) (x : Forest) (rest : List ℕ) (q : ℕ)
+      → readForest given k names room seen s p ≡ parsed x rest q → FreshForest (length names) seen x
+  readForest-fresh given zero names room seen s p x rest q e = absurd (refused-parsed e)
+  readForest-fresh given (suc k) names room seen s p x rest q e =
+      forest-fresh (length names) (λ e s p. readNode given k names room e s p) (λ e s p. readForest given k names room e s p) seen s p
+      (λ e s p x rest q h. readNode-fresh given k names room e s p x rest q h) (λ e s p x rest q h. readForest-fresh given k names room e s p x rest q h) e

@@ -37,9 +37,9 @@ ended-judged true needed t s p =
 ended-judged false needed t s p = unexpected-judged needed s p
 
 -- reading with needed species is reading without any, and then the judgement
-pub read-then-needed : (names : List (List ℕ)) (needed : ℕ) (s : List ℕ) (p : ℕ) → readTree names needed s p ≡ thenNeeded needed (readTree names 0 s p)
+pub read-then-needed : (given : Bool) (names : List (List ℕ)) (needed : ℕ) (s : List ℕ) (p : ℕ) → readTree given names needed s p ≡ thenNeeded needed (readTree given names 0 s p)
 unfolding readTreeBy readTreeToBy
-read-then-needed names needed s p = go (readNode (2 * length s + 1) names openMost 0 s p)
+read-then-needed given names needed s p = go (readNode given (2 * length s + 1) names openMost 0 s p)
   where
     go : (a : Answer Tree)
         → andThen a (λ t s p. ended (nextIs 59 (skip s)) needed t (skip s) (p + blanks s))

@@ -18,51 +18,53 @@ use Rattle.tokens.proofs.Places.{skip-to, tail-at, stray-unexpected}
 
 -- the blanks from `at` on end at `here`
 module _ (text : List ℕ) (at here : ℕ) (skipped : here ≡ at + blanks (drop at text)) where
-  module _ (names : List (List ℕ)) (k seen : ℕ) where
+  module _ (given : Bool) (names : List (List ℕ)) (k seen : ℕ) where
     pub node-is-leaf :
-        (room : ℕ) → nextLabel (drop here text) ≡ true → readNode (suc k) names room seen (drop at text) at ≡ leafAt names seen (drop here text) here
+        (room : ℕ) → nextLabel (drop here text) ≡ true
+        → readNode given (suc k) names room seen (drop at text) at ≡ leafAt given names seen (drop here text) here
     unfolding readNodeBy
     node-is-leaf room t = rw (skip-to text at here skipped, t, ← skipped)
 
     module _ (leafless : nextLabel (drop here text) ≡ false) where
       pub node-stray :
-          (room : ℕ) → nextIs 40 (drop here text) ≡ false → refusal (strayAt (drop here text) here) ≡ readNode (suc k) names room seen (drop at text) at
+          (room : ℕ) → nextIs 40 (drop here text) ≡ false → refusal (strayAt (drop here text) here) ≡ readNode given (suc k) names room seen (drop at text) at
       unfolding readNodeBy
       node-stray room t = rw (skip-to text at here skipped, leafless, t, ← skipped) (stray-unexpected (drop here text) here)
 
       module _ (opens : nextIs 40 (drop here text) ≡ true) where
-        pub node-full : refused 8 here ≡ readNode (suc k) names 0 seen (drop at text) at
+        pub node-full : refused 8 here ≡ readNode given (suc k) names 0 seen (drop at text) at
         unfolding readNodeBy
         node-full = rw (skip-to text at here skipped, leafless, opens, ← skipped)
 
         pub node-opened :
             (room : ℕ)
-            → readNode (suc k) names (suc room) seen (drop at text) at
-            ≡ andThen (readNode k names room seen (drop (here + 1) text) (here + 1))
-            (λ t s p. afterFirst (nextIs 44 (skip s)) (nextIs 41 (skip s)) (λ e s p. readForest k names room e s p) seen t (skip s) (p + blanks s))
+            → readNode given (suc k) names (suc room) seen (drop at text) at
+            ≡ andThen (readNode given k names room seen (drop (here + 1) text) (here + 1))
+            (λ t s p. afterFirst given (nextIs 44 (skip s)) (nextIs 41 (skip s)) (λ e s p. readForest given k names room e s p) seen t (skip s) (p + blanks s))
         unfolding readNodeBy
         node-opened room = rw (skip-to text at here skipped, leafless, opens, ← skipped, tail-at text here)
 
-  module _ (others : ℕ → List ℕ → ℕ → Answer Forest) (seen : ℕ) (t : Tree) where
-    -- behind a first child
+  -- behind a first child
+  module _ (given : Bool) (others : ℕ → List ℕ → ℕ → Answer Forest) (seen : ℕ) (t : Tree) where
     pub comma-follows :
         nextIs 44 (drop here text) ≡ true
-        → afterFirst (nextIs 44 (skip (drop at text))) (nextIs 41 (skip (drop at text))) others seen t (skip (drop at text)) (at + blanks (drop at text))
-        ≡ andThen (others (union seen (cluster t)) (drop (here + 1) text) (here + 1)) (λ f s p. closing t f s p)
+        → afterFirst given (nextIs 44 (skip (drop at text))) (nextIs 41 (skip (drop at text))) others seen t (skip (drop at text)) (at + blanks (drop at text))
+        ≡ andThen (others (union seen (cluster t)) (drop (here + 1) text) (here + 1)) (λ f s p. closing given t f s p)
     comma-follows c = rw (skip-to text at here skipped, c, ← skipped, tail-at text here)
 
     pub comma-missing :
         nextIs 44 (drop here text) ≡ false
         → refusal (noCommaAt (drop here text) here)
-        ≡ afterFirst (nextIs 44 (skip (drop at text))) (nextIs 41 (skip (drop at text))) others seen t (skip (drop at text)) (at + blanks (drop at text))
+        ≡ afterFirst given (nextIs 44 (skip (drop at text))) (nextIs 41 (skip (drop at text))) others seen t (skip (drop at text)) (at + blanks (drop at text))
     unfolding noCommaAt
     comma-missing c = rw (skip-to text at here skipped, c, ← skipped) (by-byte (nextIs 41 (drop here text)))
       where
-        by-byte : (u : Bool) → refusal (noCommaBy u (drop here text) here) ≡ afterFirst false u others seen t (drop here text) here
+        by-byte : (u : Bool) → refusal (noCommaBy u (drop here text) here) ≡ afterFirst given false u others seen t (drop here text) here
         by-byte true = refl
         by-byte false = stray-unexpected (drop here text) here
 
-    -- behind a later one
+  -- behind a later one
+  module _ (others : ℕ → List ℕ → ℕ → Answer Forest) (seen : ℕ) (t : Tree) where
     pub list-goes-on :
         nextIs 44 (drop here text) ≡ true
         → afterChild (nextIs 44 (skip (drop at text))) (nextIs 41 (skip (drop at text))) others seen t (skip (drop at text)) (at + blanks (drop at text))
@@ -100,9 +102,9 @@ module _ (text : List ℕ) (at here : ℕ) (skipped : here ≡ at + blanks (drop
 
 -- a list begins with a node
 pub list-begins :
-    (k : ℕ) (names : List (List ℕ)) (room seen : ℕ) (s : List ℕ) (p : ℕ)
-    → readForest (suc k) names room seen s p
-    ≡ andThen (readNode k names room seen s p)
-    (λ t s p. afterChild (nextIs 44 (skip s)) (nextIs 41 (skip s)) (λ e s p. readForest k names room e s p) seen t (skip s) (p + blanks s))
+    (given : Bool) (k : ℕ) (names : List (List ℕ)) (room seen : ℕ) (s : List ℕ) (p : ℕ)
+    → readForest given (suc k) names room seen s p
+    ≡ andThen (readNode given k names room seen s p)
+    (λ t s p. afterChild (nextIs 44 (skip s)) (nextIs 41 (skip s)) (λ e s p. readForest given k names room e s p) seen t (skip s) (p + blanks s))
 unfolding readForestBy
-list-begins k names room seen s p = refl
+list-begins given k names room seen s p = refl

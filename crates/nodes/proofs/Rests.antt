@@ -21,6 +21,8 @@ use Rattle.tokens.specs.Answers.{Answer, andThen, unexpected}
 use Rattle.tokens.specs.Answers.Answer.{parsed}
 use Rattle.tokens.specs.Tokens.{numberBytes, blanks, skip, limited, numeral, pointed, fraction, digits, number, numberBehind}
 use Rattle.tokens.specs.Tokens.{secondNumber, firstNumber, numbersBy, numbers, nameBy, name, innerNameBy, innerName}
+use Rattle.tokens.specs.Supports.{supported}
+use Rattle.tokens.proofs.Supports.{supported-parsed}
 use Rattle.nodes.specs.Reading.{openMost, leafNew, leafKnown, leafAt, closing, afterFirst, opened, nodeBy, afterChild, readNode, readForest, complete, ended, readTreeTo, readTree, closingBy, leafBy, readForestBy, readNodeBy, readTreeBy, readTreeToBy}
 use Rattle.nodes.proofs.Answers.{refused-parsed, andThen-parsed, unexpected-parsed}
 
@@ -185,6 +187,11 @@ pub numbers-moves : (w s : List ℕ) (p : ℕ) {x : Behind} {rest : List ℕ} {q
 unfolding numbers
 numbers-moves w s p h = numbersBy-moves (nextIs 58 (skip s)) w s p refl h
 
+-- the support is judged behind them
+pub supported-moves :
+    (given : Bool) (w s : List ℕ) (p : ℕ) {x : Behind} {rest : List ℕ} {q : ℕ} → supported given w s p ≡ parsed x rest q → Moves s p rest q
+supported-moves given w s p h = numbers-moves w s p (supported-parsed given w s p h .numbers-are)
+
 -- ---- names
 
 nameBy-moves : (t : Told) (s : List ℕ) (p : ℕ) {x rest : List ℕ} {q : ℕ} → told s ≡ t → nameBy t s p ≡ parsed x rest q → Moves s p rest q
@@ -219,35 +226,35 @@ innerName-moves s p h = innerNameBy-moves (nextLabel (skip s)) s p h
 -- ---- leaves, and what closes an inner node
 
 leafNew-moves :
-    (t : Bool) (i begun : ℕ) (s : List ℕ) (p : ℕ) {x : Tree} {rest : List ℕ} {q : ℕ}
-    → leafNew t i begun s p ≡ parsed x rest q → Moves s p rest q
-leafNew-moves false i begun s p h = absurd (refused-parsed h)
-leafNew-moves true i begun s p h =
-    let r = andThen-parsed (numbers [] s p) (λ b s p. parsed (leaf i b) s p) h in
-    moves-on (numbers-moves [] s p (r .first)) (parsed-stays (r .after))
+    (given : Bool) (t : Bool) (i begun : ℕ) (s : List ℕ) (p : ℕ) {x : Tree} {rest : List ℕ} {q : ℕ}
+    → leafNew given t i begun s p ≡ parsed x rest q → Moves s p rest q
+leafNew-moves given false i begun s p h = absurd (refused-parsed h)
+leafNew-moves given true i begun s p h =
+    let r = andThen-parsed (supported given [] s p) (λ b s p. parsed (leaf i b) s p) h in
+    moves-on (supported-moves given [] s p (r .first)) (parsed-stays (r .after))
 
 leafKnown-moves :
-    (t : Bool) (i seen begun : ℕ) (s : List ℕ) (p : ℕ) {x : Tree} {rest : List ℕ} {q : ℕ}
-    → leafKnown t i seen begun s p ≡ parsed x rest q → Moves s p rest q
-leafKnown-moves false i seen begun s p h = absurd (refused-parsed h)
-leafKnown-moves true i seen begun s p h = leafNew-moves (apart (single i) seen) i begun s p h
+    (given : Bool) (t : Bool) (i seen begun : ℕ) (s : List ℕ) (p : ℕ) {x : Tree} {rest : List ℕ} {q : ℕ}
+    → leafKnown given t i seen begun s p ≡ parsed x rest q → Moves s p rest q
+leafKnown-moves given false i seen begun s p h = absurd (refused-parsed h)
+leafKnown-moves given true i seen begun s p h = leafNew-moves given (apart (single i) seen) i begun s p h
 
 pub leafAt-advances :
-    (names : List (List ℕ)) (seen : ℕ) (s : List ℕ) (p : ℕ) {x : Tree} {rest : List ℕ} {q : ℕ}
-    → nextLabel s ≡ true → leafAt names seen s p ≡ parsed x rest q → Advances s p rest q
+    (given : Bool) (names : List (List ℕ)) (seen : ℕ) (s : List ℕ) (p : ℕ) {x : Tree} {rest : List ℕ} {q : ℕ}
+    → nextLabel s ≡ true → leafAt given names seen s p ≡ parsed x rest q → Advances s p rest q
 unfolding leafBy
-leafAt-advances names seen s p is h =
-    let r = andThen-parsed (name s p) (λ w rest q. leafKnown (ltb (position w names) (length names)) (position w names) seen p rest q) h in
+leafAt-advances given names seen s p is h =
+    let r = andThen-parsed (name s p) (λ w rest q. leafKnown given (ltb (position w names) (length names)) (position w names) seen p rest q) h in
     let i = position (r .value) names in
-    advances-on (name-advances s p is (r .first)) (leafKnown-moves (ltb i (length names)) i seen p (r .left) (r .place) (r .after))
+    advances-on (name-advances s p is (r .first)) (leafKnown-moves given (ltb i (length names)) i seen p (r .left) (r .place) (r .after))
 
 pub closing-moves :
-    (t : Tree) (f : Forest) (s : List ℕ) (p : ℕ) {x : Tree} {rest : List ℕ} {q : ℕ} → closing t f s p ≡ parsed x rest q → Moves s p rest q
+    (given : Bool) (t : Tree) (f : Forest) (s : List ℕ) (p : ℕ) {x : Tree} {rest : List ℕ} {q : ℕ} → closing given t f s p ≡ parsed x rest q → Moves s p rest q
 unfolding closingBy
-closing-moves t f s p h =
-    let r = andThen-parsed (innerName s p) (λ w s p. andThen (numbers w s p) (λ b s p. parsed (node t f b) s p)) h in
-    let n = andThen-parsed (numbers (r .value) (r .left) (r .place)) (λ b s p. parsed (node t f b) s p) (r .after) in
-    moves-on (innerName-moves s p (r .first)) (moves-on (numbers-moves (r .value) (r .left) (r .place) (n .first)) (parsed-stays (n .after)))
+closing-moves given t f s p h =
+    let r = andThen-parsed (innerName s p) (λ w s p. andThen (supported given w s p) (λ b s p. parsed (node t f b) s p)) h in
+    let n = andThen-parsed (supported given (r .value) (r .left) (r .place)) (λ b s p. parsed (node t f b) s p) (r .after) in
+    moves-on (innerName-moves s p (r .first)) (moves-on (supported-moves given (r .value) (r .left) (r .place) (n .first)) (parsed-stays (n .after)))
 
 -- ---- nodes and children; what a piece of reading does from every text and place
 
@@ -258,41 +265,41 @@ abbrev pub AllAdvance : {A : Type 0} → Reader A → Type 0
 AllAdvance {A} read = (e : ℕ) (s : List ℕ) (p : ℕ) (x : A) (rest : List ℕ) (q : ℕ) → read e s p ≡ parsed x rest q → Advances s p rest q
 
 afterFirst-moves :
-    (t u : Bool) (others : Reader Forest) (seen : ℕ) (c : Tree) (s : List ℕ) (p : ℕ) {x : Tree} {rest : List ℕ} {q : ℕ}
-    → AllAdvance others → nextIs 44 s ≡ t → afterFirst t u others seen c s p ≡ parsed x rest q → Moves s p rest q
-afterFirst-moves true u others seen c s p on is h =
-    let r = andThen-parsed (others (union seen (cluster c)) (tail s) (p + 1)) (λ f s p. closing c f s p) h in
+    (given : Bool) (t u : Bool) (others : Reader Forest) (seen : ℕ) (c : Tree) (s : List ℕ) (p : ℕ) {x : Tree} {rest : List ℕ} {q : ℕ}
+    → AllAdvance others → nextIs 44 s ≡ t → afterFirst given t u others seen c s p ≡ parsed x rest q → Moves s p rest q
+afterFirst-moves given true u others seen c s p on is h =
+    let r = andThen-parsed (others (union seen (cluster c)) (tail s) (p + 1)) (λ f s p. closing given c f s p) h in
     moves-on (nextIs-tail 44 s p is .moves)
     (moves-on (on (union seen (cluster c)) (tail s) (p + 1) (r .value) (r .left) (r .place) (r .first) .moves)
-    (closing-moves c (r .value) (r .left) (r .place) (r .after)))
-afterFirst-moves false true others seen c s p on is h = absurd (refused-parsed h)
-afterFirst-moves false false others seen c s p on is h = absurd (unexpected-parsed s p h)
+    (closing-moves given c (r .value) (r .left) (r .place) (r .after)))
+afterFirst-moves given false true others seen c s p on is h = absurd (refused-parsed h)
+afterFirst-moves given false false others seen c s p on is h = absurd (unexpected-parsed s p h)
 
 opened-advances :
-    (first : ℕ → Reader Tree) (others : ℕ → Reader Forest) (room seen : ℕ) (s : List ℕ) (p : ℕ) {x : Tree} {rest : List ℕ} {q : ℕ}
+    (given : Bool) (first : ℕ → Reader Tree) (others : ℕ → Reader Forest) (room seen : ℕ) (s : List ℕ) (p : ℕ) {x : Tree} {rest : List ℕ} {q : ℕ}
     → ((r : ℕ) → AllAdvance (first r)) → ((r : ℕ) → AllAdvance (others r)) → nextIs 40 s ≡ true
-    → opened first others room seen s p ≡ parsed x rest q → Advances s p rest q
-opened-advances first others zero seen s p one on is h = absurd (refused-parsed h)
-opened-advances first others (suc room) seen s p one on is h =
+    → opened given first others room seen s p ≡ parsed x rest q → Advances s p rest q
+opened-advances given first others zero seen s p one on is h = absurd (refused-parsed h)
+opened-advances given first others (suc room) seen s p one on is h =
     let r =
     andThen-parsed (first room seen (tail s) (p + 1))
-    (λ t s p. afterFirst (nextIs 44 (skip s)) (nextIs 41 (skip s)) (λ e s p. others room e s p) seen t (skip s) (p + blanks s)) h
+    (λ t s p. afterFirst given (nextIs 44 (skip s)) (nextIs 41 (skip s)) (λ e s p. others room e s p) seen t (skip s) (p + blanks s)) h
     in
     let m = r .left in
     advances-on (nextIs-tail 40 s p is)
     (moves-on (one room seen (tail s) (p + 1) (r .value) m (r .place) (r .first) .moves)
     (moves-on (skip-moves m (r .place))
-    (afterFirst-moves (nextIs 44 (skip m)) (nextIs 41 (skip m)) (λ e s p. others room e s p) seen (r .value) (skip m) (r .place + blanks m) (on room)
+    (afterFirst-moves given (nextIs 44 (skip m)) (nextIs 41 (skip m)) (λ e s p. others room e s p) seen (r .value) (skip m) (r .place + blanks m) (on room)
     refl (r .after))))
 
 nodeBy-advances :
-    (t u : Bool) (names : List (List ℕ)) (first : ℕ → Reader Tree) (others : ℕ → Reader Forest) (room seen : ℕ) (s : List ℕ) (p : ℕ)
+    (given : Bool) (t u : Bool) (names : List (List ℕ)) (first : ℕ → Reader Tree) (others : ℕ → Reader Forest) (room seen : ℕ) (s : List ℕ) (p : ℕ)
     {x : Tree} {rest : List ℕ} {q : ℕ}
     → ((r : ℕ) → AllAdvance (first r)) → ((r : ℕ) → AllAdvance (others r)) → nextLabel s ≡ t → nextIs 40 s ≡ u
-    → nodeBy t u names first others room seen s p ≡ parsed x rest q → Advances s p rest q
-nodeBy-advances true u names first others room seen s p one on is opens h = leafAt-advances names seen s p is h
-nodeBy-advances false true names first others room seen s p one on is opens h = opened-advances first others room seen s p one on opens h
-nodeBy-advances false false names first others room seen s p one on is opens h = absurd (unexpected-parsed s p h)
+    → nodeBy given t u names first others room seen s p ≡ parsed x rest q → Advances s p rest q
+nodeBy-advances given true u names first others room seen s p one on is opens h = leafAt-advances given names seen s p is h
+nodeBy-advances given false true names first others room seen s p one on is opens h = opened-advances given first others room seen s p one on opens h
+nodeBy-advances given false false names first others room seen s p one on is opens h = absurd (unexpected-parsed s p h)
 
 afterChild-advances :
     (t u : Bool) (others : Reader Forest) (seen : ℕ) (c : Tree) (s : List ℕ) (p : ℕ) {x : Forest} {rest : List ℕ} {q : ℕ}
@@ -320,23 +327,23 @@ mutual
   unfolding readNodeBy readForestBy
 
   pub readNode-advances :
-      (k : ℕ) (names : List (List ℕ)) (room seen : ℕ) (s : List ℕ) (p : ℕ) (x : Tree) (rest : List ℕ) (q : ℕ)
-      → readNode k names room seen s p ≡ parsed x rest q → Advances s p rest q
-  readNode-advances zero names room seen s p x rest q h = absurd (refused-parsed h)
-  readNode-advances (suc k) names room seen s p x rest q h =
+      (given : Bool) (k : ℕ) (names : List (List ℕ)) (room seen : ℕ) (s : List ℕ) (p : ℕ) (x : Tree) (rest : List ℕ) (q : ℕ)
+      → readNode given k names room seen s p ≡ parsed x rest q → Advances s p rest q
+  readNode-advances given zero names room seen s p x rest q h = absurd (refused-parsed h)
+  readNode-advances given (suc k) names room seen s p x rest q h =
       on-advances (skip-moves s p)
-      (nodeBy-advances (nextLabel (skip s)) (nextIs 40 (skip s)) names (λ r e s p. readNode k names r e s p) (λ r e s p. readForest k names r e s p)
+      (nodeBy-advances given (nextLabel (skip s)) (nextIs 40 (skip s)) names (λ r e s p. readNode given k names r e s p) (λ r e s p. readForest given k names r e s p)
       room seen (skip s) (p + blanks s)
-      (λ r e s p x rest q h. readNode-advances k names r e s p x rest q h) (λ r e s p x rest q h. readForest-advances k names r e s p x rest q h)
+      (λ r e s p x rest q h. readNode-advances given k names r e s p x rest q h) (λ r e s p x rest q h. readForest-advances given k names r e s p x rest q h)
       refl refl h)
 
   pub readForest-advances :
-      (k : ℕ) (names : List (List ℕ)) (room seen : ℕ) (s : List ℕ) (p : ℕ) (x : Forest) (rest : List ℕ) (q : ℕ)
-      → readForest k names room seen s p ≡ parsed x rest q → Advances s p rest q
-  readForest-advances zero names room seen s p x rest q h = absurd (refused-parsed h)
-  readForest-advances (suc k) names room seen s p x rest q h =
-      forest-step (λ e s p. readNode k names room e s p) (λ e s p. readForest k names room e s p) seen s p
-      (λ e s p x rest q h. readNode-advances k names room e s p x rest q h) (λ e s p x rest q h. readForest-advances k names room e s p x rest q h) h
+      (given : Bool) (k : ℕ) (names : List (List ℕ)) (room seen : ℕ) (s : List ℕ) (p : ℕ) (x : Forest) (rest : List ℕ) (q : ℕ)
+      → readForest given k names room seen s p ≡ parsed x rest q → Advances s p rest q
+  readForest-advances given zero names room seen s p x rest q h = absurd (refused-parsed h)
+  readForest-advances given (suc k) names room seen s p x rest q h =
+      forest-step (λ e s p. readNode given k names room e s p) (λ e s p. readForest given k names room e s p) seen s p
+      (λ e s p x rest q h. readNode-advances given k names room e s p x rest q h) (λ e s p x rest q h. readForest-advances given k names room e s p x rest q h) h
 
 -- ---- the tree
 
@@ -353,19 +360,19 @@ ended-advances true needed c s p is h = complete-advances (within needed (cluste
 ended-advances false needed c s p is h = absurd (unexpected-parsed s p h)
 
 pub readTreeTo-advances :
-    (k : ℕ) (names : List (List ℕ)) (needed : ℕ) (s : List ℕ) (p : ℕ) {x : Tree} {rest : List ℕ} {q : ℕ}
-    → readTreeTo k names needed s p ≡ parsed x rest q → Advances s p rest q
+    (given : Bool) (k : ℕ) (names : List (List ℕ)) (needed : ℕ) (s : List ℕ) (p : ℕ) {x : Tree} {rest : List ℕ} {q : ℕ}
+    → readTreeTo given k names needed s p ≡ parsed x rest q → Advances s p rest q
 unfolding readTreeToBy
-readTreeTo-advances k names needed s p h =
+readTreeTo-advances given k names needed s p h =
     let r =
-    andThen-parsed (readNode k names openMost 0 s p) (λ t s p. ended (nextIs 59 (skip s)) needed t (skip s) (p + blanks s)) h
+    andThen-parsed (readNode given k names openMost 0 s p) (λ t s p. ended (nextIs 59 (skip s)) needed t (skip s) (p + blanks s)) h
     in
     let m = r .left in
-    advances-on (readNode-advances k names openMost 0 s p (r .value) m (r .place) (r .first))
+    advances-on (readNode-advances given k names openMost 0 s p (r .value) m (r .place) (r .first))
     (moves-on (skip-moves m (r .place)) (ended-advances (nextIs 59 (skip m)) needed (r .value) (skip m) (r .place + blanks m) refl (r .after) .moves))
 
 pub readTree-advances :
-    (names : List (List ℕ)) (needed : ℕ) (s : List ℕ) (p : ℕ) {x : Tree} {rest : List ℕ} {q : ℕ}
-    → readTree names needed s p ≡ parsed x rest q → Advances s p rest q
+    (given : Bool) (names : List (List ℕ)) (needed : ℕ) (s : List ℕ) (p : ℕ) {x : Tree} {rest : List ℕ} {q : ℕ}
+    → readTree given names needed s p ≡ parsed x rest q → Advances s p rest q
 unfolding readTreeBy
-readTree-advances names needed s p h = readTreeTo-advances (2 * length s + 1) names needed s p h
+readTree-advances given names needed s p h = readTreeTo-advances given (2 * length s + 1) names needed s p h

@@ -30,6 +30,8 @@ use Rattle.tokens.specs.Answers.Answer.{parsed}
 use Rattle.tokens.specs.Tokens.{numberBytes, blanks, skip, limited, numeral, pointed, fraction, digits, number, numberBehind}
 use Rattle.tokens.specs.Tokens.{secondNumber, firstNumber, numbersBy, numbers, nameBy, name, innerNameBy, innerName}
 use Rattle.nodes.specs.Reading.{openMost, leafNew, leafKnown, leafAt, closing, afterFirst, opened, nodeBy, afterChild, readNode, readForest, complete, ended, readTreeTo, readTree, closingBy, leafBy, readForestBy, readNodeBy, readTreeBy, readTreeToBy}
+use Rattle.tokens.specs.Supports.{refusesFine, supported}
+use Rattle.tokens.proofs.Supports.{supported-parsed}
 use Rattle.nodes.specs.Grammar.{strict, Blanks, Number, ColonNumber, Numbers, Inner, Node, Children, Text}
 use Rattle.nodes.specs.Grammar.Blanks.{none, blank}
 use Rattle.nodes.specs.Grammar.Number.{whole, decimal}
@@ -39,7 +41,7 @@ use Rattle.nodes.specs.Grammar.Inner.{nameless, named}
 use Rattle.nodes.specs.Grammar.Node.{a-leaf, an-inner}
 use Rattle.nodes.specs.Grammar.Children.{the-last, one-more}
 use Rattle.nodes.specs.Grammar.Text.{text}
-use Rattle.nodes.proofs.Answers.{refused-parsed, andThen-parsed, unexpected-parsed}
+use Rattle.nodes.proofs.Answers.{parsed-same, refused-parsed, andThen-parsed, unexpected-parsed}
 use Rattle.nodes.proofs.Derivations.{two-wanted, Steps, over-node}
 use Rattle.nodes.proofs.Rests.{Reader, Advances, tail-drop, readTree-advances}
 
@@ -134,64 +136,75 @@ number-read s p h = digits-read (run isDigit s) s p refl h
 
 -- a colon behind blanks, and the number behind it
 pub colon-read :
-    (names : List (List ℕ)) (s : List ℕ) (p : ℕ) {w rest : List ℕ} {q : ℕ}
-    → nextIs 58 (skip s) ≡ true → numberBehind (tail (skip s)) p ≡ parsed w rest q → ColonNumber (strict names) w s rest
+    (Takes : List ℕ → List ℕ → List ℕ → Type 0) (s : List ℕ) (p : ℕ) {w rest : List ℕ} {q : ℕ}
+    → nextIs 58 (skip s) ≡ true → ((s₂ : List ℕ) → length w ≤ numberBytes → Takes w s₂ rest)
+    → numberBehind (tail (skip s)) p ≡ parsed w rest q → ColonNumber Takes w s rest
 unfolding numberBehind
-colon-read names s p is h =
+colon-read Takes s p is taken h =
     let m = tail (skip s) in
     let n = number-read (skip m) (p + blanks m) h in
-    colon (skip-byte 58 s is) (skip-blanks m) (n .derives) (n .short)
+    colon (skip-byte 58 s is) (skip-blanks m) (n .derives) (taken (skip m) (n .short))
 
 -- what stands behind a node, with the name w before it
-pub record BehindRead (names : List (List ℕ)) (w s : List ℕ) (x : Behind) (rest : List ℕ) : Type 0 where
+pub record BehindRead (given : Bool) (names : List (List ℕ)) (w s : List ℕ) (x : Behind) (rest : List ℕ) : Type 0 where
   pub d : List ℕ
   pub b : List ℕ
   pub is : record { name = w; distance = d; support = b } ≡ x
-  pub derives : Numbers (strict names) d b s rest
+  pub derives : Numbers (strict given names) d b s rest
 
 secondNumber-read :
-    (names : List (List ℕ)) (t : Bool) (w d s m : List ℕ) (p : ℕ) {x : Behind} {rest : List ℕ} {q : ℕ}
-    → nextIs 58 (skip m) ≡ t → ColonNumber (strict names) d s m → secondNumber t w d m p ≡ parsed x rest q → BehindRead names w s x rest
-secondNumber-read names false w d s m p {x} {rest} is c h =
+    (given : Bool) (names : List (List ℕ)) (t : Bool) (w d s m : List ℕ) (p : ℕ) {x : Behind} {rest : List ℕ} {q : ℕ}
+    → nextIs 58 (skip m) ≡ t → ColonNumber (strict given names .distance) d s m → secondNumber t w d m p ≡ parsed x rest q → refusesFine given (x .support) ≡ false → BehindRead given names w s x rest
+secondNumber-read given names false w d s m p {x} {rest} is c h coarse =
     let e : m ≡ rest = cc in
     record { d = d; b = []; is = cc; derives = rw (← e) (distance c) }
-secondNumber-read names true w d s m p {x} {rest} is c h =
+secondNumber-read given names true w d s m p {x} {rest} is c h coarse =
     let r =
     andThen-parsed (numberBehind (tail (skip m)) (p + blanks m + 1)) (λ b s p. parsed (record { name = w; distance = d; support = b }) s p) h
     in
     let a = r .after in
     let e : r .left ≡ rest = cc in
-    record { d = d; b = r .value; is = cc; derives = both c (rw e at (colon-read names m (p + blanks m + 1) is (r .first))) }
+    let same : r .value ≡ x .support = ap (λ (y : Behind). y .support) (parsed-same a) in
+    record { d = d; b = r .value; is = cc; derives = both c (rw e at (colon-read (strict given names .support) m (p + blanks m + 1) is (λ s₂ short. (short, rw (← same) at coarse)) (r .first))) }
 
 firstNumber-read :
-    (names : List (List ℕ)) (t : Bool) (w s : List ℕ) (p : ℕ) {x : Behind} {rest : List ℕ} {q : ℕ}
+    (given : Bool) (names : List (List ℕ)) (t : Bool) (w s : List ℕ) (p : ℕ) {x : Behind} {rest : List ℕ} {q : ℕ}
     → nextIs 58 (skip s) ≡ true → nextIs 58 (skip (tail (skip s))) ≡ t → firstNumber t w (tail (skip s)) p ≡ parsed x rest q
-    → BehindRead names w s x rest
-firstNumber-read names true w s p {x} {rest} is again h =
+    → refusesFine given (x .support) ≡ false → BehindRead given names w s x rest
+firstNumber-read given names true w s p {x} {rest} is again h coarse =
     let m = tail (skip s) in
     let r =
     andThen-parsed (numberBehind (tail (skip m)) (p + blanks m + 1)) (λ b s p. parsed (record { name = w; distance = []; support = b }) s p) h
     in
     let a = r .after in
     let e : r .left ≡ rest = cc in
-    record { d = []; b = r .value; is = cc; derives = support (skip-byte 58 s is) (rw e at (colon-read names m (p + blanks m + 1) again (r .first))) }
-firstNumber-read names false w s p is again h =
+    let same : r .value ≡ x .support = ap (λ (y : Behind). y .support) (parsed-same a) in
+    let number = colon-read (strict given names .support) m (p + blanks m + 1) again (λ s₂ short. (short, rw (← same) at coarse)) (r .first) in
+    record { d = []; b = r .value; is = cc; derives = support (skip-byte 58 s is) (rw e at number) }
+firstNumber-read given names false w s p is again h coarse =
     let r = andThen-parsed (numberBehind (tail (skip s)) p) (λ d s p. secondNumber (nextIs 58 (skip s)) w d s p) h in
-    secondNumber-read names (nextIs 58 (skip (r .left))) w (r .value) s (r .left) (r .place) refl (colon-read names s p is (r .first)) (r .after)
+    secondNumber-read given names (nextIs 58 (skip (r .left))) w (r .value) s (r .left) (r .place) refl
+    (colon-read (strict given names .distance) s p is (λ s₂ short. short) (r .first)) (r .after) coarse
 
 numbersBy-read :
-    (names : List (List ℕ)) (t : Bool) (w s : List ℕ) (p : ℕ) {x : Behind} {rest : List ℕ} {q : ℕ}
-    → nextIs 58 (skip s) ≡ t → numbersBy t w s p ≡ parsed x rest q → BehindRead names w s x rest
-numbersBy-read names false w s p {x} {rest} is h =
+    (given : Bool) (names : List (List ℕ)) (t : Bool) (w s : List ℕ) (p : ℕ) {x : Behind} {rest : List ℕ} {q : ℕ}
+    → nextIs 58 (skip s) ≡ t → numbersBy t w s p ≡ parsed x rest q → refusesFine given (x .support) ≡ false → BehindRead given names w s x rest
+numbersBy-read given names false w s p {x} {rest} is h coarse =
     let e : s ≡ rest = cc in
     record { d = []; b = []; is = cc; derives = rw e nothing }
-numbersBy-read names true w s p is h = firstNumber-read names (nextIs 58 (skip (tail (skip s)))) w s (p + blanks s + 1) is refl h
+numbersBy-read given names true w s p is h coarse = firstNumber-read given names (nextIs 58 (skip (tail (skip s)))) w s (p + blanks s + 1) is refl h coarse
 
-pub numbers-read :
-    (names : List (List ℕ)) (w s : List ℕ) (p : ℕ) {x : Behind} {rest : List ℕ} {q : ℕ}
-    → numbers w s p ≡ parsed x rest q → BehindRead names w s x rest
+numbers-read :
+    (given : Bool) (names : List (List ℕ)) (w s : List ℕ) (p : ℕ) {x : Behind} {rest : List ℕ} {q : ℕ}
+    → numbers w s p ≡ parsed x rest q → refusesFine given (x .support) ≡ false → BehindRead given names w s x rest
 unfolding numbers
-numbers-read names w s p h = numbersBy-read names (nextIs 58 (skip s)) w s p refl h
+numbers-read given names w s p h coarse = numbersBy-read given names (nextIs 58 (skip s)) w s p refl h coarse
+
+-- numbers that were read and judged are those of the grammar, of which no support is refused
+pub supported-read :
+    (given : Bool) (names : List (List ℕ)) (w s : List ℕ) (p : ℕ) {x : Behind} {rest : List ℕ} {q : ℕ}
+    → supported given w s p ≡ parsed x rest q → BehindRead given names w s x rest
+supported-read given names w s p h = let j = supported-parsed given w s p h in numbers-read given names w s p (j .numbers-are) (j .not-fine)
 
 -- ---- names
 
@@ -212,11 +225,11 @@ name-read s p {w} {rest} {q} is h = go (told s) refl h
     go (faulty number d) e h = absurd (refused-parsed h)
 
 pub innerName-read :
-    (names : List (List ℕ)) (s : List ℕ) (p : ℕ) {w rest : List ℕ} {q : ℕ} → innerName s p ≡ parsed w rest q → Inner (strict names) w s rest
+    (given : Bool) (names : List (List ℕ)) (s : List ℕ) (p : ℕ) {w rest : List ℕ} {q : ℕ} → innerName s p ≡ parsed w rest q → Inner (strict given names) w s rest
 unfolding innerName
-innerName-read names s p {w} {rest} {q} h = go (nextLabel (skip s)) refl h
+innerName-read given names s p {w} {rest} {q} h = go (nextLabel (skip s)) refl h
   where
-    go : (t : Bool) → nextLabel (skip s) ≡ t → innerNameBy t s p ≡ parsed w rest q → Inner (strict names) w s rest
+    go : (t : Bool) → nextLabel (skip s) ≡ t → innerNameBy t s p ≡ parsed w rest q → Inner (strict given names) w s rest
     go false is h =
         let f : [] ≡ w = cc in
         let g : s ≡ rest = cc in
@@ -226,13 +239,13 @@ innerName-read names s p {w} {rest} {q} h = go (nextLabel (skip s)) refl h
 -- ---- nodes
 
 -- a tree of the grammar, none of its species among those seen before, and each once
-pub record NodeRead (names : List (List ℕ)) (room seen : ℕ) (s : List ℕ) (t : Tree) (rest : List ℕ) : Type 0 where
-  pub derives : Node (strict names) room s t rest
+pub record NodeRead (given : Bool) (names : List (List ℕ)) (room seen : ℕ) (s : List ℕ) (t : Tree) (rest : List ℕ) : Type 0 where
+  pub derives : Node (strict given names) room s t rest
   pub once : NoneTwice (leaves t)
   pub new : Apart (cluster t) seen
 
-pub record ForestRead (names : List (List ℕ)) (room seen : ℕ) (s : List ℕ) (f : Forest) (rest : List ℕ) : Type 0 where
-  pub derives : Children (strict names) room s f rest
+pub record ForestRead (given : Bool) (names : List (List ℕ)) (room seen : ℕ) (s : List ℕ) (f : Forest) (rest : List ℕ) : Type 0 where
+  pub derives : Children (strict given names) room s f rest
   pub once : NoneTwice (leavesOf f)
   pub new : Apart (clusterOf f) seen
 
@@ -256,121 +269,121 @@ joins seen t f once new once′ new′ =
     }
 
 leafNew-read :
-    (names : List (List ℕ)) (room i seen begun : ℕ) (w s m mid : List ℕ) (p : ℕ) {x : Tree} {rest : List ℕ} {q : ℕ}
+    (given : Bool) (names : List (List ℕ)) (room i seen begun : ℕ) (w s m mid : List ℕ) (p : ℕ) {x : Tree} {rest : List ℕ} {q : ℕ}
     → Blanks s m → NameRead w m mid → position w names ≡ i → i < length names
-    → leafNew (apart (single i) seen) i begun mid p ≡ parsed x rest q → NodeRead names room seen s x rest
+    → leafNew given (apart (single i) seen) i begun mid p ≡ parsed x rest q → NodeRead given names room seen s x rest
 unfolding leaves cluster
-leafNew-read names room i seen begun w s m mid p {x} {rest} {q} bl n at known h = go (apart (single i) seen) refl h
+leafNew-read given names room i seen begun w s m mid p {x} {rest} {q} bl n at known h = go (apart (single i) seen) refl h
   where
-    go : (t : Bool) → apart (single i) seen ≡ t → leafNew t i begun mid p ≡ parsed x rest q → NodeRead names room seen s x rest
+    go : (t : Bool) → apart (single i) seen ≡ t → leafNew given t i begun mid p ≡ parsed x rest q → NodeRead given names room seen s x rest
     go false is h = absurd (refused-parsed h)
     go true is h =
-        let r = andThen-parsed (numbers [] mid p) (λ b s p. parsed (leaf i b) s p) h in
+        let r = andThen-parsed (supported given [] mid p) (λ b s p. parsed (leaf i b) s p) h in
         let a = r .after in
         let e : r .left ≡ rest = cc in
-        let b = numbers-read names [] mid p (r .first) in
+        let b = supported-read given names [] mid p (r .first) in
         let f : leaf i (record { name = []; distance = b .d; support = b .b }) ≡ x = cc (b .is) in
         rw (← f)
         (record {
-          derives = a-leaf bl (n .derives) (n .short, at, known) (subst (λ (l : List ℕ). Numbers (strict names) (b .d) (b .b) mid l) e (b .derives));
+          derives = a-leaf bl (n .derives) (n .short, at, known) (subst (λ (l : List ℕ). Numbers (strict given names) (b .d) (b .b) mid l) e (b .derives));
           once = none-twice-one i;
           new = apart-true (single i) seen is;
         })
 
 leafAt-read :
-    (names : List (List ℕ)) (room seen : ℕ) (s m : List ℕ) (p : ℕ) {x : Tree} {rest : List ℕ} {q : ℕ}
-    → Blanks s m → nextLabel m ≡ true → leafAt names seen m p ≡ parsed x rest q → NodeRead names room seen s x rest
+    (given : Bool) (names : List (List ℕ)) (room seen : ℕ) (s m : List ℕ) (p : ℕ) {x : Tree} {rest : List ℕ} {q : ℕ}
+    → Blanks s m → nextLabel m ≡ true → leafAt given names seen m p ≡ parsed x rest q → NodeRead given names room seen s x rest
 unfolding leafBy
-leafAt-read names room seen s m p {x} {rest} {q} bl is h =
-    let r = andThen-parsed (name m p) (λ w rest q. leafKnown (ltb (position w names) (length names)) (position w names) seen p rest q) h in
+leafAt-read given names room seen s m p {x} {rest} {q} bl is h =
+    let r = andThen-parsed (name m p) (λ w rest q. leafKnown given (ltb (position w names) (length names)) (position w names) seen p rest q) h in
     let i = position (r .value) names in
     go (r .value) (r .left) (r .place) (name-read m p is (r .first)) (ltb i (length names)) refl (r .after)
   where
     go :
         (w mid : List ℕ) (z : ℕ) → NameRead w m mid → (t : Bool) → ltb (position w names) (length names) ≡ t
-        → leafKnown t (position w names) seen p mid z ≡ parsed x rest q → NodeRead names room seen s x rest
+        → leafKnown given t (position w names) seen p mid z ≡ parsed x rest q → NodeRead given names room seen s x rest
     go w mid z n true known h =
-        leafNew-read names room (position w names) seen p w s m mid z bl n refl (ltb-true (position w names) (length names) known) h
+        leafNew-read given names room (position w names) seen p w s m mid z bl n refl (ltb-true (position w names) (length names) known) h
     go w mid z n false known h = absurd (refused-parsed h)
 
 -- ---- inner nodes; what a piece of reading derives from every text and place
 
-abbrev Nodes : List (List ℕ) → (ℕ → Reader Tree) → Type 0
-Nodes names read =
-    (r e : ℕ) (s : List ℕ) (p : ℕ) (t : Tree) (rest : List ℕ) (q : ℕ) → read r e s p ≡ parsed t rest q → NodeRead names r e s t rest
+abbrev Nodes : Bool → List (List ℕ) → (ℕ → Reader Tree) → Type 0
+Nodes given names read =
+    (r e : ℕ) (s : List ℕ) (p : ℕ) (t : Tree) (rest : List ℕ) (q : ℕ) → read r e s p ≡ parsed t rest q → NodeRead given names r e s t rest
 
-abbrev Forests : List (List ℕ) → (ℕ → Reader Forest) → Type 0
-Forests names read =
-    (r e : ℕ) (s : List ℕ) (p : ℕ) (f : Forest) (rest : List ℕ) (q : ℕ) → read r e s p ≡ parsed f rest q → ForestRead names r e s f rest
+abbrev Forests : Bool → List (List ℕ) → (ℕ → Reader Forest) → Type 0
+Forests given names read =
+    (r e : ℕ) (s : List ℕ) (p : ℕ) (f : Forest) (rest : List ℕ) (q : ℕ) → read r e s p ≡ parsed f rest q → ForestRead given names r e s f rest
 
 closing-read :
-    (names : List (List ℕ)) (room seen : ℕ) (t : Tree) (f : Forest) (s s₁ s₂ s₃ s₄ : List ℕ) (p : ℕ) {x : Tree} {rest : List ℕ} {q : ℕ}
-    → Blanks s (40 ∷ s₁) → NodeRead names room seen s₁ t s₂ → Blanks s₂ (44 ∷ s₃) → ForestRead names room (union seen (cluster t)) s₃ f s₄
-    → closing t f s₄ p ≡ parsed x rest q → NodeRead names (suc room) seen s x rest
+    (given : Bool) (names : List (List ℕ)) (room seen : ℕ) (t : Tree) (f : Forest) (s s₁ s₂ s₃ s₄ : List ℕ) (p : ℕ) {x : Tree} {rest : List ℕ} {q : ℕ}
+    → Blanks s (40 ∷ s₁) → NodeRead given names room seen s₁ t s₂ → Blanks s₂ (44 ∷ s₃) → ForestRead given names room (union seen (cluster t)) s₃ f s₄
+    → closing given t f s₄ p ≡ parsed x rest q → NodeRead given names (suc room) seen s x rest
 unfolding closingBy leaves cluster
-closing-read names room seen t f s s₁ s₂ s₃ s₄ p {x} {rest} bl n comma c h =
-    let r = andThen-parsed (innerName s₄ p) (λ w s p. andThen (numbers w s p) (λ b s p. parsed (node t f b) s p)) h in
-    let z = andThen-parsed (numbers (r .value) (r .left) (r .place)) (λ b s p. parsed (node t f b) s p) (r .after) in
+closing-read given names room seen t f s s₁ s₂ s₃ s₄ p {x} {rest} bl n comma c h =
+    let r = andThen-parsed (innerName s₄ p) (λ w s p. andThen (supported given w s p) (λ b s p. parsed (node t f b) s p)) h in
+    let z = andThen-parsed (supported given (r .value) (r .left) (r .place)) (λ b s p. parsed (node t f b) s p) (r .after) in
     let a = z .after in
     let e : z .left ≡ rest = cc in
-    let b = numbers-read names (r .value) (r .left) (r .place) (z .first) in
+    let b = supported-read given names (r .value) (r .left) (r .place) (z .first) in
     let g : node t f (record { name = r .value; distance = b .d; support = b .b }) ≡ x = cc (b .is) in
     let j = joins seen t f (n .once) (n .new) (c .once) (c .new) in
     rw (← g)
     (record {
-      derives = an-inner bl (n .derives) comma (c .derives) (innerName-read names s₄ p (r .first))
-          (subst (λ (l : List ℕ). Numbers (strict names) (b .d) (b .b) (r .left) l) e (b .derives));
+      derives = an-inner bl (n .derives) comma (c .derives) (innerName-read given names s₄ p (r .first))
+          (subst (λ (l : List ℕ). Numbers (strict given names) (b .d) (b .b) (r .left) l) e (b .derives));
       once = j .once;
       new = j .new;
     })
 
 afterFirst-read :
-    (names : List (List ℕ)) (t u : Bool) (others : ℕ → Reader Forest) (room seen : ℕ) (c : Tree) (s s₁ s₂ : List ℕ) (p : ℕ)
+    (given : Bool) (names : List (List ℕ)) (t u : Bool) (others : ℕ → Reader Forest) (room seen : ℕ) (c : Tree) (s s₁ s₂ : List ℕ) (p : ℕ)
     {x : Tree} {rest : List ℕ} {q : ℕ}
-    → Forests names others → Blanks s (40 ∷ s₁) → NodeRead names room seen s₁ c s₂ → nextIs 44 (skip s₂) ≡ t
-    → afterFirst t u (λ e s p. others room e s p) seen c (skip s₂) p ≡ parsed x rest q → NodeRead names (suc room) seen s x rest
-afterFirst-read names true u others room seen c s s₁ s₂ p fs bl n is h =
+    → Forests given names others → Blanks s (40 ∷ s₁) → NodeRead given names room seen s₁ c s₂ → nextIs 44 (skip s₂) ≡ t
+    → afterFirst given t u (λ e s p. others room e s p) seen c (skip s₂) p ≡ parsed x rest q → NodeRead given names (suc room) seen s x rest
+afterFirst-read given names true u others room seen c s s₁ s₂ p fs bl n is h =
     let m = tail (skip s₂) in
-    let r = andThen-parsed (others room (union seen (cluster c)) m (p + 1)) (λ f s p. closing c f s p) h in
-    closing-read names room seen c (r .value) s s₁ s₂ m (r .left) (r .place) bl n (skip-byte 44 s₂ is)
+    let r = andThen-parsed (others room (union seen (cluster c)) m (p + 1)) (λ f s p. closing given c f s p) h in
+    closing-read given names room seen c (r .value) s s₁ s₂ m (r .left) (r .place) bl n (skip-byte 44 s₂ is)
     (fs room (union seen (cluster c)) m (p + 1) (r .value) (r .left) (r .place) (r .first)) (r .after)
-afterFirst-read names false true others room seen c s s₁ s₂ p fs bl n is h = absurd (refused-parsed h)
-afterFirst-read names false false others room seen c s s₁ s₂ p fs bl n is h = absurd (unexpected-parsed (skip s₂) p h)
+afterFirst-read given names false true others room seen c s s₁ s₂ p fs bl n is h = absurd (refused-parsed h)
+afterFirst-read given names false false others room seen c s s₁ s₂ p fs bl n is h = absurd (unexpected-parsed (skip s₂) p h)
 
 opened-read :
-    (names : List (List ℕ)) (first : ℕ → Reader Tree) (others : ℕ → Reader Forest) (room seen : ℕ) (s m : List ℕ) (p : ℕ)
+    (given : Bool) (names : List (List ℕ)) (first : ℕ → Reader Tree) (others : ℕ → Reader Forest) (room seen : ℕ) (s m : List ℕ) (p : ℕ)
     {x : Tree} {rest : List ℕ} {q : ℕ}
-    → Nodes names first → Forests names others → Blanks s m → nextIs 40 m ≡ true
-    → opened first others room seen m p ≡ parsed x rest q → NodeRead names room seen s x rest
-opened-read names first others zero seen s m p ns fs bl is h = absurd (refused-parsed h)
-opened-read names first others (suc room) seen s m p ns fs bl is h =
+    → Nodes given names first → Forests given names others → Blanks s m → nextIs 40 m ≡ true
+    → opened given first others room seen m p ≡ parsed x rest q → NodeRead given names room seen s x rest
+opened-read given names first others zero seen s m p ns fs bl is h = absurd (refused-parsed h)
+opened-read given names first others (suc room) seen s m p ns fs bl is h =
     let r =
     andThen-parsed (first room seen (tail m) (p + 1))
-    (λ t s p. afterFirst (nextIs 44 (skip s)) (nextIs 41 (skip s)) (λ e s p. others room e s p) seen t (skip s) (p + blanks s)) h
+    (λ t s p. afterFirst given (nextIs 44 (skip s)) (nextIs 41 (skip s)) (λ e s p. others room e s p) seen t (skip s) (p + blanks s)) h
     in
     let k = r .left in
-    afterFirst-read names (nextIs 44 (skip k)) (nextIs 41 (skip k)) others room seen (r .value) s (tail m) k (r .place + blanks k) fs
+    afterFirst-read given names (nextIs 44 (skip k)) (nextIs 41 (skip k)) others room seen (r .value) s (tail m) k (r .place + blanks k) fs
     (subst (λ (l : List ℕ). Blanks s l) (nextIs-cons 40 m is) bl)
     (ns room seen (tail m) (p + 1) (r .value) k (r .place) (r .first)) refl (r .after)
 
 nodeBy-read :
-    (t u : Bool) (names : List (List ℕ)) (first : ℕ → Reader Tree) (others : ℕ → Reader Forest) (room seen : ℕ) (s m : List ℕ) (p : ℕ)
+    (given : Bool) (t u : Bool) (names : List (List ℕ)) (first : ℕ → Reader Tree) (others : ℕ → Reader Forest) (room seen : ℕ) (s m : List ℕ) (p : ℕ)
     {x : Tree} {rest : List ℕ} {q : ℕ}
-    → Nodes names first → Forests names others → Blanks s m → nextLabel m ≡ t → nextIs 40 m ≡ u
-    → nodeBy t u names first others room seen m p ≡ parsed x rest q → NodeRead names room seen s x rest
-nodeBy-read true u names first others room seen s m p ns fs bl is opens h = leafAt-read names room seen s m p bl is h
-nodeBy-read false true names first others room seen s m p ns fs bl is opens h = opened-read names first others room seen s m p ns fs bl opens h
-nodeBy-read false false names first others room seen s m p ns fs bl is opens h = absurd (unexpected-parsed m p h)
+    → Nodes given names first → Forests given names others → Blanks s m → nextLabel m ≡ t → nextIs 40 m ≡ u
+    → nodeBy given t u names first others room seen m p ≡ parsed x rest q → NodeRead given names room seen s x rest
+nodeBy-read given true u names first others room seen s m p ns fs bl is opens h = leafAt-read given names room seen s m p bl is h
+nodeBy-read given false true names first others room seen s m p ns fs bl is opens h = opened-read given names first others room seen s m p ns fs bl opens h
+nodeBy-read given false false names first others room seen s m p ns fs bl is opens h = absurd (unexpected-parsed m p h)
 
 -- ---- children
 
 afterChild-read :
-    (names : List (List ℕ)) (t u : Bool) (others : ℕ → Reader Forest) (room seen : ℕ) (c : Tree) (s m : List ℕ) (p : ℕ)
+    (given : Bool) (names : List (List ℕ)) (t u : Bool) (others : ℕ → Reader Forest) (room seen : ℕ) (c : Tree) (s m : List ℕ) (p : ℕ)
     {x : Forest} {rest : List ℕ} {q : ℕ}
-    → Forests names others → NodeRead names room seen s c m → nextIs 44 (skip m) ≡ t → nextIs 41 (skip m) ≡ u
-    → afterChild t u (λ e s p. others room e s p) seen c (skip m) p ≡ parsed x rest q → ForestRead names room seen s x rest
+    → Forests given names others → NodeRead given names room seen s c m → nextIs 44 (skip m) ≡ t → nextIs 41 (skip m) ≡ u
+    → afterChild t u (λ e s p. others room e s p) seen c (skip m) p ≡ parsed x rest q → ForestRead given names room seen s x rest
 unfolding leavesOf clusterOf
-afterChild-read names true u others room seen c s m p {x} {rest} fs n is closes h =
+afterChild-read given names true u others room seen c s m p {x} {rest} fs n is closes h =
     let k = tail (skip m) in
     let r = andThen-parsed (others room (union seen (cluster c)) k (p + 1)) (λ f s p. parsed (more c f) s p) h in
     let a = r .after in
@@ -379,48 +392,48 @@ afterChild-read names true u others room seen c s m p {x} {rest} fs n is closes 
     let f = fs room (union seen (cluster c)) k (p + 1) (r .value) (r .left) (r .place) (r .first) in
     let j = joins seen c (r .value) (n .once) (n .new) (f .once) (f .new) in
     rw (← g) (record { derives = one-more (n .derives) (skip-byte 44 m is) (rw e at (f .derives)); once = j .once; new = j .new })
-afterChild-read names false true others room seen c s m p {x} {rest} fs n is closes h =
+afterChild-read given names false true others room seen c s m p {x} {rest} fs n is closes h =
     let e : tail (skip m) ≡ rest = cc in
     let g : last c ≡ x = cc in
     rw (← g) (record { derives = the-last (n .derives) (rw e at (skip-byte 41 m closes)); once = n .once; new = n .new })
-afterChild-read names false false others room seen c s m p fs n is closes h = absurd (unexpected-parsed (skip m) p h)
+afterChild-read given names false false others room seen c s m p fs n is closes h = absurd (unexpected-parsed (skip m) p h)
 
 forest-read :
-    (names : List (List ℕ)) (first : ℕ → Reader Tree) (others : ℕ → Reader Forest) (room seen : ℕ) (s : List ℕ) (p : ℕ)
+    (given : Bool) (names : List (List ℕ)) (first : ℕ → Reader Tree) (others : ℕ → Reader Forest) (room seen : ℕ) (s : List ℕ) (p : ℕ)
     {x : Forest} {rest : List ℕ} {q : ℕ}
-    → Nodes names first → Forests names others
+    → Nodes given names first → Forests given names others
     → andThen (first room seen s p)
     (λ t s p. afterChild (nextIs 44 (skip s)) (nextIs 41 (skip s)) (λ e s p. others room e s p) seen t (skip s) (p + blanks s)) ≡ parsed x rest q
-    → ForestRead names room seen s x rest
-forest-read names first others room seen s p ns fs h =
+    → ForestRead given names room seen s x rest
+forest-read given names first others room seen s p ns fs h =
     let r =
     andThen-parsed (first room seen s p)
     (λ t s p. afterChild (nextIs 44 (skip s)) (nextIs 41 (skip s)) (λ e s p. others room e s p) seen t (skip s) (p + blanks s)) h
     in
     let k = r .left in
-    afterChild-read names (nextIs 44 (skip k)) (nextIs 41 (skip k)) others room seen (r .value) s k (r .place + blanks k) fs
+    afterChild-read given names (nextIs 44 (skip k)) (nextIs 41 (skip k)) others room seen (r .value) s k (r .place + blanks k) fs
     (ns room seen s p (r .value) k (r .place) (r .first)) refl refl (r .after)
 
 mutual
   unfolding readNodeBy readForestBy
 
   pub readNode-sound :
-      (k : ℕ) (names : List (List ℕ)) (room seen : ℕ) (s : List ℕ) (p : ℕ) (t : Tree) (rest : List ℕ) (q : ℕ)
-      → readNode k names room seen s p ≡ parsed t rest q → NodeRead names room seen s t rest
-  readNode-sound zero names room seen s p t rest q h = absurd (refused-parsed h)
-  readNode-sound (suc k) names room seen s p t rest q h =
-      nodeBy-read (nextLabel (skip s)) (nextIs 40 (skip s)) names (λ r e s p. readNode k names r e s p) (λ r e s p. readForest k names r e s p)
+      (given : Bool) (k : ℕ) (names : List (List ℕ)) (room seen : ℕ) (s : List ℕ) (p : ℕ) (t : Tree) (rest : List ℕ) (q : ℕ)
+      → readNode given k names room seen s p ≡ parsed t rest q → NodeRead given names room seen s t rest
+  readNode-sound given zero names room seen s p t rest q h = absurd (refused-parsed h)
+  readNode-sound given (suc k) names room seen s p t rest q h =
+      nodeBy-read given (nextLabel (skip s)) (nextIs 40 (skip s)) names (λ r e s p. readNode given k names r e s p) (λ r e s p. readForest given k names r e s p)
       room seen s (skip s) (p + blanks s)
-      (λ r e s p t rest q h. readNode-sound k names r e s p t rest q h) (λ r e s p f rest q h. readForest-sound k names r e s p f rest q h)
+      (λ r e s p t rest q h. readNode-sound given k names r e s p t rest q h) (λ r e s p f rest q h. readForest-sound given k names r e s p f rest q h)
       (skip-blanks s) refl refl h
 
   pub readForest-sound :
-      (k : ℕ) (names : List (List ℕ)) (room seen : ℕ) (s : List ℕ) (p : ℕ) (f : Forest) (rest : List ℕ) (q : ℕ)
-      → readForest k names room seen s p ≡ parsed f rest q → ForestRead names room seen s f rest
-  readForest-sound zero names room seen s p f rest q h = absurd (refused-parsed h)
-  readForest-sound (suc k) names room seen s p f rest q h =
-      forest-read names (λ r e s p. readNode k names r e s p) (λ r e s p. readForest k names r e s p) room seen s p
-      (λ r e s p t rest q h. readNode-sound k names r e s p t rest q h) (λ r e s p f rest q h. readForest-sound k names r e s p f rest q h) h
+      (given : Bool) (k : ℕ) (names : List (List ℕ)) (room seen : ℕ) (s : List ℕ) (p : ℕ) (f : Forest) (rest : List ℕ) (q : ℕ)
+      → readForest given k names room seen s p ≡ parsed f rest q → ForestRead given names room seen s f rest
+  readForest-sound given zero names room seen s p f rest q h = absurd (refused-parsed h)
+  readForest-sound given (suc k) names room seen s p f rest q h =
+      forest-read given names (λ r e s p. readNode given k names r e s p) (λ r e s p. readForest given k names r e s p) room seen s p
+      (λ r e s p t rest q h. readNode-sound given k names r e s p t rest q h) (λ r e s p f rest q h. readForest-sound given k names r e s p f rest q h) h
 
 -- ---- every leaf is on the roster
 
@@ -431,9 +444,9 @@ abbrev pub AllKnown : List (List ℕ) → List ℕ → Type 0
 AllKnown names l = (i : ℕ) → Among i l → i < length names
 
 known-steps :
-    (names : List (List ℕ)) → Steps (strict names) (λ k s t rest. AllKnown names (leaves t)) (λ k s f rest. AllKnown names (leavesOf f))
+    (given : Bool) (names : List (List ℕ)) → Steps (strict given names) (λ k s t rest. AllKnown names (leaves t)) (λ k s f rest. AllKnown names (leavesOf f))
 unfolding leaves leavesOf
-known-steps names =
+known-steps given names =
     record {
       at-leaf = λ k i w d b s s₁ s₂ rest bl r known behind j h. rw (List·Memᴰ·eq-of-singleton h) (known .2);
       at-inner = λ k t f w d b s s₁ s₂ s₃ s₄ s₅ rest bl first p comma others q inner behind i h. either-known i (leaves t) (leavesOf f) (p i) (q i) h;
@@ -442,25 +455,25 @@ known-steps names =
       at-more = λ k t f s s₁ s₂ rest first p comma others q i h. either-known i (leaves t) (leavesOf f) (p i) (q i) h;
     }
 
-pub text-known : (names : List (List ℕ)) {k : ℕ} {s rest : List ℕ} {t : Tree} → Text (strict names) k s t rest → AllKnown names (leaves t)
-text-known names (text only ends) =
-    over-node (strict names) (λ k s t rest. AllKnown names (leaves t)) (λ k s f rest. AllKnown names (leavesOf f)) (known-steps names) only
+pub text-known : (given : Bool) (names : List (List ℕ)) {k : ℕ} {s rest : List ℕ} {t : Tree} → Text (strict given names) k s t rest → AllKnown names (leaves t)
+text-known given names (text only ends) =
+    over-node (strict given names) (λ k s t rest. AllKnown names (leaves t)) (λ k s f rest. AllKnown names (leavesOf f)) (known-steps given names) only
 
 -- ---- the tree
 
 -- what a reading that answers a tree has read
-pub record TreeRead (names : List (List ℕ)) (needed : ℕ) (s : List ℕ) (t : Tree) (rest : List ℕ) : Type 0 where
-  pub derives : Text (strict names) openMost s t rest
+pub record TreeRead (given : Bool) (names : List (List ℕ)) (needed : ℕ) (s : List ℕ) (t : Tree) (rest : List ℕ) : Type 0 where
+  pub derives : Text (strict given names) openMost s t rest
   pub once : NoneTwice (leaves t)
   pub all : Within needed (cluster t)
 
 complete-read :
-    (names : List (List ℕ)) (needed : ℕ) (c : Tree) (s m : List ℕ) (p : ℕ) {x : Tree} {rest : List ℕ} {q : ℕ}
-    → NodeRead names openMost 0 s c m → nextIs 59 (skip m) ≡ true
-    → complete (within needed (cluster c)) c (skip m) p ≡ parsed x rest q → TreeRead names needed s x rest
-complete-read names needed c s m p {x} {rest} {q} n is h = go (within needed (cluster c)) refl h
+    (given : Bool) (names : List (List ℕ)) (needed : ℕ) (c : Tree) (s m : List ℕ) (p : ℕ) {x : Tree} {rest : List ℕ} {q : ℕ}
+    → NodeRead given names openMost 0 s c m → nextIs 59 (skip m) ≡ true
+    → complete (within needed (cluster c)) c (skip m) p ≡ parsed x rest q → TreeRead given names needed s x rest
+complete-read given names needed c s m p {x} {rest} {q} n is h = go (within needed (cluster c)) refl h
   where
-    go : (t : Bool) → within needed (cluster c) ≡ t → complete t c (skip m) p ≡ parsed x rest q → TreeRead names needed s x rest
+    go : (t : Bool) → within needed (cluster c) ≡ t → complete t c (skip m) p ≡ parsed x rest q → TreeRead given names needed s x rest
     go true all h =
         let e : tail (skip m) ≡ rest = cc in
         let g : c ≡ x = cc in
@@ -469,33 +482,33 @@ complete-read names needed c s m p {x} {rest} {q} n is h = go (within needed (cl
     go false all h = absurd (refused-parsed h)
 
 ended-read :
-    (names : List (List ℕ)) (t : Bool) (needed : ℕ) (c : Tree) (s m : List ℕ) (p : ℕ) {x : Tree} {rest : List ℕ} {q : ℕ}
-    → NodeRead names openMost 0 s c m → nextIs 59 (skip m) ≡ t → ended t needed c (skip m) p ≡ parsed x rest q → TreeRead names needed s x rest
-ended-read names true needed c s m p n is h = complete-read names needed c s m p n is h
-ended-read names false needed c s m p n is h = absurd (unexpected-parsed (skip m) p h)
+    (given : Bool) (names : List (List ℕ)) (t : Bool) (needed : ℕ) (c : Tree) (s m : List ℕ) (p : ℕ) {x : Tree} {rest : List ℕ} {q : ℕ}
+    → NodeRead given names openMost 0 s c m → nextIs 59 (skip m) ≡ t → ended t needed c (skip m) p ≡ parsed x rest q → TreeRead given names needed s x rest
+ended-read given names true needed c s m p n is h = complete-read given names needed c s m p n is h
+ended-read given names false needed c s m p n is h = absurd (unexpected-parsed (skip m) p h)
 
 pub readTreeTo-sound :
-    (k : ℕ) (names : List (List ℕ)) (needed : ℕ) (s : List ℕ) (p : ℕ) {t : Tree} {rest : List ℕ} {q : ℕ}
-    → readTreeTo k names needed s p ≡ parsed t rest q → TreeRead names needed s t rest
+    (given : Bool) (k : ℕ) (names : List (List ℕ)) (needed : ℕ) (s : List ℕ) (p : ℕ) {t : Tree} {rest : List ℕ} {q : ℕ}
+    → readTreeTo given k names needed s p ≡ parsed t rest q → TreeRead given names needed s t rest
 unfolding readTreeToBy
-readTreeTo-sound k names needed s p h =
-    let r = andThen-parsed (readNode k names openMost 0 s p) (λ t s p. ended (nextIs 59 (skip s)) needed t (skip s) (p + blanks s)) h in
+readTreeTo-sound given k names needed s p h =
+    let r = andThen-parsed (readNode given k names openMost 0 s p) (λ t s p. ended (nextIs 59 (skip s)) needed t (skip s) (p + blanks s)) h in
     let m = r .left in
-    ended-read names (nextIs 59 (skip m)) needed (r .value) s m (r .place + blanks m)
-    (readNode-sound k names openMost 0 s p (r .value) m (r .place) (r .first)) refl (r .after)
+    ended-read given names (nextIs 59 (skip m)) needed (r .value) s m (r .place + blanks m)
+    (readNode-sound given k names openMost 0 s p (r .value) m (r .place) (r .first)) refl (r .after)
 
 -- an answered tree: it is drawn by the grammar, has each species once at most and all that are needed, no leaf off the roster, and reading moved on
-pub record TreeSound (names : List (List ℕ)) (needed : ℕ) (s : List ℕ) (p : ℕ) (t : Tree) (rest : List ℕ) (q : ℕ) : Type 0 where
-  pub derives : Text (strict names) openMost s t rest
+pub record TreeSound (given : Bool) (names : List (List ℕ)) (needed : ℕ) (s : List ℕ) (p : ℕ) (t : Tree) (rest : List ℕ) (q : ℕ) : Type 0 where
+  pub derives : Text (strict given names) openMost s t rest
   pub once : NoneTwice (leaves t)
   pub all : Within needed (cluster t)
   pub known : AllKnown names (leaves t)
   pub moved : Advances s p rest q
 
 pub read-sound :
-    (names : List (List ℕ)) (needed : ℕ) (s : List ℕ) (p : ℕ) {t : Tree} {rest : List ℕ} {q : ℕ}
-    → readTree names needed s p ≡ parsed t rest q → TreeSound names needed s p t rest q
+    (given : Bool) (names : List (List ℕ)) (needed : ℕ) (s : List ℕ) (p : ℕ) {t : Tree} {rest : List ℕ} {q : ℕ}
+    → readTree given names needed s p ≡ parsed t rest q → TreeSound given names needed s p t rest q
 unfolding readTreeBy
-read-sound names needed s p h =
-    let r = readTreeTo-sound (2 * length s + 1) names needed s p h in
-    record { derives = r .derives; once = r .once; all = r .all; known = text-known names (r .derives); moved = readTree-advances names needed s p h }
+read-sound given names needed s p h =
+    let r = readTreeTo-sound given (2 * length s + 1) names needed s p h in
+    record { derives = r .derives; once = r .once; all = r .all; known = text-known given names (r .derives); moved = readTree-advances given names needed s p h }

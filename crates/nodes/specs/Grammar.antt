@@ -1,7 +1,7 @@
 -- Which texts draw which tree (01, "Tree text"), as rules: `X .. s rest` says that s begins with an X and that rest is what follows it.
 use Prim.Native.Nat.{ℕ, suc, _≤_, _<_}
 use mathlib.Core.Path.{_≡_}
-use mathlib.Core.Bool.{true}
+use mathlib.Core.Bool.{Bool, true, false}
 use mathlib.Core.List.{List, [], _∷_, _++_}
 use lib.ListN.{length}
 use Rattle.labels.specs.Bytes.{isDigit, isBlank}
@@ -12,27 +12,31 @@ use Rattle.trees.specs.Tree.Tree.{leaf, node}
 use Rattle.trees.specs.Tree.Forest.{last, more}
 use Rattle.roster.specs.Roster.{position}
 use Rattle.tokens.specs.Tokens.{numberBytes}
+use Rattle.tokens.specs.Supports.{refusesFine}
 
--- which names and numbers a grammar takes, by the roster and the limits, and how many nodes it wants in a parenthesis.
+-- which names, distances and supports a grammar takes, by the roster and the limits, and how many nodes it wants in a parenthesis.
 -- It is told a name or a number, for a leaf's name its species, the text from its first raw byte on, and the text behind it
 pub record Rules : Type 1 where
   pub leafName : List ℕ → ℕ → List ℕ → List ℕ → Type 0
   pub innerName : List ℕ → List ℕ → List ℕ → Type 0
-  pub number : List ℕ → List ℕ → List ℕ → Type 0
+  pub distance : List ℕ → List ℕ → List ℕ → Type 0
+  pub support : List ℕ → List ℕ → List ℕ → Type 0
   pub fewest : ℕ
 
--- 01's: a leaf's name is on the roster, at its species; names and numbers keep their limits; "a parenthesis of two or more nodes"
-abbrev pub strict : List (List ℕ) → Rules
-strict names = record {
+-- 01's: a leaf's name is on the roster, at its species; names and numbers keep their limits; "a parenthesis of two or more nodes".
+-- Where a threshold is given, no support has "more than three decimals" (#113)
+abbrev pub strict : Bool → List (List ℕ) → Rules
+strict given names = record {
   leafName = λ w i s rest. (length w ≤ labelBytes) × (position w names ≡ i) × (i < length names);
   innerName = λ w s rest. length w ≤ labelBytes;
-  number = λ w s rest. length w ≤ numberBytes;
+  distance = λ w s rest. length w ≤ numberBytes;
+  support = λ w s rest. (length w ≤ numberBytes) × (refusesFine given w ≡ false);
   fewest = 2;
 }
 
 -- limits and roster lifted: any name may be any species
 abbrev pub liftedTo : ℕ → Rules
-liftedTo least = record { leafName = λ w i s rest. Unit {0}; innerName = λ w s rest. Unit {0}; number = λ w s rest. Unit {0}; fewest = least }
+liftedTo least = record { leafName = λ w i s rest. Unit {0}; innerName = λ w s rest. Unit {0}; distance = λ w s rest. Unit {0}; support = λ w s rest. Unit {0}; fewest = least }
 
 -- still with two or more nodes in a parenthesis
 abbrev pub lifted : Rules
@@ -52,16 +56,16 @@ pub data Number : List ℕ → List ℕ → List ℕ → Type 0 where
   whole : {w s rest : List ℕ} → Run isDigit w s rest → Number w s rest
   decimal : {v w s mid rest : List ℕ} → Run isDigit v s (46 ∷ mid) → Run isDigit w mid rest → Number (v ++ 46 ∷ w) s rest
 
--- a colon and a number, blanks before each
-pub data ColonNumber (R : Rules) : List ℕ → List ℕ → List ℕ → Type 0 where
-  colon : {w s s₁ s₂ rest : List ℕ} → Blanks s (58 ∷ s₁) → Blanks s₁ s₂ → Number w s₂ rest → R .number w s₂ rest → ColonNumber R w s rest
+-- a colon and a number that is taken, blanks before each
+pub data ColonNumber (Takes : List ℕ → List ℕ → List ℕ → Type 0) : List ℕ → List ℕ → List ℕ → Type 0 where
+  colon : {w s s₁ s₂ rest : List ℕ} → Blanks s (58 ∷ s₁) → Blanks s₁ s₂ → Number w s₂ rest → Takes w s₂ rest → ColonNumber Takes w s rest
 
 -- "after either may follow `:d`, `:d:b` or `::b`": d and b, empty where they are not written
 pub data Numbers (R : Rules) : List ℕ → List ℕ → List ℕ → List ℕ → Type 0 where
   nothing : {s : List ℕ} → Numbers R [] [] s s
-  distance : {d s rest : List ℕ} → ColonNumber R d s rest → Numbers R d [] s rest
-  both : {d b s mid rest : List ℕ} → ColonNumber R d s mid → ColonNumber R b mid rest → Numbers R d b s rest
-  support : {b s mid rest : List ℕ} → Blanks s (58 ∷ mid) → ColonNumber R b mid rest → Numbers R [] b s rest
+  distance : {d s rest : List ℕ} → ColonNumber (R .distance) d s rest → Numbers R d [] s rest
+  both : {d b s mid rest : List ℕ} → ColonNumber (R .distance) d s mid → ColonNumber (R .support) b mid rest → Numbers R d b s rest
+  support : {b s mid rest : List ℕ} → Blanks s (58 ∷ mid) → ColonNumber (R .support) b mid rest → Numbers R [] b s rest
 
 -- "then an optional name"
 pub data Inner (R : Rules) : List ℕ → List ℕ → List ℕ → Type 0 where

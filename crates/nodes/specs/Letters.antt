@@ -8,7 +8,7 @@ use Rattle.labels.specs.Bytes.{isName, run}
 use Rattle.labels.specs.Labels.{labelBytes}
 use Rattle.tokens.specs.Answers.{Answer}
 use Rattle.tokens.specs.Answers.Answer.{parsed, refused}
-use Rattle.tokens.specs.Tokens.{blanks, skip}
+use Rattle.tokens.specs.Tokens.{blanks, skip, numbers}
 use Rattle.nodes.specs.Reading.{Scanner}
 use Rattle.labels.specs.Base.{word}
 
@@ -35,6 +35,6 @@ readInnerBy true s p = readWord (skip s) (p + blanks s)
 unfoldable pub readInner : List ℕ → ℕ → Answer (List ℕ)
 readInner s p = readInnerBy (nextLetter (skip s)) s p
 
--- 01's names
+-- 01's names, and numbers that are not judged
 abbrev pub lettered : Scanner
-lettered = record { begins = λ s. nextLetter s; leafName = λ s p. readWord s p; innerName = λ s p. readInner s p }
+lettered = record { begins = λ s. nextLetter s; leafName = λ s p. readWord s p; innerName = λ s p. readInner s p; behind = λ w s p. numbers w s p }

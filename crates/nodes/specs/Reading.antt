@@ -6,54 +6,64 @@ use lib.ListN.{length}
 use lib.Dec.{ltb}
 use Rattle.clusters.specs.Sets.{single, union, apart, within}
 use Rattle.labels.specs.Bytes.{nextIs, nextLabel}
-use Rattle.trees.specs.Tree.{Tree, Forest, cluster}
+use Rattle.trees.specs.Tree.{Tree, Forest, Behind, cluster}
 use Rattle.trees.specs.Tree.Tree.{leaf, node}
 use Rattle.trees.specs.Tree.Forest.{last, more}
 use Rattle.roster.specs.Roster.{position}
 use Rattle.tokens.specs.Answers.{Answer, andThen, unexpected}
 use Rattle.tokens.specs.Answers.Answer.{parsed, refused}
-use Rattle.tokens.specs.Tokens.{blanks, skip, numbers, name, innerName}
+use Rattle.tokens.specs.Tokens.{blanks, skip, name, innerName}
+use Rattle.tokens.specs.Supports.{supported}
 
 -- "open parentheses at once | 15"
 abbrev pub openMost : ℕ
 openMost = 15
 
--- how names are scanned: where one begins, what a name answers, and what the optional name behind a parenthesis answers
+-- how the tokens of a node are scanned: where a name begins, what a name answers, what the optional name behind a parenthesis answers, and what stands behind a node
 pub record Scanner : Type 0 where
   pub begins : List ℕ → Bool
   pub leafName : List ℕ → ℕ → Answer (List ℕ)
   pub innerName : List ℕ → ℕ → Answer (List ℕ)
+  pub behind : List ℕ → List ℕ → ℕ → Answer Behind
 
--- labels with blanks and quotes (#103)
-abbrev pub labelled : Scanner
-labelled = record { begins = λ s. nextLabel s; leafName = λ s p. name s p; innerName = λ s p. innerName s p }
+-- labels with blanks and quotes (#103), and supports, which are judged where a threshold is given (#113)
+abbrev pub labelled : Bool → Scanner
+labelled given = record { begins = λ s. nextLabel s; leafName = λ s p. name s p; innerName = λ s p. innerName s p; behind = λ w s p. supported given w s p }
 
 -- "6 | leaf's name already used | its first byte"
-abbrev pub leafNew : Bool → ℕ → ℕ → List ℕ → ℕ → Answer Tree
-leafNew false i begun s p = refused 6 begun
-leafNew true i begun s p = andThen (numbers [] s p) (λ b s p. parsed (leaf i b) s p)
+abbrev pub leafNewBy : Scanner → Bool → ℕ → ℕ → List ℕ → ℕ → Answer Tree
+leafNewBy S false i begun s p = refused 6 begun
+leafNewBy S true i begun s p = andThen (S .behind [] s p) (λ b s p. parsed (leaf i b) s p)
+
+-- by the labels of #103, `given` says whether a threshold is (#113)
+abbrev pub leafNew : Bool → Bool → ℕ → ℕ → List ℕ → ℕ → Answer Tree
+leafNew given new i begun s p = leafNewBy (labelled given) new i begun s p
 
 -- "5 | leaf's name not on the roster | its first byte"
-abbrev pub leafKnown : Bool → ℕ → ℕ → ℕ → List ℕ → ℕ → Answer Tree
-leafKnown false i seen begun s p = refused 5 begun
-leafKnown true i seen begun s p = leafNew (apart (single i) seen) i begun s p
+abbrev pub leafKnownBy : Scanner → Bool → ℕ → ℕ → ℕ → List ℕ → ℕ → Answer Tree
+leafKnownBy S false i seen begun s p = refused 5 begun
+leafKnownBy S true i seen begun s p = leafNewBy S (apart (single i) seen) i begun s p
+
+-- by the labels of #103, `given` says whether a threshold is (#113)
+abbrev pub leafKnown : Bool → Bool → ℕ → ℕ → ℕ → List ℕ → ℕ → Answer Tree
+leafKnown given known i seen begun s p = leafKnownBy (labelled given) known i seen begun s p
 
 -- "A leaf's name is judged when its run ends: unknown, then repeated"; seen is the set of the species met so far
 unfoldable pub leafBy : Scanner → List (List ℕ) → ℕ → List ℕ → ℕ → Answer Tree
 leafBy S names seen s p =
-    andThen (S .leafName s p) (λ w rest q. leafKnown (ltb (position w names) (length names)) (position w names) seen p rest q)
+    andThen (S .leafName s p) (λ w rest q. leafKnownBy S (ltb (position w names) (length names)) (position w names) seen p rest q)
 
--- by the labels of #103
-abbrev pub leafAt : List (List ℕ) → ℕ → List ℕ → ℕ → Answer Tree
-leafAt names seen s p = leafBy labelled names seen s p
+-- by the labels of #103, `given` says whether a threshold is (#113)
+abbrev pub leafAt : Bool → List (List ℕ) → ℕ → List ℕ → ℕ → Answer Tree
+leafAt given names seen s p = leafBy (labelled given) names seen s p
 
 -- behind a closing parenthesis: "then an optional name; after either may follow" numbers
 unfoldable pub closingBy : Scanner → Tree → Forest → List ℕ → ℕ → Answer Tree
-closingBy S t f s p = andThen (S .innerName s p) (λ w s p. andThen (numbers w s p) (λ b s p. parsed (node t f b) s p))
+closingBy S t f s p = andThen (S .innerName s p) (λ w s p. andThen (S .behind w s p) (λ b s p. parsed (node t f b) s p))
 
--- by the labels of #103
-abbrev pub closing : Tree → Forest → List ℕ → ℕ → Answer Tree
-closing t f s p = closingBy labelled t f s p
+-- by the labels of #103, `given` says whether a threshold is (#113)
+abbrev pub closing : Bool → Tree → Forest → List ℕ → ℕ → Answer Tree
+closing given t f s p = closingBy (labelled given) t f s p
 
 -- behind a first child: a comma and the other children, or "7 | `)` closes a single child | the `)`"
 abbrev pub afterFirstBy : Scanner → Bool → Bool → (ℕ → List ℕ → ℕ → Answer Forest) → ℕ → Tree → List ℕ → ℕ → Answer Tree
@@ -61,9 +71,9 @@ afterFirstBy S true closes others seen t s p = andThen (others (union seen (clus
 afterFirstBy S false true others seen t s p = refused 7 p
 afterFirstBy S false false others seen t s p = unexpected s p
 
--- by the labels of #103
-abbrev pub afterFirst : Bool → Bool → (ℕ → List ℕ → ℕ → Answer Forest) → ℕ → Tree → List ℕ → ℕ → Answer Tree
-afterFirst comma closes others seen t s p = afterFirstBy labelled comma closes others seen t s p
+-- by the labels of #103, `given` says whether a threshold is (#113)
+abbrev pub afterFirst : Bool → Bool → Bool → (ℕ → List ℕ → ℕ → Answer Forest) → ℕ → Tree → List ℕ → ℕ → Answer Tree
+afterFirst given comma closes others seen t s p = afterFirstBy (labelled given) comma closes others seen t s p
 
 -- behind `(`: a first child, then the others; room says how many parentheses may still open: "8 | sixteenth open parenthesis | the `(`"
 abbrev pub openedBy : Scanner → (ℕ → ℕ → List ℕ → ℕ → Answer Tree) → (ℕ → ℕ → List ℕ → ℕ → Answer Forest) → ℕ → ℕ → List ℕ → ℕ → Answer Tree
@@ -72,9 +82,9 @@ openedBy S first others (suc room) seen s p =
     andThen (first room seen (tail s) (p + 1))
     (λ t s p. afterFirstBy S (nextIs 44 (skip s)) (nextIs 41 (skip s)) (λ e s p. others room e s p) seen t (skip s) (p + blanks s))
 
--- by the labels of #103
-abbrev pub opened : (ℕ → ℕ → List ℕ → ℕ → Answer Tree) → (ℕ → ℕ → List ℕ → ℕ → Answer Forest) → ℕ → ℕ → List ℕ → ℕ → Answer Tree
-opened first others room seen s p = openedBy labelled first others room seen s p
+-- by the labels of #103, `given` says whether a threshold is (#113)
+abbrev pub opened : Bool → (ℕ → ℕ → List ℕ → ℕ → Answer Tree) → (ℕ → ℕ → List ℕ → ℕ → Answer Forest) → ℕ → ℕ → List ℕ → ℕ → Answer Tree
+opened given first others room seen s p = openedBy (labelled given) first others room seen s p
 
 -- "A node is a leaf's name, or a parenthesis of two or more nodes parted by commas"
 abbrev pub nodeOf :
@@ -93,9 +103,10 @@ nodeOf S true opens names first others room seen s p = leafBy S names seen s p
 nodeOf S false true names first others room seen s p = openedBy S first others room seen s p
 nodeOf S false false names first others room seen s p = unexpected s p
 
--- by the labels of #103
+-- by the labels of #103, `given` says whether a threshold is (#113)
 abbrev pub nodeBy :
     Bool
+    → Bool
     → Bool
     → List (List ℕ)
     → (ℕ → ℕ → List ℕ → ℕ → Answer Tree)
@@ -105,7 +116,7 @@ abbrev pub nodeBy :
     → List ℕ
     → ℕ
     → Answer Tree
-nodeBy begins opens names first others room seen s p = nodeOf labelled begins opens names first others room seen s p
+nodeBy given begins opens names first others room seen s p = nodeOf (labelled given) begins opens names first others room seen s p
 
 -- behind a later child: a comma and one more at the least, or the closing parenthesis
 abbrev pub afterChild : Bool → Bool → (ℕ → List ℕ → ℕ → Answer Forest) → ℕ → Tree → List ℕ → ℕ → Answer Forest
@@ -131,13 +142,13 @@ unfoldable mutual
       (λ t s p.
       afterChild (nextIs 44 (skip s)) (nextIs 41 (skip s)) (λ e s p. readForestBy S k names room e s p) seen t (skip s) (p + blanks s))
 
--- by the labels of #103
-abbrev pub readNode : ℕ → List (List ℕ) → ℕ → ℕ → List ℕ → ℕ → Answer Tree
-readNode k names room seen s p = readNodeBy labelled k names room seen s p
+-- by the labels of #103, `given` says whether a threshold is (#113)
+abbrev pub readNode : Bool → ℕ → List (List ℕ) → ℕ → ℕ → List ℕ → ℕ → Answer Tree
+readNode given k names room seen s p = readNodeBy (labelled given) k names room seen s p
 
--- by the labels of #103
-abbrev pub readForest : ℕ → List (List ℕ) → ℕ → ℕ → List ℕ → ℕ → Answer Forest
-readForest k names room seen s p = readForestBy labelled k names room seen s p
+-- by the labels of #103, `given` says whether a threshold is (#113)
+abbrev pub readForest : Bool → ℕ → List (List ℕ) → ℕ → ℕ → List ℕ → ℕ → Answer Forest
+readForest given k names room seen s p = readForestBy (labelled given) k names room seen s p
 
 -- "9 | `;` with a species missing | the `;`": needed is the set of the species that must be there
 abbrev pub complete : Bool → Tree → List ℕ → ℕ → Answer Tree
@@ -154,14 +165,14 @@ unfoldable pub readTreeToBy : Scanner → ℕ → List (List ℕ) → ℕ → Li
 readTreeToBy S k names needed s p =
     andThen (readNodeBy S k names openMost 0 s p) (λ t s p. ended (nextIs 59 (skip s)) needed t (skip s) (p + blanks s))
 
--- by the labels of #103
-abbrev pub readTreeTo : ℕ → List (List ℕ) → ℕ → List ℕ → ℕ → Answer Tree
-readTreeTo k names needed s p = readTreeToBy labelled k names needed s p
+-- by the labels of #103, `given` says whether a threshold is (#113)
+abbrev pub readTreeTo : Bool → ℕ → List (List ℕ) → ℕ → List ℕ → ℕ → Answer Tree
+readTreeTo given k names needed s p = readTreeToBy (labelled given) k names needed s p
 
 -- the tree at the front of s, which begins at place p
 unfoldable pub readTreeBy : Scanner → List (List ℕ) → ℕ → List ℕ → ℕ → Answer Tree
 readTreeBy S names needed s p = readTreeToBy S (2 * length s + 1) names needed s p
 
--- by the labels of #103
-abbrev pub readTree : List (List ℕ) → ℕ → List ℕ → ℕ → Answer Tree
-readTree names needed s p = readTreeBy labelled names needed s p
+-- by the labels of #103, `given` says whether a threshold is (#113)
+abbrev pub readTree : Bool → List (List ℕ) → ℕ → List ℕ → ℕ → Answer Tree
+readTree given names needed s p = readTreeBy (labelled given) names needed s p

@@ -13,30 +13,44 @@ use labels::scan;
 use roster::species;
 use tokens::BehindRead;
 use tokens::Refusal;
+use tokens::Threshold;
 use tokens::behind::behind;
 use tokens::behind_refusal;
+use tokens::below;
 use tokens::label_refusal;
 
-// A node with this set of leaves ends behind what was read: its cluster is stored.
+// A node with this set of leaves ends behind what was read: its cluster is stored, unless its support lies below its own threshold.
 pub(crate) fn ended(
     read: BehindRead,
+    own: Threshold,
     mask: u32,
     seen: u32,
     stored: usize,
     found: &mut [u32],
 ) -> NodeRead
     requires { ⌜ stored < length (now found) ⌝ }
-    ensures { λ r. ⌜ r ≡ endedAs mask seen stored read ⌝ }
-    ensures { λ _. ⌜ now (found .exit) ≡ keptAs mask stored (now (found .entry)) read ⌝ }
+    ensures { λ r. ⌜ r ≡ endedAs own mask seen stored read ⌝ }
+    ensures { λ _. ⌜ now (found .exit) ≡ keptAs own mask stored (now (found .entry)) read ⌝ }
 {
     let BehindRead::Behind(figures) = read else {
         return NodeRead::Refused(behind_refusal(read));
     };
+    let at = figures.next;
+    if below(own, figures.support) {
+        return NodeRead::Node {
+            mask: mask,
+            next: Cursor {
+                at: at,
+                seen: seen,
+                stored: stored,
+            },
+        };
+    }
     found[stored] = mask;
     NodeRead::Node {
         mask: mask,
         next: Cursor {
-            at: figures.next,
+            at: at,
             seen: seen,
             stored: stored + 1,
         },
@@ -49,10 +63,11 @@ pub(crate) fn leaf(
     table: &[u8],
     count: usize,
     c: Cursor,
+    threshold: Threshold,
     found: &mut [u32],
 ) -> NodeRead
     requires { ⌜ Given count (now table) (now found) (c .seen) (c .stored) ⌝ }
-    ensures { λ r. ⌜ ReadsLeaf (now (text .entry)) (now (table .entry)) count c (now (found .entry)) (now (found .exit)) r ⌝ }
+    ensures { λ r. ⌜ ReadsLeaf threshold (now (text .entry)) (now (table .entry)) count c (now (found .entry)) (now (found .exit)) r ⌝ }
 {
     let at = c.at;
     let seen = c.seen;
@@ -76,5 +91,14 @@ pub(crate) fn leaf(
             place: at,
         });
     }
-    ended(behind(text, next), mask, union(seen, mask), c.stored, found)
+    // a leaf never loses its cluster
+    let read = behind(text, next, threshold);
+    ended(
+        read,
+        Threshold::NoThreshold,
+        mask,
+        union(seen, mask),
+        c.stored,
+        found,
+    )
 }

@@ -16,6 +16,8 @@ use Rattle.trees.proofs.Nodes.{has-leaf, cluster-some}
 use Rattle.roster.specs.Roster.{names, faulty}
 use Rattle.roster.specs.Judged.{speciesMost}
 use Rattle.tokens.specs.Answers.Answer.{parsed}
+use Rattle.tokens.specs.Supports.{isGiven}
+use Rattle.tokens.specs.declared.answer.Threshold.{Threshold}
 use Rattle.reader.specs.Accepted.{MayHave, Draws, JustBehind, Accepted}
 use Rattle.reader.specs.Promise.{textMost, needed, fromStart, inLimit, onRoster, answerTo}
 use Rattle.reader.specs.declared.Kind.{Kind}
@@ -26,6 +28,8 @@ use Rattle.nodes.proofs.Sound.{read-sound, AllKnown}
 use Rattle.nodes.proofs.Exact.{Same}
 use Rattle.nodes.proofs.Complete.{read-complete}
 use Rattle.nodes.proofs.Unique.{tree-unique}
+use Rattle.nodes.proofs.Fronts.{text-allowed}
+use Rattle.nodes.specs.Grammar.{strict, Text}
 
 -- ---- the species of a tree whose leaves are on the roster, and which lacks none that it must have
 
@@ -55,18 +59,18 @@ behind-start text start {q = q} inside a =
     }
 
 pub accepted-derives :
-    (kind : Kind) (line text : List ℕ) (start : ℕ) {t : Tree} {rest : List ℕ} {q : ℕ}
-    → answerTo kind line text start ≡ parsed t rest q → Accepted kind line text start t rest q
+    (kind : Kind) (threshold : Threshold) (line text : List ℕ) (start : ℕ) {t : Tree} {rest : List ℕ} {q : ℕ}
+    → answerTo kind threshold line text start ≡ parsed t rest q → Accepted kind threshold line text start t rest q
 unfolding answerTo
-accepted-derives kind line text start {t} {rest} {q} h = judged (faulty speciesMost line) refl h
+accepted-derives kind threshold line text start {t} {rest} {q} h = judged (faulty speciesMost line) refl h
   where
     started :
         (b : Bool) → leb start (length text) ≡ b → faulty speciesMost line ≡ false → length text ≤ textMost
-        → fromStart kind b (names line) text start ≡ parsed t rest q → Accepted kind line text start t rest q
+        → fromStart kind threshold b (names line) text start ≡ parsed t rest q → Accepted kind threshold line text start t rest q
     started true is good short h =
         let ns = names line in
         let inside = leb-true start (length text) is in
-        let r = read-sound ns (needed kind (length ns)) (drop start text) start h in
+        let r = read-sound (isGiven threshold) ns (needed kind (length ns)) (drop start text) start h in
         record {
           draws = record {
             good = good;
@@ -82,33 +86,46 @@ accepted-derives kind line text start {t} {rest} {q} h = judged (faulty speciesM
 
     limited :
         (b : Bool) → leb (length text) textMost ≡ b → faulty speciesMost line ≡ false
-        → inLimit kind b (names line) text start ≡ parsed t rest q → Accepted kind line text start t rest q
+        → inLimit kind threshold b (names line) text start ≡ parsed t rest q → Accepted kind threshold line text start t rest q
     limited true is good h = started (leb start (length text)) refl good (leb-true (length text) textMost is) h
     limited false is good h = absurd (refused-parsed h)
 
-    judged : (b : Bool) → faulty speciesMost line ≡ b → onRoster kind b line text start ≡ parsed t rest q → Accepted kind line text start t rest q
+    judged : (b : Bool) → faulty speciesMost line ≡ b → onRoster kind threshold b line text start ≡ parsed t rest q → Accepted kind threshold line text start t rest q
     judged true is h = absurd (refused-parsed h)
     judged false is h = limited (leb (length text) textMost) refl is h
 
 -- ---- what is drawn is answered
 
 pub derives-accepted :
-    (kind : Kind) (line text : List ℕ) (start : ℕ) {t : Tree} {rest : List ℕ}
-    → Draws kind line text start t rest → answerTo kind line text start ≡ parsed t rest (length text - length rest)
+    (kind : Kind) (threshold : Threshold) (line text : List ℕ) (start : ℕ) {t : Tree} {rest : List ℕ}
+    → Draws kind threshold line text start t rest → answerTo kind threshold line text start ≡ parsed t rest (length text - length rest)
 unfolding answerTo
-derives-accepted kind line text start {t} {rest} d =
+derives-accepted kind threshold line text start {t} {rest} d =
     let ns = names line in
     let s = drop start text in
     let all = has-needed kind (length ns) (cluster t) (d .species) in
-    let r = read-complete ns (needed kind (length ns)) s start (d .derives) (d .once) all in
-    let a = readTree-advances ns (needed kind (length ns)) s start r in
+    let r = read-complete (isGiven threshold) ns (needed kind (length ns)) s start (d .derives) (d .once) all in
+    let a = readTree-advances (isGiven threshold) ns (needed kind (length ns)) s start r in
     let l = length-drop start text in
     let e : start + (length s - length rest) ≡ length text - length rest = omega (arith, advances-shorter a, d .inside) in
     rw (d .good, le-leb (length text) textMost (d .short), le-leb start (length text) (d .inside))
     (r ∙ ap (λ (q : ℕ). parsed t rest q) e)
 
--- a text draws one tree at most, of whatever kind
+-- what is a tree where supports are judged is one where they are not
+unjudged : (threshold : Threshold) (ns : List (List ℕ)) {k : ℕ} {s rest : List ℕ} {t : Tree} → Text (strict (isGiven threshold) ns) k s t rest → Text (strict false ns) k s t rest
+unjudged threshold ns d =
+    text-allowed (strict (isGiven threshold) ns) (strict false ns)
+    (record {
+      leafNames = λ w i s rest h. h;
+      innerNames = λ w s rest h. h;
+      distances = λ w s rest h. h;
+      supports = λ w s rest h. (h .0, refl);
+      singles = λ enough. enough;
+    }) d
+
+-- a text draws one tree at most, of whatever kind and by whatever threshold
 pub draws-one :
-    (kind kind′ : Kind) (line text : List ℕ) (start : ℕ) {t t′ : Tree} {rest rest′ : List ℕ}
-    → Draws kind line text start t rest → Draws kind′ line text start t′ rest′ → Same t t′ rest rest′
-draws-one kind kind′ line text start d d′ = tree-unique (names line) (d .derives) (d′ .derives)
+    (kind kind′ : Kind) (threshold threshold′ : Threshold) (line text : List ℕ) (start : ℕ) {t t′ : Tree} {rest rest′ : List ℕ}
+    → Draws kind threshold line text start t rest → Draws kind′ threshold′ line text start t′ rest′ → Same t t′ rest rest′
+draws-one kind kind′ threshold threshold′ line text start d d′ =
+    tree-unique false (names line) (unjudged threshold (names line) (d .derives)) (unjudged threshold′ (names line) (d′ .derives))

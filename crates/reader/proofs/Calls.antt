@@ -14,6 +14,8 @@ use Rattle.roster.proofs.Names.{table-finds}
 use Rattle.tokens.specs.Answers.Answer.{refused}
 use Rattle.nodes.specs.Reading.{openMost, readTree, readTreeTo, readTreeBy, readTreeToBy}
 use Rattle.nodes.specs.Core.{Holds}
+use Rattle.tokens.specs.Supports.{isGiven}
+use Rattle.tokens.specs.declared.answer.Threshold.{Threshold}
 use Rattle.reader.specs.Work.{treeAnswer, ReadsRecord}
 use Rattle.reader.specs.Promise.{textMost, needed, readingOf, answerTo, Reads}
 use Rattle.reader.specs.declared.Kind.{Kind}
@@ -29,10 +31,10 @@ holds-names line roster judged good =
       finds = λ s short. rw (g .1, g .2) (table-finds speciesMost line (g .0) s short);
     }
 
-module _ (kind : Kind) (line text : List ℕ) (start : ℕ) (roster : Roster) (judged : roster ≡ rosterOf speciesMost line) (r : Reading) where
+module _ (kind : Kind) (threshold : Threshold) (line text : List ℕ) (start : ℕ) (roster : Roster) (judged : roster ≡ rosterOf speciesMost line) (r : Reading) where
   -- "1 | roster faulty"
   pub roster-refused :
-      (roster .number ≡ 0 → ⊥) → r ≡ readingOf start (refused (roster .number) (roster .place)) → Reads kind line text start r
+      (roster .number ≡ 0 → ⊥) → r ≡ readingOf threshold start (refused (roster .number) (roster .place)) → Reads kind threshold line text start r
   unfolding Reads answerTo
   roster-refused faulted is =
       let f = read-faulty speciesMost line roster judged faulted in
@@ -40,20 +42,20 @@ module _ (kind : Kind) (line text : List ℕ) (start : ℕ) (roster : Roster) (j
 
   module _ (good : roster .number ≡ 0) where
     -- "2 | text over 65,536 bytes"
-    pub long-refused : textMost < length text → r ≡ readingOf start (refused 2 textMost) → Reads kind line text start r
+    pub long-refused : textMost < length text → r ≡ readingOf threshold start (refused 2 textMost) → Reads kind threshold line text start r
     unfolding Reads answerTo
     long-refused h is = rw (read-good speciesMost line roster judged good .0, lt-leb (length text) textMost h) is
 
     module _ (short : length text ≤ textMost) where
       -- "A start beyond the text gives 10"
-      pub start-refused : length text < start → r ≡ readingOf start (refused 10 (length text)) → Reads kind line text start r
+      pub start-refused : length text < start → r ≡ readingOf threshold start (refused 10 (length text)) → Reads kind threshold line text start r
       unfolding Reads answerTo
       start-refused h is =
           rw (read-good speciesMost line roster judged good .0, le-leb (length text) textMost short, lt-leb start (length text) h) is
 
       pub tree-recorded :
-          (all : ℕ) → all ≡ needed kind (roster .count) → start ≤ length text → ReadsRecord text (roster .table) (roster .count) all start openMost r
-          → Reads kind line text start r
+          (all : ℕ) → all ≡ needed kind (roster .count) → start ≤ length text → ReadsRecord threshold text (roster .table) (roster .count) all start openMost r
+          → Reads kind threshold line text start r
       unfolding Reads answerTo ReadsRecord readTreeBy readTreeToBy treeAnswer
       tree-recorded all is h reads =
           let g = read-good speciesMost line roster judged good in

@@ -3,3 +3,4 @@ pub mod ByKind
 pub mod Calls
 pub mod Replies
 pub mod TreeWays
+pub mod ByThreshold

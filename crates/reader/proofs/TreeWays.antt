@@ -9,7 +9,7 @@ use lib.Seq.{length-sets}
 use lib.Pow.{pow-mono, pow-pos}
 use Rattle.clusters.specs.Sets.{within}
 use Rattle.clusters.proofs.Sizes.{size-le}
-use Rattle.trees.specs.Tree.{Tree, cluster, clusters}
+use Rattle.trees.specs.Tree.{Tree, cluster}
 use Rattle.trees.specs.Records.{recordOf}
 use Rattle.labels.specs.Bytes.{nextIs}
 use Rattle.tokens.specs.Answers.Answer.{parsed, refused}
@@ -17,15 +17,19 @@ use Rattle.tokens.specs.Tokens.{blanks, skip}
 use Rattle.tokens.specs.Says.{strayAt}
 use Rattle.tokens.specs.declared.answer.Refusal.{Refusal}
 use Rattle.nodes.specs.Reading.{readNode, complete, ended}
-use Rattle.nodes.specs.Core.{nodeFault, Holds, Given, NodeReads}
+use Rattle.nodes.specs.Core.{leftIn, nodeFault, Holds, Given, NodeReads}
+use Rattle.tokens.specs.Supports.{isGiven}
+use Rattle.tokens.specs.declared.answer.Threshold.{Threshold}
+use Rattle.tokens.specs.declared.answer.Threshold.the-variants.{NoThreshold, Below}
 use Rattle.reader.specs.Work.{treeAnswer, ReadsTree}
-use Rattle.reader.specs.Promise.{readingOf}
+use Rattle.reader.specs.Promise.{clustersRead, readingOf}
 use Rattle.reader.specs.declared.Reading.{Reading}
 use Rattle.nodes.specs.declared.answer.Cursor.{Cursor}
 use Rattle.nodes.specs.declared.answer.NodeRead.{NodeRead}
 use Rattle.nodes.specs.declared.answer.NodeRead.the-variants.{Node, Refused as NoNode}
 use Rattle.nodes.proofs.Answers.{refused-parsed, andThen-parsed, unexpected-parsed}
 use Rattle.nodes.proofs.Growth.{Fresh, FreshTree, readNode-fresh}
+use Rattle.nodes.proofs.LeftClusters.{left-at-root, left-without, left-fresh}
 use Rattle.nodes.proofs.NodeAnswers.{node-refused, refused-node, TreeRead, node-read, read-node}
 use Rattle.nodes.proofs.NodeSteps.{end-missing, species-missing, tree-ends}
 use Rattle.nodes.proofs.NodeWays.{Asked, NodeCall, Followed, node-told}
@@ -34,8 +38,9 @@ use Rattle.trees.proofs.Stores.{getD-sets, take-sets}
 -- ---- a node and `;`
 
 -- a tree is read from its start on: nothing was met before
-abbrev pub fromStart : List ℕ → List ℕ → ℕ → ℕ → ℕ → List ℕ → Asked
-fromStart text table count start room before = record {
+abbrev pub fromStart : Threshold → List ℕ → List ℕ → ℕ → ℕ → ℕ → List ℕ → Asked
+fromStart threshold text table count start room before = record {
+  threshold = threshold;
   text = text;
   table = table;
   count = count;
@@ -47,55 +52,55 @@ fromStart text table count start room before = record {
 }
 
 module _
-    (text table : List ℕ) (count : ℕ) (names : List (List ℕ)) (holds : Holds names count table) (start needed room : ℕ) (before : List ℕ) (k : ℕ)
-    (deep : 2 * (length text - start) < k) (one : NodeCall (fromStart text table count start room before))
+    (threshold : Threshold) (text table : List ℕ) (count : ℕ) (names : List (List ℕ)) (holds : Holds names count table) (start needed room : ℕ) (before : List ℕ) (k : ℕ)
+    (deep : 2 * (length text - start) < k) (one : NodeCall NoThreshold (fromStart threshold text table count start room before))
   where
     open NodeCall one using (cursor, cursor-is, after as mid, result, reads)
 
-    root-told : NodeReads text 0 0 before mid (readNode k names room 0 (drop start text) start) result
-    root-told = node-told text table count names holds cursor start 0 0 cursor-is before mid result room k reads deep
+    root-told : NodeReads NoThreshold threshold text 0 0 before mid (readNode (isGiven threshold) k names room 0 (drop start text) start) result
+    root-told = node-told threshold text table count names holds cursor start 0 0 cursor-is before mid result room k NoThreshold reads deep
 
     pub root-refused-way :
-        (e : Refusal) → result ≡ NoNode e → NodeReads text 0 0 before mid (treeAnswer k names room needed (drop start text) start) result
+        (e : Refusal) → result ≡ NoNode e → NodeReads NoThreshold threshold text 0 0 before mid (treeAnswer (isGiven threshold) k names room needed (drop start text) start) result
     unfolding treeAnswer
     root-refused-way e told =
-        let h = refused-node text 0 0 before mid (readNode k names room 0 (drop start text) start) result e root-told told in
+        let h = refused-node NoThreshold threshold text 0 0 before mid (readNode (isGiven threshold) k names room 0 (drop start text) start) result e root-told told in
         rw told
-        (node-refused text 0 0 before mid (treeAnswer k names room needed (drop start text) start) e (rw (← h)))
+        (node-refused NoThreshold threshold text 0 0 before mid (treeAnswer (isGiven threshold) k names room needed (drop start text) start) e (rw (← h)))
 
     module _ (followed : Followed text result) where
       open Followed followed using (mask, next, told, here, passed)
 
-      root : TreeRead text 0 0 before mid (readNode k names room 0 (drop start text) start) mask next
-      root = read-node text 0 0 before mid (readNode k names room 0 (drop start text) start) result mask next root-told told
+      root : TreeRead NoThreshold threshold text 0 0 before mid (readNode (isGiven threshold) k names room 0 (drop start text) start) mask next
+      root = read-node NoThreshold threshold text 0 0 before mid (readNode (isGiven threshold) k names room 0 (drop start text) start) result mask next root-told told
 
       behind-root-is :
-          treeAnswer k names room needed (drop start text) start
+          treeAnswer (isGiven threshold) k names room needed (drop start text) start
           ≡ ended (nextIs 59 (skip (drop (next .at) text))) needed (root .tree) (skip (drop (next .at) text)) (next .at + blanks (drop (next .at) text))
       unfolding treeAnswer
       behind-root-is = rw (root .answered)
 
       pub end-missing-way :
           (e : Refusal) → nextIs 59 (drop here text) ≡ false → e ≡ strayAt (drop here text) here
-          → NodeReads text 0 0 before mid (treeAnswer k names room needed (drop start text) start) (NoNode e)
+          → NodeReads NoThreshold threshold text 0 0 before mid (treeAnswer (isGiven threshold) k names room needed (drop start text) start) (NoNode e)
       end-missing-way e t is =
-          node-refused text 0 0 before mid (treeAnswer k names room needed (drop start text) start) e
+          node-refused NoThreshold threshold text 0 0 before mid (treeAnswer (isGiven threshold) k names room needed (drop start text) start) e
           (rw (is, behind-root-is) (end-missing text (next .at) here passed needed (root .tree) t))
 
       module _ (t : nextIs 59 (drop here text) ≡ true) where
         pub species-missing-way :
             within needed mask ≡ false
-            → NodeReads text 0 0 before mid (treeAnswer k names room needed (drop start text) start) (NoNode (record { number = 9; place = here }))
+            → NodeReads NoThreshold threshold text 0 0 before mid (treeAnswer (isGiven threshold) k names room needed (drop start text) start) (NoNode (record { number = 9; place = here }))
         species-missing-way w =
-            node-refused text 0 0 before mid (treeAnswer k names room needed (drop start text) start) (record { number = 9; place = here })
+            node-refused NoThreshold threshold text 0 0 before mid (treeAnswer (isGiven threshold) k names room needed (drop start text) start) (record { number = 9; place = here })
             (rw (behind-root-is) (species-missing text (next .at) here passed needed (root .tree) t (rw (root .mask-is) at w)))
 
         pub tree-way :
             (end : Cursor) → within needed mask ≡ true → end ≡ record { at = here + 1; seen = next .seen; stored = next .stored }
-            → NodeReads text 0 0 before mid (treeAnswer k names room needed (drop start text) start) (Node mask end)
+            → NodeReads NoThreshold threshold text 0 0 before mid (treeAnswer (isGiven threshold) k names room needed (drop start text) start) (Node mask end)
         tree-way end w end-is =
             rw end-is
-            (node-read text 0 0 before mid (treeAnswer k names room needed (drop start text) start) mask
+            (node-read NoThreshold threshold text 0 0 before mid (treeAnswer (isGiven threshold) k names room needed (drop start text) start) mask
             (record { at = here + 1; seen = next .seen; stored = next .stored })
             (record {
               tree = root .tree;
@@ -117,16 +122,21 @@ ended-same true needed c s p e = complete-same (within needed (cluster c)) c s p
 ended-same false needed c s p e = absurd (unexpected-parsed s p e)
 
 pub tree-fresh :
-    (k : ℕ) (names : List (List ℕ)) (room needed : ℕ) (s : List ℕ) (p : ℕ) (x : Tree) (rest : List ℕ) (q : ℕ)
-    → treeAnswer k names room needed s p ≡ parsed x rest q → FreshTree (length names) 0 x
+    (threshold : Threshold) (k : ℕ) (names : List (List ℕ)) (room needed : ℕ) (s : List ℕ) (p : ℕ) (x : Tree) (rest : List ℕ) (q : ℕ)
+    → treeAnswer (isGiven threshold) k names room needed s p ≡ parsed x rest q → FreshTree (length names) 0 x
 unfolding treeAnswer
-tree-fresh k names room needed s p x rest q e =
-    let r = andThen-parsed (readNode k names room 0 s p) (λ t s p. ended (nextIs 59 (skip s)) needed t (skip s) (p + blanks s)) e in
+tree-fresh threshold k names room needed s p x rest q e =
+    let r = andThen-parsed (readNode (isGiven threshold) k names room 0 s p) (λ t s p. ended (nextIs 59 (skip s)) needed t (skip s) (p + blanks s)) e in
     let m = r .left in
     let is : x ≡ r .value = ended-same (nextIs 59 (skip m)) needed (r .value) (skip m) (r .place + blanks m) (r .after) in
-    rw is (readNode-fresh k names room 0 s p (r .value) m (r .place) (r .first))
+    rw is (readNode-fresh (isGiven threshold) k names room 0 s p (r .value) m (r .place) (r .first))
 
 -- ---- its record
+
+-- what is left in the table are the clusters that the tree is read to
+left-read : (threshold : Threshold) (t : Tree) → leftIn NoThreshold threshold t ≡ clustersRead threshold t
+left-read NoThreshold t = left-at-root NoThreshold t ∙ left-without t
+left-read (Below amount) t = left-at-root (Below amount) t
 
 -- an empty table has room for all
 pub given-empty :
@@ -142,29 +152,30 @@ given-empty count table held few long = record {
 }
 
 module _
-    (text table : List ℕ) (count : ℕ) (names : List (List ℕ)) (holds : Holds names count table) (start needed room : ℕ) (found : List ℕ) (r : NodeRead)
-    (reads : ReadsTree text table count needed start room (replicate 64 0) found r) (k : ℕ) (deep : 2 * (length text - start) < k)
+    (threshold : Threshold) (text table : List ℕ) (count : ℕ) (names : List (List ℕ)) (holds : Holds names count table) (start needed room : ℕ) (found : List ℕ) (r : NodeRead)
+    (reads : ReadsTree threshold text table count needed start room (replicate 64 0) found r) (k : ℕ) (deep : 2 * (length text - start) < k)
   where
-    tree-told : NodeReads text 0 0 (replicate 64 0) found (treeAnswer k names room needed (drop start text) start) r
+    tree-told : NodeReads NoThreshold threshold text 0 0 (replicate 64 0) found (treeAnswer (isGiven threshold) k names room needed (drop start text) start) r
     unfolding ReadsTree
     tree-told = reads names holds k deep
 
     pub reading-refused :
-        (e f : Refusal) (result : Reading) → r ≡ NoNode e → f ≡ nodeFault r → result ≡ readingOf start (refused (f .number) (f .place))
-        → result ≡ readingOf start (treeAnswer k names room needed (drop start text) start)
+        (e f : Refusal) (result : Reading) → r ≡ NoNode e → f ≡ nodeFault r → result ≡ readingOf threshold start (refused (f .number) (f .place))
+        → result ≡ readingOf threshold start (treeAnswer (isGiven threshold) k names room needed (drop start text) start)
     reading-refused e f result told fault is =
-        let h = refused-node text 0 0 (replicate 64 0) found (treeAnswer k names room needed (drop start text) start) r e tree-told told in
+        let h = refused-node NoThreshold threshold text 0 0 (replicate 64 0) found (treeAnswer (isGiven threshold) k names room needed (drop start text) start) r e tree-told told in
         let g : f ≡ e = rw told at fault in
         rw (← h, ← g) is
 
     module _ (mask : ℕ) (next : Cursor) (told : r ≡ Node mask next) (few : count ≤ 16) where
-      read-tree : TreeRead text 0 0 (replicate 64 0) found (treeAnswer k names room needed (drop start text) start) mask next
-      read-tree = read-node text 0 0 (replicate 64 0) found (treeAnswer k names room needed (drop start text) start) r mask next tree-told told
+      read-tree : TreeRead NoThreshold threshold text 0 0 (replicate 64 0) found (treeAnswer (isGiven threshold) k names room needed (drop start text) start) mask next
+      read-tree = read-node NoThreshold threshold text 0 0 (replicate 64 0) found (treeAnswer (isGiven threshold) k names room needed (drop start text) start) r mask next tree-told told
 
-      fresh : Fresh count 0 (cluster (read-tree .tree)) (clusters (read-tree .tree))
+      fresh : Fresh count 0 (cluster (read-tree .tree)) (leftIn NoThreshold threshold (read-tree .tree))
       fresh =
           rw (holds .counted) at
-          (tree-fresh k names room needed (drop start text) start (read-tree .tree) (drop (next .at) text) (next .at) (read-tree .answered))
+          (left-fresh NoThreshold threshold (read-tree .tree)
+          (tree-fresh threshold k names room needed (drop start text) start (read-tree .tree) (drop (next .at) text) (next .at) (read-tree .answered)))
 
       stored-few : next .stored ≤ 31
       stored-few =
@@ -173,23 +184,23 @@ module _
           omega (arith, f .counted, read-tree .stored-is)
 
       long : length found ≡ 64
-      long = rw (read-tree .table-is) (length-sets (replicate 64 0) 0 (clusters (read-tree .tree)) ∙ length-replicate {A = ℕ} 64 0)
+      long = rw (read-tree .table-is) (length-sets (replicate 64 0) 0 (leftIn NoThreshold threshold (read-tree .tree)) ∙ length-replicate {A = ℕ} 64 0)
 
       stored-within : next .stored ≤ length found
       stored-within = let f = stored-few in let l = long in omega arith
 
-      stored-is : next .stored ≡ length (clusters (read-tree .tree))
+      stored-is : next .stored ≡ length (leftIn NoThreshold threshold (read-tree .tree))
       stored-is = let s = read-tree .stored-is in omega arith
 
-      fits : length (clusters (read-tree .tree)) ≤ length (replicate {A = ℕ} 64 0)
+      fits : length (leftIn NoThreshold threshold (read-tree .tree)) ≤ length (replicate {A = ℕ} 64 0)
       fits = let f = stored-few in let s = stored-is in omega (arith, length-replicate {A = ℕ} 64 0)
 
       stored-narrow : (i : ℕ) → i < next .stored → getD found i 0 < 65536
       stored-narrow i h =
-          let l : i < length (clusters (read-tree .tree)) = let s = stored-is in omega arith in
+          let l : i < length (leftIn NoThreshold threshold (read-tree .tree)) = let s = stored-is in omega arith in
           let top : 2 ^ count ≤ 2 ^ 16 = pow-mono few in
           let b = fresh .each i l in
-          rw (read-tree .table-is, getD-sets (replicate 64 0) (clusters (read-tree .tree)) i fits l) (omega arith)
+          rw (read-tree .table-is, getD-sets (replicate 64 0) (leftIn NoThreshold threshold (read-tree .tree)) i fits l) (omega arith)
 
       -- few enough, all in the table, and each of them narrow
       pub stored-fit : (next .stored ≤ 31) × (next .stored ≤ length found × ((i : ℕ) → i < next .stored → getD found i 0 < 65536))
@@ -197,11 +208,11 @@ module _
 
       pub reading-recorded :
           (numbers : List ℕ) → numbers ≡ recordOf (take (next .stored) found)
-          → record { number = 0; place = 0; next = next .at; numbers = numbers } ≡ readingOf start (treeAnswer k names room needed (drop start text) start)
+          → record { number = 0; place = 0; next = next .at; numbers = numbers } ≡ readingOf threshold start (treeAnswer (isGiven threshold) k names room needed (drop start text) start)
       reading-recorded numbers is =
-          let cut : take (next .stored) found ≡ clusters (read-tree .tree) =
+          let cut : take (next .stored) found ≡ leftIn NoThreshold threshold (read-tree .tree) =
           ap (λ (n : ℕ). take n found) stored-is
-          ∙ ap (λ (l : List ℕ). take (length (clusters (read-tree .tree))) l) (read-tree .table-is)
-          ∙ take-sets (replicate 64 0) (clusters (read-tree .tree)) fits
+          ∙ ap (λ (l : List ℕ). take (length (leftIn NoThreshold threshold (read-tree .tree))) l) (read-tree .table-is)
+          ∙ take-sets (replicate 64 0) (leftIn NoThreshold threshold (read-tree .tree)) fits
           in
-          rw (read-tree .answered, is, cut)
+          rw (read-tree .answered, is, cut, left-read threshold (read-tree .tree))

@@ -7,11 +7,15 @@ use lib.ListN.{length, drop, replicate}
 use lib.Dec.{leb}
 use Rattle.clusters.specs.Sets.{whole}
 use Rattle.trees.specs.Tree.{Tree, clusters}
+use Rattle.trees.specs.Thinned.{clustersLeft}
 use Rattle.trees.specs.Records.{recordOf}
 use Rattle.roster.specs.Roster.{names, faulty, firstFault}
 use Rattle.roster.specs.Judged.{speciesMost}
 use Rattle.tokens.specs.Answers.{Answer}
 use Rattle.tokens.specs.Answers.Answer.{parsed, refused}
+use Rattle.tokens.specs.Supports.{isGiven, weak}
+use Rattle.tokens.specs.declared.answer.Threshold.{Threshold}
+use Rattle.tokens.specs.declared.answer.Threshold.the-variants.{NoThreshold, Below}
 use Rattle.nodes.specs.Reading.{readTree}
 use Rattle.reader.specs.declared.Kind.{Kind}
 use Rattle.reader.specs.declared.Kind.the-variants.{Species, Gene}
@@ -26,31 +30,36 @@ abbrev pub needed : Kind → ℕ → ℕ
 needed Species n = whole n
 needed Gene n = 0
 
+-- the clusters that a tree is read to: "An inner node, not the root, with support strictly below the threshold loses its cluster"; "without a threshold nothing changes" (#113)
+abbrev pub clustersRead : Threshold → Tree → List ℕ
+clustersRead NoThreshold t = clusters t
+clustersRead (Below amount) t = clustersLeft (λ b. weak (Below amount) b) t
+
 -- "A refused call returns .. an all-zero record .. and, from the reader, the offset it was given"; start is that offset.
 -- A tree is answered by its record and the offset just after `;`
-abbrev pub readingOf : ℕ → Answer Tree → Reading
-readingOf start (parsed t rest next) = record { number = 0; place = 0; next = next; numbers = recordOf (clusters t) }
-readingOf start (refused number place) = record { number = number; place = place; next = start; numbers = replicate 32 0 }
+abbrev pub readingOf : Threshold → ℕ → Answer Tree → Reading
+readingOf threshold start (parsed t rest next) = record { number = 0; place = 0; next = next; numbers = recordOf (clustersRead threshold t) }
+readingOf threshold start (refused number place) = record { number = number; place = place; next = start; numbers = replicate 32 0 }
 
 -- "A start beyond the text gives 10"
-abbrev pub fromStart : Kind → Bool → List (List ℕ) → List ℕ → ℕ → Answer Tree
-fromStart kind true ns text start = readTree ns (needed kind (length ns)) (drop start text) start
-fromStart kind false ns text start = refused 10 (length text)
+abbrev pub fromStart : Kind → Threshold → Bool → List (List ℕ) → List ℕ → ℕ → Answer Tree
+fromStart kind threshold true ns text start = readTree (isGiven threshold) ns (needed kind (length ns)) (drop start text) start
+fromStart kind threshold false ns text start = refused 10 (length text)
 
 -- "2 | text over 65,536 bytes | 65,536"
-abbrev pub inLimit : Kind → Bool → List (List ℕ) → List ℕ → ℕ → Answer Tree
-inLimit kind true ns text start = fromStart kind (leb start (length text)) ns text start
-inLimit kind false ns text start = refused 2 textMost
+abbrev pub inLimit : Kind → Threshold → Bool → List (List ℕ) → List ℕ → ℕ → Answer Tree
+inLimit kind threshold true ns text start = fromStart kind threshold (leb start (length text)) ns text start
+inLimit kind threshold false ns text start = refused 2 textMost
 
 -- "1 | roster faulty | first byte at fault"
-abbrev pub onRoster : Kind → Bool → List ℕ → List ℕ → ℕ → Answer Tree
-onRoster kind true line text start = refused 1 (firstFault speciesMost line)
-onRoster kind false line text start = inLimit kind (leb (length text) textMost) (names line) text start
+abbrev pub onRoster : Kind → Threshold → Bool → List ℕ → List ℕ → ℕ → Answer Tree
+onRoster kind threshold true line text start = refused 1 (firstFault speciesMost line)
+onRoster kind threshold false line text start = inLimit kind threshold (leb (length text) textMost) (names line) text start
 
 -- "Order for text: 1, 2, then as met"
-unfoldable pub answerTo : Kind → List ℕ → List ℕ → ℕ → Answer Tree
-answerTo kind line text start = onRoster kind (faulty speciesMost line) line text start
+unfoldable pub answerTo : Kind → Threshold → List ℕ → List ℕ → ℕ → Answer Tree
+answerTo kind threshold line text start = onRoster kind threshold (faulty speciesMost line) line text start
 
 -- the promise of `read`
-unfoldable pub Reads : Kind → List ℕ → List ℕ → ℕ → Reading → Type 0
-Reads kind line text start r = r ≡ readingOf start (answerTo kind line text start)
+unfoldable pub Reads : Kind → Threshold → List ℕ → List ℕ → ℕ → Reading → Type 0
+Reads kind threshold line text start r = r ≡ readingOf threshold start (answerTo kind threshold line text start)

@@ -1,6 +1,7 @@
 // Tree text read to a record, with every refusal.
 mod tree;
 
+pub use tokens::Threshold;
 pub use tree::read;
 
 // What a text is read as: a species tree has every species, a gene tree may lack some.

@@ -4,6 +4,7 @@ ghost use mathlib.Core.List.{List};
 ghost use Prim.Native.Nat.{ℕ, _*_, _≤_};
 ghost use lib.ListN.{length};
 ghost use Rattle.tokens.specs.Answers.Answer.{refused as Answer·refused};
+ghost use Rattle.tokens.specs.declared.answer.Threshold.the-variants.{NoThreshold};
 ghost use Rattle.nodes.specs.Core.{Holds, Given};
 ghost use Rattle.reader.specs.Work.{ReadsTree, ReadsRecord};
 ghost use Rattle.reader.specs.Promise.{needed, readingOf, Reads};
@@ -19,6 +20,7 @@ use nodes::node::node;
 use roster::parse;
 use sorting::record_of;
 use tokens::Refusal;
+use tokens::Threshold;
 use tokens::blanks;
 use tokens::next_is;
 use tokens::stray;
@@ -31,17 +33,20 @@ fn tree(
     needed: u32,
     start: usize,
     room: usize,
+    threshold: Threshold,
     found: &mut [u32],
 ) -> NodeRead
     requires { ⌜ Given count (now table) (now found) 0 0 ⌝ }
-    ensures { λ r. ⌜ ReadsTree (now (text .entry)) (now (table .entry)) count needed start room (now (found .entry)) (now (found .exit)) r ⌝ }
+    ensures { λ r. ⌜ ReadsTree threshold (now (text .entry)) (now (table .entry)) count needed start room (now (found .entry)) (now (found .exit)) r ⌝ }
 {
     let cursor = Cursor {
         at: start,
         seen: 0,
         stored: 0,
     };
-    let root = node(text, table, count, cursor, room, found);
+    // the root keeps its cluster, whatever its support
+    let own = Threshold::NoThreshold;
+    let root = node(text, table, count, cursor, room, threshold, own, found);
     let NodeRead::Node { mask, next } = root else {
         return root;
     };
@@ -75,7 +80,7 @@ fn needed(kind: Kind, count: usize) -> u32
 
 // A refused call: the offset that was given, and zeros.
 fn refused(start: usize, number: u32, place: usize) -> Reading
-    ensures { λ r. ⌜ r ≡ readingOf start (Answer·refused number place) ⌝ }
+    ensures { λ r. ⌜ r ≡ readingOf NoThreshold start (Answer·refused number place) ⌝ }
 {
     Reading {
         number: number,
@@ -93,14 +98,24 @@ fn recorded(
     needed: u32,
     start: usize,
     room: usize,
+    threshold: Threshold,
 ) -> Reading
     requires { ⌜ ((names : List (List ℕ)) × Holds names count (now table)) ⌝ }
     requires { ⌜ count ≤ 16 ⌝ }
     requires { ⌜ 16 * count ≤ length (now table) ⌝ }
-    ensures { λ r. ⌜ ReadsRecord (now (text .entry)) (now (table .entry)) count needed start room r ⌝ }
+    ensures { λ r. ⌜ ReadsRecord threshold (now (text .entry)) (now (table .entry)) count needed start room r ⌝ }
 {
     let mut found = [0u32; 64];
-    let read = tree(text, table, count, needed, start, room, &mut found);
+    let read = tree(
+        text,
+        table,
+        count,
+        needed,
+        start,
+        room,
+        threshold,
+        &mut found,
+    );
     let NodeRead::Node { mask: _, next } = read else {
         let fault = node_refusal(read);
         return refused(start, fault.number, fault.place);
@@ -115,9 +130,9 @@ fn recorded(
     }
 }
 
-// The tree of the kind that begins at `start`, over the names of the roster line.
-pub fn read(kind: Kind, line: &[u8], text: &[u8], start: usize) -> Reading
-    ensures { λ r. ⌜ Reads kind (now (line .entry)) (now (text .entry)) start r ⌝ }
+// The tree of the kind that begins at `start`, over the names of the roster line; where a threshold is given, without the clusters of weak inner nodes.
+pub fn read(kind: Kind, threshold: Threshold, line: &[u8], text: &[u8], start: usize) -> Reading
+    ensures { λ r. ⌜ Reads kind threshold (now (line .entry)) (now (text .entry)) start r ⌝ }
 {
     let roster = parse(line, 16);
     let number = roster.number;
@@ -132,5 +147,13 @@ pub fn read(kind: Kind, line: &[u8], text: &[u8], start: usize) -> Reading
     }
     let table = roster.table;
     let count = roster.count;
-    recorded(text, &table, count, needed(kind, count), start, 15)
+    recorded(
+        text,
+        &table,
+        count,
+        needed(kind, count),
+        start,
+        15,
+        threshold,
+    )
 }

@@ -75,7 +75,7 @@ module _ {n : ℕ} {genes genes′ : List ℕ} {count : ℕ} {allowed scores spl
 -- ---- whatever is judged before the search
 
 -- valid records are there whole
-valid-fit : {n : ℕ} (count : ℕ) (genes : List ℕ) → AllValid n (recordsIn count genes) → 32 * count ≤ length genes
+pub valid-fit : {n : ℕ} (count : ℕ) (genes : List ℕ) → AllValid n (recordsIn count genes) → 32 * count ≤ length genes
 unfolding pieces
 valid-fit zero genes v = omega arith
 valid-fit (suc count) genes v =

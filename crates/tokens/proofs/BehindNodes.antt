@@ -6,17 +6,17 @@ use mathlib.Core.Bool.{true, false}
 use mathlib.Core.List.{List, []}
 use lib.ListN.{drop}
 use lib.Seq.{drop-drop}
-use Rattle.labels.specs.Bytes.{run, nextIs, nextLabel}
+use Rattle.labels.specs.Bytes.{nextIs, nextLabel}
 use Rattle.labels.specs.Labels.{letters, Told, told, scannedBy, scannedAt}
 use Rattle.labels.specs.Labels.Told.{ended, faulty}
 use Rattle.tokens.specs.Answers.{andThen}
 use Rattle.tokens.specs.Answers.Answer.{parsed}
 use Rattle.tokens.specs.Tokens.{blanks, skip, number, numberBehind, secondNumber, firstNumber, numbers, nameBy, name, innerName}
-use Rattle.tokens.specs.Values.{leading, decimals, tooFine, thousandths}
 use Rattle.tokens.specs.Says.{between, Valued, nameSays, innerWord}
 use Rattle.tokens.specs.declared.answer.Figure.{Figure}
 use Rattle.tokens.specs.declared.answer.Value.the-variants.{NoValue}
 use Rattle.tokens.proofs.Places.{skip-to, tail-at}
+use Rattle.tokens.proofs.Values.{no-bytes}
 
 -- no bytes
 pub between-none : (text : List ℕ) (p : ℕ) → between text (record { from = p; to = p; value = NoValue }) ≡ []
@@ -24,8 +24,7 @@ between-none text p = let e : p - p ≡ 0 = omega arith in rw e
 
 -- have no value
 pub none-valued : (text : List ℕ) (p : ℕ) → Valued text (record { from = p; to = p; value = NoValue })
-unfolding thousandths tooFine decimals leading run
-none-valued text p = rw (between-none text p)
+none-valued text p = (rw (between-none text p) (no-bytes .0), rw (between-none text p) (omega arith))
 
 -- the blanks from `at` on end at `colon`
 module _ (text : List ℕ) (at colon : ℕ) (skipped : colon ≡ at + blanks (drop at text)) where

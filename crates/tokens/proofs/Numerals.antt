@@ -1,11 +1,11 @@
 -- A number read from a place of the text, for each way that it ends.
 use Prim.Native.Nat.{ℕ, zero, suc, _+_, _-_, _≤_, _<_}
 use native.Mathlib.Omega.{arith}
-use mathlib.Core.Path.{_≡_, sym, _∙_}
+use mathlib.Core.Path.{_≡_, sym, ap, _∙_}
 use mathlib.Core.Bool.{Bool, true, false}
 use mathlib.Core.List.{List}
-use lib.ListN.{length, drop}
-use lib.Seq.{drop-drop}
+use lib.ListN.{length, drop, length-drop}
+use lib.Seq.{drop-drop, length-take-le}
 use borrow.Author.Tests.{le-leb, lt-leb}
 use Rattle.labels.specs.Bytes.{isDigit, run, nextIs}
 use Rattle.labels.proofs.Runs.{run-left}
@@ -21,6 +21,12 @@ module _ (text : List ℕ) (at n : ℕ) where
   pub numeral-short :
       (v : Value) → n ≤ 12 → parsed (between text (record { from = at; to = at + n; value = v })) (drop (at + n) text) (at + n) ≡ numeral n (drop at text) at
   numeral-short v h = let e : at + n - at ≡ n = omega arith in rw (e, le-leb n 12 h, drop-drop n at text)
+
+  -- and where the text has them, they stand between the two places
+  pub numeral-within : (v : Value) → at + n ≤ length text → at + n ≡ at + length (between text (record { from = at; to = at + n; value = v }))
+  numeral-within v h =
+      let e : at + n - at ≡ n = omega arith in
+      rw e (ap (λ (l : ℕ). at + l) (sym (length-take-le n (drop at text) (omega (arith, length-drop at text)))))
 
   pub numeral-long : 12 < n → refused 4 (at + 12) ≡ numeral n (drop at text) at
   numeral-long h = rw (lt-leb n 12 h)

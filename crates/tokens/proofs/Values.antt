@@ -25,6 +25,11 @@ value-some fine (d ∷ w) ds h = refl
 pub no-value : {n : ℕ} → NoValue ≡ Thousandths n → ⊥
 no-value e = let z : _≡_ {A = ℕ} 0 1 = cc in absurd (omega arith)
 
+-- no bytes have no value, and are not too fine
+pub no-bytes : (NoValue ≡ thousandths []) × (tooFine [] ≡ false)
+unfolding thousandths tooFine decimals leading run
+no-bytes = (refl, refl)
+
 -- bytes with `whole` digits in front, and `part` behind the byte that ends them
 module _ (bytes : List ℕ) (whole : ℕ) (first : whole ≡ run isDigit bytes) where
   leading-is : leading bytes ≡ take whole bytes
@@ -143,7 +148,8 @@ zero-behind v w before some behind few =
 
 -- ---- a number has no value exactly where it is too fine
 
-number-value : (bytes : List ℕ) → 0 < run isDigit bytes → thousandths bytes ≡ valueUnless (tooFine bytes) (1000 * written (leading bytes) + written (filled (decimals bytes)))
+-- bytes that begin with a digit have the value of their digits, unless they are too fine
+pub number-value : (bytes : List ℕ) → 0 < run isDigit bytes → thousandths bytes ≡ valueUnless (tooFine bytes) (1000 * written (leading bytes) + written (filled (decimals bytes)))
 unfolding thousandths
 number-value bytes some = value-some (tooFine bytes) (leading bytes) (decimals bytes) (omega (arith, leading-many bytes (run isDigit bytes) refl))
 

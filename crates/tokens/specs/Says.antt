@@ -1,9 +1,10 @@
 -- What the code's answers say of the text: the number and the place of a fault, or what was read and where reading goes on.
-use Prim.Native.Nat.{ℕ, _-_}
+use Prim.Native.Nat.{ℕ, _+_, _-_}
 use mathlib.Core.Path.{_≡_}
 use mathlib.Core.Bool.{Bool, true, false}
 use mathlib.Core.List.{List, [], _∷_}
-use lib.ListN.{take, drop}
+use lib.ListN.{length, take, drop}
+use lib.Dec.{ltb}
 use Rattle.labels.specs.Bytes.{nextLabel}
 use Rattle.labels.specs.Labels.{letters}
 use Rattle.labels.specs.declared.Label.{Label}
@@ -14,7 +15,12 @@ use Rattle.tokens.specs.Answers.Answer.{parsed, refused}
 use Rattle.tokens.specs.Tokens.{skip}
 use Rattle.tokens.specs.Values.{thousandths}
 use Rattle.tokens.specs.declared.answer.Refusal.{Refusal}
+use Rattle.tokens.specs.declared.answer.Value.{Value}
+use Rattle.tokens.specs.declared.answer.Value.the-variants.{Thousandths, NoValue}
+use Rattle.tokens.specs.declared.answer.Threshold.{Threshold}
+use Rattle.tokens.specs.declared.answer.Threshold.the-variants.{NoThreshold, Below}
 use Rattle.tokens.specs.declared.answer.Figure.{Figure}
+use Rattle.tokens.specs.declared.answer.Figures.{Figures}
 use Rattle.tokens.specs.declared.answer.NumberRead.{NumberRead}
 use Rattle.tokens.specs.declared.answer.NumberRead.the-variants.{Number, Refused as NoNumber}
 use Rattle.tokens.specs.declared.answer.BehindRead.{BehindRead}
@@ -37,9 +43,9 @@ strayAt (b ∷ s) p = record { number = 3; place = p }
 abbrev pub between : List ℕ → Figure → List ℕ
 between text f = take (f .to - f .from) (drop (f .from) text)
 
--- "yields whole thousandths, .., in everything that reads tree text" (#113): a number's value is that of its bytes
+-- "yields whole thousandths, .., in everything that reads tree text" (#113): a number's value is that of its bytes, and these stand between its places
 abbrev pub Valued : List ℕ → Figure → Type 0
-Valued text f = f .value ≡ thousandths (between text f)
+Valued text f = (f .value ≡ thousandths (between text f)) × (f .to ≡ f .from + length (between text f))
 
 -- a number was read, or a fault was met
 abbrev pub numberSays : List ℕ → NumberRead → Answer (List ℕ)
@@ -62,10 +68,30 @@ behindSays text w (Extended e) =
     parsed (record { name = w; distance = between text (e .distance); support = between text (e .support) }) (drop (e .next) text) (e .next)
 behindSays text w (NotExtended e) = refusal e
 
--- both numbers behind a node have their values
+-- both numbers behind a node have their values, and they end where the support does, which has no bytes where none is written
 abbrev pub behindValued : List ℕ → BehindRead → Type 0
-behindValued text (Extended e) = Valued text (e .distance) × Valued text (e .support)
+behindValued text (Extended e) = Valued text (e .distance) × Valued text (e .support) × (e .next ≡ e .support .to)
 behindValued text (NotExtended e) = Unit {0}
+
+-- by a number's value: it has bytes and no value, so more than three decimals
+abbrev pub fineBy : Value → ℕ → ℕ → Bool
+fineBy (Thousandths n) from to = false
+fineBy NoValue from to = ltb from to
+
+-- the support is too fine
+abbrev pub fineFigure : Figure → Bool
+fineFigure f = fineBy (f .value) (f .from) (f .to)
+
+-- refused by 18 at its first byte, or not
+abbrev pub fineAs : Bool → Figures → BehindRead
+fineAs true e = NotExtended (record { number = 18; place = e .support .from })
+fineAs false e = Extended e
+
+-- what was read behind a node, its support judged where a threshold is given
+abbrev pub judgedAs : Threshold → BehindRead → BehindRead
+judgedAs threshold (NotExtended e) = NotExtended e
+judgedAs NoThreshold (Extended e) = Extended e
+judgedAs (Below amount) (Extended e) = fineAs (fineFigure (e .support)) e
 
 -- the refusal of what stands behind a node
 abbrev pub behindFault : BehindRead → Refusal

@@ -22,6 +22,12 @@ pub struct Figure {
     pub value: Value,
 }
 
+// What supports are judged by: nothing, or a threshold in whole thousandths.
+pub enum Threshold {
+    NoThreshold,
+    Below { amount: usize },
+}
+
 pub enum NumberRead {
     Number(Figure),
     Refused(Refusal),

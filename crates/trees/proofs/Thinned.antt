@@ -126,6 +126,15 @@ module _ (weak : Behind → Bool) where
   pub left-of-all : (t : Tree) → Sublist (clustersLeft weak t) (clusters t)
   left-of-all t = subst (Sublist (clustersLeft weak t)) (left-all (λ b. false) (λ b. refl) t) (left-fewer (λ b. false) weak (λ b e. absurd (false≢true e)) t)
 
+  -- the same of a subtree below the root
+  pub below-of-all : (t : Tree) → Sublist (leftBelow weak t) (clusters t)
+  below-of-all t = subst (Sublist (leftBelow weak t)) (below-all (λ b. false) (λ b. refl) t) (below-fewer (λ b. false) weak (λ b e. absurd (false≢true e)) t)
+
+  -- and of the nodes of a list
+  pub belowOf-of-all : (f : Forest) → Sublist (leftBelowOf weak f) (clustersOf f)
+  belowOf-of-all f =
+      subst (Sublist (leftBelowOf weak f)) (belowOf-all (λ b. false) (λ b. refl) f) (belowOf-fewer (λ b. false) weak (λ b e. absurd (false≢true e)) f)
+
 -- ---- a drawn tree on at most 16 species
 
 module _ {n s : ℕ} {t : Tree} (few : n ≤ 16) (o : On s t) (below : s < 2 ^ n) where

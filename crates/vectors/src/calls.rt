@@ -8,10 +8,12 @@ use crate::searching;
 use crate::weighing;
 use crate::writing;
 use cases::fields::byte;
+use cases::fields::number;
 use cases::packed::bytes;
 use cases::packed::numbers;
 use cases::room;
 use reader::Kind;
+use reader::Threshold;
 use showing::show;
 
 // Runs a case whose first field is a text.
@@ -21,8 +23,14 @@ fn run_with_text(case: &[u8], letter: u8) {
     let text = &space[..n];
     match letter {
         b'J' => judging::run(text),
-        b'R' => reading::run(Kind::Species, case, text),
-        b'G' => reading::run(Kind::Gene, case, text),
+        b'R' => reading::run(Kind::Species, Threshold::NoThreshold, case, text),
+        b'G' => reading::run(Kind::Gene, Threshold::NoThreshold, case, text),
+        b'T' => {
+            let threshold = Threshold::Below {
+                amount: number(case, 3),
+            };
+            reading::run(Kind::Gene, threshold, case, text)
+        }
         b'W' => writing::run(case, text),
         _ => reporting::run(text),
     }
@@ -45,7 +53,7 @@ fn run_with_genes(case: &[u8], letter: u8) {
 pub fn run(case: &[u8]) {
     let letter = byte(case, 0);
     match letter {
-        b'J' | b'R' | b'G' | b'W' | b'P' => run_with_text(case, letter),
+        b'J' | b'R' | b'G' | b'T' | b'W' | b'P' => run_with_text(case, letter),
         b'K' | b'S' | b'M' | b'F' => run_with_genes(case, letter),
         _ => show::text(b"no such call\n"),
     }

@@ -1,6 +1,7 @@
 -- The text of a valid record draws, by the grammar's rules, the tree that the record draws.
 use Prim.Native.Nat.{ℕ, zero, suc, _^_, _≤_, _<_}
 use mathlib.Core.Path.{_≡_, refl, sym, subst}
+use mathlib.Core.Bool.{false}
 use mathlib.Core.List.{List, [], _∷_, _++_, append-assoc, append-nil, List·Memᴰ·head as here, List·Memᴰ·tail as there}
 use native.Mathlib.Decide.{ℕ-discrete}
 use native.Mathlib.Omega.{arith}
@@ -46,10 +47,10 @@ mutual
 record Commaed (names : List (List ℕ)) (k : ℕ) (f : Forest) (rest : List ℕ) : Type 0 where
   behind : List ℕ
   comma : othersText names f ++ 41 ∷ rest ≡ 44 ∷ behind
-  derived : Children (strict names) k behind f rest
+  derived : Children (strict false names) k behind f rest
 
 module _ {names : List (List ℕ)} (good : GoodNames names) where
-  leaf-derives : {k : ℕ} (i : ℕ) (rest : List ℕ) → i < length names → Node (strict names) k (nodeText names (leaf i bare) ++ rest) (leaf i bare) rest
+  leaf-derives : {k : ℕ} (i : ℕ) (rest : List ℕ) → i < length names → Node (strict false names) k (nodeText names (leaf i bare) ++ rest) (leaf i bare) rest
   unfolding nodeText
   leaf-derives i rest h =
       let n = good .each i h in
@@ -58,13 +59,13 @@ module _ {names : List (List ℕ)} (good : GoodNames names) where
   mutual
     unfolding nodeText othersText
 
-    node-derives : {k : ℕ} {t : Tree} (rest : List ℕ) → Plain (length names) k t → Node (strict names) k (nodeText names t ++ rest) t rest
+    node-derives : {k : ℕ} {t : Tree} (rest : List ℕ) → Plain (length names) k t → Node (strict false names) k (nodeText names t ++ rest) t rest
     node-derives rest (plain-leaf {k} {i} {b} e h) = rw e (leaf-derives i rest h)
     node-derives rest (plain-node {k} {t} {f} {b} d p q) =
         let c = others-derive rest q in
         let e : (nodeText names t ++ othersText names f ++ 41 ∷ []) ++ rest ≡ nodeText names t ++ (othersText names f ++ 41 ∷ rest) = simp append-assoc in
-        subst (λ (x : Behind). Node (strict names) (suc k) (nodeText names (node t f x) ++ rest) (node t f x) rest) (sym d)
-        (subst (λ (s : List ℕ). Node (strict names) (suc k) (40 ∷ s) (node t f bare) rest) (sym e)
+        subst (λ (x : Behind). Node (strict false names) (suc k) (nodeText names (node t f x) ++ rest) (node t f x) rest) (sym d)
+        (subst (λ (s : List ℕ). Node (strict false names) (suc k) (40 ∷ s) (node t f bare) rest) (sym e)
         (an-inner none (node-derives (othersText names f ++ 41 ∷ rest) p) (subst (λ (s : List ℕ). Blanks s (44 ∷ c .behind)) (sym (c .comma)) none)
         (c .derived) nameless nothing))
 
@@ -113,7 +114,7 @@ module _ {s : ℕ} {cs : List ℕ} (h : Hierarchy s cs) (n : ℕ) (below : s < 2
 
 -- the text of a valid gene record derives the tree that the record draws
 pub derives-written : (names : List (List ℕ)) {r : List ℕ} → GoodNames names → GeneValid (length names) r
-    → Text (strict names) openMost (written names r) (drawn (listed r) (largest r)) []
+    → Text (strict false names) openMost (written names r) (drawn (listed r) (largest r)) []
 unfolding written treeText
 derives-written names {r} g v =
     let n = length names in

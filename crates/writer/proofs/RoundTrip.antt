@@ -14,6 +14,8 @@ use Rattle.trees.proofs.GeneRecords.{gene-small}
 use Rattle.roster.specs.Roster.{names, faulty}
 use Rattle.roster.specs.Judged.{speciesMost}
 use Rattle.roster.specs.declared.Reply.{Reply}
+use Rattle.tokens.specs.declared.answer.Threshold.{Threshold}
+use Rattle.tokens.specs.declared.answer.Threshold.the-variants.{NoThreshold}
 use Rattle.tokens.specs.Answers.Answer.{parsed}
 use Rattle.reader.specs.Promise.{readingOf, answerTo, Reads}
 use Rattle.reader.specs.Accepted.{MayHave, Draws}
@@ -36,7 +38,7 @@ module _ (line : List ℕ) {r : List ℕ} (good : faulty speciesMost line ≡ fa
   -- as a tree of a kind that has its species
   module _ (kind : Kind) (species : MayHave kind (length (names line)) (largest r)) where
     -- the text draws the tree that the record draws
-    written-draws : Draws kind line (written (names line) r) 0 (drawn (listed r) (largest r)) []
+    written-draws : Draws kind NoThreshold line (written (names line) r) 0 (drawn (listed r) (largest r)) []
     written-draws =
         let g = good-names line good in
         let l = text-most (names line) (g .few) v (g .each) in
@@ -51,31 +53,31 @@ module _ (line : List ℕ) {r : List ℕ} (good : faulty speciesMost line ≡ fa
         }
 
     -- for every valid record, reading what the writer wrote gives that record
-    pub round-trip : answerTo kind line (written (names line) r) 0 ≡ parsed (drawn (listed r) (largest r)) [] (length (written (names line) r))
-    round-trip = derives-accepted kind line (written (names line) r) 0 written-draws ∙ ap (λ (q : ℕ). parsed (drawn (listed r) (largest r)) [] q) (omega arith)
+    pub round-trip : answerTo kind NoThreshold line (written (names line) r) 0 ≡ parsed (drawn (listed r) (largest r)) [] (length (written (names line) r))
+    round-trip = derives-accepted kind NoThreshold line (written (names line) r) 0 written-draws ∙ ap (λ (q : ℕ). parsed (drawn (listed r) (largest r)) [] q) (omega arith)
 
     -- the reader's whole answer: number 0, the record, and the offset behind the text
-    pub reads-back : {q : Reading} → Reads kind line (written (names line) r) 0 q
+    pub reads-back : {q : Reading} → Reads kind NoThreshold line (written (names line) r) 0 q
         → q ≡ record { number = 0; place = 0; next = length (written (names line) r); numbers = r }
     unfolding Reads
     reads-back h =
-        h ∙ ap (readingOf 0) round-trip
+        h ∙ ap (readingOf NoThreshold 0) round-trip
         ∙ ap (λ (k : List ℕ). record { number = 0; place = 0; next = length (written (names line) r); numbers = k })
         (drawn-record (v .valid) (gene-small (good-names line good .few) v))
 
   -- as a gene tree: whatever species it has
-  pub reads-back-gene : {q : Reading} → Reads Gene line (written (names line) r) 0 q
+  pub reads-back-gene : {q : Reading} → Reads Gene NoThreshold line (written (names line) r) 0 q
       → q ≡ record { number = 0; place = 0; next = length (written (names line) r); numbers = r }
   reads-back-gene h = reads-back Gene (v .of-roster) h
 
   -- as species text, where it lacks a species: 9 at its `;`, the last byte
-  pub reads-back-lacking : (largest r ≡ whole (length (names line)) → ⊥) → {q : Reading} → Reads Species line (written (names line) r) 0 q
+  pub reads-back-lacking : (largest r ≡ whole (length (names line)) → ⊥) → {q : Reading} → Reads Species NoThreshold line (written (names line) r) 0 q
       → q ≡ record { number = 9; place = length (written (names line) r) - 1; next = 0; numbers = replicate 32 0 }
   unfolding Reads
   reads-back-lacking lacks h =
-      let gene = readingOf 0 (answerTo Gene line (written (names line) r) 0) in
+      let gene = readingOf NoThreshold 0 (answerTo Gene NoThreshold line (written (names line) r) 0) in
       let back = reads-back-gene {q = gene} refl in
-      kinds-compared line (written (names line) r) 0 {gene = gene} refl h .lacking-nine (ap (λ (q : Reading). q .number) back)
+      kinds-compared NoThreshold line (written (names line) r) 0 {gene = gene} refl h .lacking-nine (ap (λ (q : Reading). q .number) back)
       (λ all. lacks (sym (ap (λ (q : Reading). largest (q .numbers)) back) ∙ all))
       ∙ ap (λ (q : Reading). record { number = 9; place = q .next - 1; next = 0; numbers = replicate 32 0 }) back
 
@@ -90,7 +92,7 @@ text-there {line} {r} {out} w z =
 -- what was written is read back, as a tree of a kind that has its species: the record, and the length that the writer gave
 pub write-read :
     (kind : Kind) {line r out : List ℕ} {p : Reply} {after : List ℕ} {q : Reading}
-    → Writes line r out p after → p .number ≡ 0 → MayHave kind (length (names line)) (largest r) → Reads kind line (take (p .value) after) 0 q
+    → Writes line r out p after → p .number ≡ 0 → MayHave kind (length (names line)) (largest r) → Reads kind NoThreshold line (take (p .value) after) 0 q
     → q ≡ record { number = 0; place = 0; next = p .value; numbers = r }
 write-read kind {line} {r} {out} {p} {after} {q} w z species h =
     let o = writes-zero w z in
@@ -99,30 +101,30 @@ write-read kind {line} {r} {out} {p} {after} {q} w z species h =
 -- as a gene tree: always
 pub write-read-gene :
     {line r out : List ℕ} {p : Reply} {after : List ℕ} {q : Reading}
-    → Writes line r out p after → p .number ≡ 0 → Reads Gene line (take (p .value) after) 0 q
+    → Writes line r out p after → p .number ≡ 0 → Reads Gene NoThreshold line (take (p .value) after) 0 q
     → q ≡ record { number = 0; place = 0; next = p .value; numbers = r }
 write-read-gene w z h = let v = writes-zero w z .valid in write-read Gene w z (v .of-roster) h
 
 -- as species text, where it lacks a species: 9 at its `;`
 pub write-read-lacking :
     {line r out : List ℕ} {p : Reply} {after : List ℕ} {q : Reading}
-    → Writes line r out p after → p .number ≡ 0 → (largest r ≡ whole (length (names line)) → ⊥) → Reads Species line (take (p .value) after) 0 q
+    → Writes line r out p after → p .number ≡ 0 → (largest r ≡ whole (length (names line)) → ⊥) → Reads Species NoThreshold line (take (p .value) after) 0 q
     → q ≡ record { number = 9; place = p .value - 1; next = 0; numbers = replicate 32 0 }
 write-read-lacking w z lacks h =
     let o = writes-zero w z in
     reads-back-lacking _ (o .good) (o .valid) lacks (rw (text-there w z) at h) ∙ rw (o .value)
 
--- a record that was read, written and read again as the same kind is the same record
+-- a record that was read, by whatever threshold, written and read again as the same kind is the same record
 pub read-write-read :
-    (kind : Kind) (line text : List ℕ) (start : ℕ) (q : Reading) {q′ : Reading} → Reads kind line text start q → q .number ≡ 0
-    → Reads kind line (written (names line) (q .numbers)) 0 q′
+    (kind : Kind) (threshold : Threshold) (line text : List ℕ) (start : ℕ) (q : Reading) {q′ : Reading} → Reads kind threshold line text start q → q .number ≡ 0
+    → Reads kind NoThreshold line (written (names line) (q .numbers)) 0 q′
     → q′ ≡ record { number = 0; place = 0; next = length (written (names line) (q .numbers)); numbers = q .numbers }
-read-write-read kind line text start q h z h′ =
-    let r = reads-zero kind line text start h z in
+read-write-read kind threshold line text start q h z h′ =
+    let r = reads-zero kind threshold line text start h z in
     reads-back line (r .good) (r .gene) kind (r .species) h′
 
 -- a text in the one form is written as itself
 pub one-form :
     (line : List ℕ) {r : List ℕ} (q : Reading) → faulty speciesMost line ≡ false → GeneValid (length (names line)) r
-    → Reads Gene line (written (names line) r) 0 q → written (names line) (q .numbers) ≡ written (names line) r
+    → Reads Gene NoThreshold line (written (names line) r) 0 q → written (names line) (q .numbers) ≡ written (names line) r
 one-form line q good v h = ap (λ (q : Reading). written (names line) (q .numbers)) (reads-back-gene line good v h)

@@ -25,8 +25,8 @@ pub fn supports(c: &mut Cases, s: &mut Seeded) {
     quoted_names(c);
     texts_of_several_trees(c);
     program_inputs(c);
-    (0..320).for_each(|_| text(c, s));
-    (0..60).for_each(|_| text_at_rising_thresholds(c, s));
+    (0..200).for_each(|_| text(c, s));
+    (0..40).for_each(|_| text_at_rising_thresholds(c, s));
     (0..20).for_each(|_| input(c, s));
 }
 
@@ -179,7 +179,7 @@ fn several_depths(c: &mut Cases) {
 fn lost_species(c: &mut Cases) {
     for text in [
         &b"(a,b)::0;"[..], b"(f,d)::0;", b"((b,d)::0.5,f)::0;", b"((b,d)::0.5,(f,a)::0.4);", b"(((b,d)::0.5,f)::0.4,a)::0.3;", b"(f,(d,b)::0.5,a);", b"f::0;",
-        b"((f,e)::0.5,(d,(c,(b,a)::0.4)::0.5)::0.6)::0;",
+        b"((f,e)::0.5,(d,(c,(b,a)::0.4)::0.5)::0.6)::0;", b"((((a,b)::0.499,c):0.1:0.5,d):0.3,e)::0.2;",
     ] {
         for threshold in [0, 400, 401, 500, 501, HIGHEST] {
             c.read_supported(b"a b c d e f", text, 0, threshold);

@@ -22,12 +22,12 @@ label-refusal-requires c κs = search needs
 
 returns : tie.Need-returns
 unfolding ReadsLeaf
-returns c = λ names holds.
+returns c = λ own names holds.
     let start = c .before .before .before .before .before .before .before .before in
     let scan = c .before .before .before .before .scan in
     let text = start .args .text .now in
-    node-refused text _ _ _ _ _ _
-    (leaf-faulty text (start .args .c .at) (scan .result) (scan .ensures) names (start .args .c .seen) _ _ (c .label-refusal .result)
+    node-refused own (start .args .threshold) text _ _ _ _ _ _
+    (leaf-faulty (start .args .threshold) text (start .args .c .at) (scan .result) (scan .ensures) names (start .args .c .seen) _ _ (c .label-refusal .result)
     (c .before .enum-told .given .1) (c .label-refusal .ensures))
 
 species-requires : tie.Need-species-requires
@@ -35,12 +35,12 @@ species-requires c κs = search needs
 
 returns-2 : tie.Need-returns-2
 unfolding ReadsLeaf
-returns-2 c = λ names holds.
+returns-2 c = λ own names holds.
     let start = c .before .before .before .before .before .before .before .before .before .before in
     let scan = c .before .before .before .before .before .before .scan in
     let text = start .args .text .now in
-    node-refused text _ _ _ _ _ _
-    (leaf-unknown text (start .args .c .at) (scan .result) (scan .ensures) names (start .args .c .seen)
+    node-refused own (start .args .threshold) text _ _ _ _ _ _
+    (leaf-unknown (start .args .threshold) text (start .args .c .at) (scan .result) (scan .ensures) names (start .args .c .seen)
     (start .args .count) (start .args .table .now) holds _ (c .before .species .result) (c .before .before .before .label .given .1)
     (c .before .species .ensures) (c .if1 .taken))
 
@@ -52,14 +52,14 @@ apart-requires c κs = search needs
 
 returns-3 : tie.Need-returns-3
 unfolding ReadsLeaf
-returns-3 c = λ names holds.
+returns-3 c = λ own names holds.
     let at-label = c .before .before .before .before .before .before in
     let start = at-label .before .before .before .before .before .before .before in
     let species = c .before .before .before .before .species in
     let scan = at-label .before .before .before .scan in
     let text = start .args .text .now in
-    node-refused text _ _ _ _ _ _
-    (leaf-again text (start .args .c .at) (scan .result) (scan .ensures) names (start .args .c .seen)
+    node-refused own (start .args .threshold) text _ _ _ _ _ _
+    (leaf-again (start .args .threshold) text (start .args .c .at) (scan .result) (scan .ensures) names (start .args .c .seen)
     (start .args .count) (start .args .table .now) holds _ (species .result) (at-label .label .given .1) (species .ensures)
     (c .before .before .before .if1 .left)
     (rw (c .before .before .single .ensures) at (sym (c .before .apart .ensures) ∙ not-true _ (c .if2 .taken))))
@@ -86,7 +86,7 @@ same-length c = search needs
 
 returns-4 : tie.Need-returns-4
 unfolding ReadsLeaf
-returns-4 c = λ names holds.
+returns-4 c = λ own names holds.
     let found = c .before .before .before .before .before .before .before .before .before .before in
     let start = found .before .before .before .before .before .before .before .before .before in
     let ended = c .before .before .ended in
@@ -99,10 +99,10 @@ returns-4 c = λ names holds.
     let species = found .species in
     let label = found .before .before .label in
     let scan = found .before .before .before .before .before .scan in
-    leaf-read (start .args .text .now) (start .args .c .at) (scan .result) (scan .ensures) names (start .args .c .seen)
+    leaf-read (start .args .threshold) (start .args .text .now) (start .args .c .at) (scan .result) (scan .ensures) names (start .args .c .seen)
     (start .args .count) (start .args .table .now) holds _ (species .result) (label .given .1) (species .ensures) (if1 .left)
-    (start .args .c .stored) (start .args .found .now) _ (single .result) (union .result) (behind .result) (ended .result)
-    (single .ensures) (sym (apart .ensures) ∙ not-false _ (if2 .left)) (union .ensures) (behind .ensures .0)
+    own (start .args .c .stored) (start .args .found .now) _ (single .result) (union .result) (behind .result) (ended .result)
+    (single .ensures) (sym (apart .ensures) ∙ not-false _ (if2 .left)) (union .ensures) (behind .ensures .0) (behind .ensures .1)
     (ended .ensures .0) (ended .ensures .1)
 
 pub leaf-spec : {M : Type 1} → statement M

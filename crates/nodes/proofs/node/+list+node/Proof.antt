@@ -101,6 +101,7 @@ node-calls t = (
 
 abbrev list-asked : (t : ℕ) (c : list-lts.Start (list-calls t) (list-at t) list.Post) → Asked
 list-asked t c = record {
+  threshold = c .args .threshold;
   text = c .args .text .now;
   table = c .args .table .now;
   count = c .args .count;
@@ -113,11 +114,12 @@ list-asked t c = record {
 
 abbrev list-child :
     (t : ℕ) (c : list-lts.After-slice-known2 (list-calls t) (list-at t) list.Post)
-    → NodeCall (list-asked t (c .before .before .before .before .before .before .before))
+    → let start = c .before .before .before .before .before .before .before in
+    NodeCall (start .args .threshold) (list-asked t start)
 list-child t c = record {
   cursor = c .before .before .before .before .before .before .before .args .c;
   cursor-is = refl;
-  after = c .before .before .node .last .1 .1 .1 .1 .1 .0;
+  after = c .before .before .node .last .1 .1 .1 .1 .1 .1 .1 .0;
   result = c .before .before .node .result;
   reads = c .before .before .node .ensures;
 }
@@ -158,7 +160,7 @@ abbrev list-rest :
 list-rest t c = record {
   cursor = c .before .before .before .before .moved .result;
   cursor-is = c .before .before .before .before .moved .ensures;
-  after = c .before .before .list .last .1 .1 .1 .1 .1 .0;
+  after = c .before .before .list .last .1 .1 .1 .1 .1 .1 .0;
   result = c .before .before .list .result;
   reads = c .before .before .list .ensures;
 }
@@ -249,6 +251,7 @@ list-returns-5 t c = λ names holds k deep.
 
 abbrev node-asked : (t : ℕ) (c : node-lts.Start (node-calls t) (node-at t) node.Post) → Asked
 node-asked t c = record {
+  threshold = c .args .threshold;
   text = c .args .text .now;
   table = c .args .table .now;
   count = c .args .count;
@@ -279,11 +282,11 @@ abbrev node-first :
     (t : ℕ) (c : node-lts.After-slice-known3 (node-calls t) (node-at t) node.Post)
     → let opened = c .before .before .before .before .before in
     let start = opened .before .before .before .before .before .before .before .before .before in
-    NodeCall (inside (node-asked t start) (node-opening t opened .here))
+    NodeCall (start .args .threshold) (inside (node-asked t start) (node-opening t opened .here))
 node-first t c = record {
   cursor = c .before .before .before .before .moved2 .result;
   cursor-is = c .before .before .before .before .moved2 .ensures;
-  after = c .before .before .node .last .1 .1 .1 .1 .1 .0;
+  after = c .before .before .node .last .1 .1 .1 .1 .1 .1 .1 .0;
   result = c .before .before .node .result;
   reads = c .before .before .node .ensures;
 }
@@ -320,7 +323,7 @@ abbrev node-others :
 node-others t c = record {
   cursor = c .before .before .before .before .moved3 .result;
   cursor-is = c .before .before .before .before .moved3 .ensures;
-  after = c .before .before .list .last .1 .1 .1 .1 .1 .0;
+  after = c .before .before .list .last .1 .1 .1 .1 .1 .1 .0;
   result = c .before .before .list .result;
   reads = c .before .before .list .ensures;
 }
@@ -337,7 +340,7 @@ node-returns t c = λ names holds k deep.
     let if1 = c .before .before .before .before .before .if1 in
     let next-label = c .before .before .before .before .before .before .next-label in
     let blanks = c .before .before .before .before .before .before .before .blanks in
-    leaf-way (node-asked t start) names holds (blanks .result) (blanks .ensures) k deep (moved .result) _ (leaf .result)
+    leaf-way (node-asked t start) names holds (blanks .result) (blanks .ensures) k deep (start .args .own) (moved .result) _ (leaf .result)
     (sym (next-label .ensures) ∙ if1 .taken) (moved .ensures) (leaf .ensures)
 
 node-returns-2 : (t : ℕ) → node-lts.Need-returns-2 (node-calls t) (node-at t) node.Post
@@ -346,7 +349,7 @@ node-returns-2 t c = λ names holds k deep.
     let leafless = c .before .before .before in
     let start = leafless .before .before .before .before .before .before in
     let blanks = leafless .before .before .blanks in
-    stray-way (node-asked t start) names holds (blanks .result) (blanks .ensures) k deep _ (c .stray .result) (node-leafless t leafless)
+    stray-way (node-asked t start) names holds (blanks .result) (blanks .ensures) k deep (start .args .own) _ (c .stray .result) (node-leafless t leafless)
     (sym (c .before .before .next-is .ensures) ∙ not-true _ (c .before .if2 .taken)) (c .stray .ensures)
 
 node-returns-3 : (t : ℕ) → node-lts.Need-returns-3 (node-calls t) (node-at t) node.Post
@@ -355,7 +358,7 @@ node-returns-3 t c = λ names holds k deep.
     let leafless = c .before .before .before in
     let start = leafless .before .before .before .before .before .before in
     let blanks = leafless .before .before .blanks in
-    full-way (node-asked t start) names holds (blanks .result) (blanks .ensures) k deep _ (node-leafless t leafless)
+    full-way (node-asked t start) names holds (blanks .result) (blanks .ensures) k deep (start .args .own) _ (node-leafless t leafless)
     (sym (c .before .before .next-is .ensures) ∙ not-false _ (c .before .if2 .left)) (c .if3 .taken)
 
 node-add-moved : (t : ℕ) → node-lts.Need-add-moved (node-calls t) (node-at t) node.Post
@@ -378,7 +381,7 @@ unfolding ReadsNode
 node-returns-4 t c = λ names holds k deep.
     let opened = c .before .before .before .before .before .before .before in
     let start = opened .before .before .before .before .before .before .before .before .before in
-    first-refused-way (node-asked t start) names holds (node-opening t opened) k deep (node-first t (c .before .before)) _ (c .enum-told .given .1)
+    first-refused-way (node-asked t start) names holds (node-opening t opened) k deep (node-first t (c .before .before)) (start .args .own) _ (c .enum-told .given .1)
 
 node-returns-5 : (t : ℕ) → node-lts.Need-returns-5 (node-calls t) (node-at t) node.Post
 unfolding ReadsNode
@@ -387,7 +390,7 @@ node-returns-5 t c = λ names holds k deep.
     let first = behind .before .before .before .before in
     let opened = first .before .before .before .before .before in
     let start = opened .before .before .before .before .before .before .before .before .before in
-    no-comma-way (node-asked t start) names holds (node-opening t opened) k deep (node-first t first) (node-followed t behind) (c .no-comma .result)
+    no-comma-way (node-asked t start) names holds (node-opening t opened) k deep (node-first t first) (node-followed t behind) (start .args .own) (c .no-comma .result)
     (sym (c .before .before .next-is2 .ensures) ∙ not-true _ (c .before .if4 .taken)) (c .no-comma .ensures)
 
 node-add-moved-2 : (t : ℕ) → node-lts.Need-add-moved-2 (node-calls t) (node-at t) node.Post
@@ -425,7 +428,7 @@ node-returns-6 t c = λ names holds k deep.
     let opened = first .before .before .before .before .before in
     let start = opened .before .before .before .before .before .before .before .before .before in
     others-refused-way (node-asked t start) names holds (node-opening t opened) k deep (node-first t first) (node-followed t behind) (node-comma t comma)
-    (node-others t (c .before .before)) _
+    (node-others t (c .before .before)) (start .args .own) _
     (c .enum-told2 .given .1)
 
 node-ended-requires : (t : ℕ) → node-lts.Need-ended-requires (node-calls t) (node-at t) node.Post
@@ -446,7 +449,7 @@ node-same-length-5 : (t : ℕ) → node-lts.Need-same-length-5 (node-calls t) (n
 node-same-length-5 t c =
     let at-list = c .before .before .before .before .before .before .before .before .before .before .before in
     let node = at-list .before .before .before .before .before .before .before .before .before .before .before .node in
-    c .before .before .ended .kept .1 .1 .1 .1 .0 ∙ at-list .list .kept .1 .1 .1 .1 .1 .0 ∙ node .kept .1 .1 .1 .1 .1 .0
+    c .before .before .ended .kept .1 .1 .1 .1 .1 .0 ∙ at-list .list .kept .1 .1 .1 .1 .1 .1 .0 ∙ node .kept .1 .1 .1 .1 .1 .1 .1 .0
 
 node-returns-7 : (t : ℕ) → node-lts.Need-returns-7 (node-calls t) (node-at t) node.Post
 unfolding ReadsNode
@@ -462,8 +465,8 @@ node-returns-7 t c = λ names holds k deep.
     let closing = c .before .before .before .before .before .closing in
     let told = c .before .before .before .before .before .before .before .others in
     node-way (node-asked t start) names holds (node-opening t opened) k deep (node-first t first) (node-followed t behind) (node-comma t comma)
-    (node-others t others) _ _ (told .given .1)
-    (union .result) (closing .result) _ (ended .result) (union .ensures) (closing .ensures .0) (ended .ensures .0) (ended .ensures .1)
+    (node-others t others) _ _ (told .given .1) (start .args .own)
+    (union .result) (closing .result) _ (ended .result) (union .ensures) (closing .ensures .0) (closing .ensures .1) (ended .ensures .0) (ended .ensures .1)
 
 pub +list+node-spec : {M : Type 1} → statement M
 +list+node-spec = close μ-list μ-node (λ t. list-lts.spec (list-calls t) (list-at t) list.Post

@@ -19,7 +19,7 @@ returns : tie.Need-returns
 returns c =
     let start = c .before .before .before .before .before in
     let parse = c .before .before .parse in
-    roster-refused (start .args .kind) (start .args .line .now) (start .args .text .now) (start .args .start) (parse .result) (parse .ensures) (c .refused .result)
+    roster-refused (start .args .kind) (start .args .threshold) (start .args .line .now) (start .args .text .now) (start .args .start) (parse .result) (parse .ensures) (c .refused .result)
     (c .before .if1 .taken) (c .refused .ensures)
 
 refused-requires-2 : tie.Need-refused-requires-2
@@ -29,7 +29,7 @@ returns-2 : tie.Need-returns-2
 returns-2 c =
     let start = c .before .before .before .before .before .before in
     let parse = c .before .before .before .parse in
-    long-refused (start .args .kind) (start .args .line .now) (start .args .text .now) (start .args .start) (parse .result) (parse .ensures) (c .refused2 .result)
+    long-refused (start .args .kind) (start .args .threshold) (start .args .line .now) (start .args .text .now) (start .args .start) (parse .result) (parse .ensures) (c .refused2 .result)
     (omega arith) (c .before .if2 .taken) (c .refused2 .ensures)
 
 refused-requires-3 : tie.Need-refused-requires-3
@@ -39,7 +39,7 @@ returns-3 : tie.Need-returns-3
 returns-3 c =
     let start = c .before .before .before .before .before .before .before in
     let parse = c .before .before .before .before .parse in
-    start-refused (start .args .kind) (start .args .line .now) (start .args .text .now) (start .args .start) (parse .result) (parse .ensures) (c .refused3 .result)
+    start-refused (start .args .kind) (start .args .threshold) (start .args .line .now) (start .args .text .now) (start .args .start) (parse .result) (parse .ensures) (c .refused3 .result)
     (omega arith) (c .before .before .if2 .left) (c .before .if3 .taken) (c .refused3 .ensures)
 
 slice-aggregate-recorded : tie.Need-slice-aggregate-recorded
@@ -70,7 +70,7 @@ returns-4 c =
     let start = c .before .before .before .before .before .before .before .before .before .before in
     let if2 = c .before .before .before .before .before .if2 in
     let parse = c .before .before .before .before .before .before .before .parse in
-    tree-recorded (start .args .kind) (start .args .line .now) (start .args .text .now) (start .args .start) (parse .result) (parse .ensures)
+    tree-recorded (start .args .kind) (start .args .threshold) (start .args .line .now) (start .args .text .now) (start .args .start) (parse .result) (parse .ensures)
     (c .recorded .result) (omega arith) (if2 .left) (c .before .needed .result) (c .before .needed .ensures) (c .before .before .before .before .if3 .left)
     (c .recorded .ensures)
 

@@ -33,8 +33,8 @@ unfolding ReadsRecord
 returns c = λ names holds k deep.
     let start = c .before .before .before .before .before .before .before .before .before in
     let tree = c .before .before .before .before .before .tree in
-    reading-refused (start .args .text .now) (start .args .table .now) (start .args .count) names holds (start .args .start) (start .args .needed)
-    (start .args .room) (tree .last .1 .1 .1 .1 .1 .1 .0) (tree .result) (tree .ensures) k deep _ (c .before .node-refusal .result) (c .refused .result)
+    reading-refused (start .args .threshold) (start .args .text .now) (start .args .table .now) (start .args .count) names holds (start .args .start) (start .args .needed)
+    (start .args .room) (tree .last .1 .1 .1 .1 .1 .1 .1 .0) (tree .result) (tree .ensures) k deep _ (c .before .node-refusal .result) (c .refused .result)
     (c .before .before .enum-told .given .1) (c .before .node-refusal .ensures)
     (c .refused .ensures)
 
@@ -47,8 +47,8 @@ record-of-requires c κs =
     let start = c .before .before .before .before .before .before .before .before .before in
     let text = start .args .text .now in
     let at = start .args .start in
-    stored-fit text (start .args .table .now) (start .args .count) (start .pre .0 .0) (start .pre .0 .1) at (start .args .needed) (start .args .room)
-    (tree .last .1 .1 .1 .1 .1 .1 .0) (tree .result) (tree .ensures) (2 * (length text - at) + 1) (omega arith) _ _ (c .before .before .read .given .1)
+    stored-fit (start .args .threshold) text (start .args .table .now) (start .args .count) (start .pre .0 .0) (start .pre .0 .1) at (start .args .needed) (start .args .room)
+    (tree .last .1 .1 .1 .1 .1 .1 .1 .0) (tree .result) (tree .ensures) (2 * (length text - at) + 1) (omega arith) _ _ (c .before .before .read .given .1)
     (start .pre .1 .0)
 
 returns-2 : tie.Need-returns-2
@@ -57,8 +57,8 @@ returns-2 c = λ names holds k deep.
     let start = c .before .before .before .before .before .before .before .before .before .before .before in
     let read = c .before .before .before .before .read in
     let tree = c .before .before .before .before .before .before .before .tree in
-    reading-recorded (start .args .text .now) (start .args .table .now) (start .args .count) names holds (start .args .start) (start .args .needed)
-    (start .args .room) (tree .last .1 .1 .1 .1 .1 .1 .0) (tree .result) (tree .ensures) k deep _ _ (read .given .1) (start .pre .1 .0)
+    reading-recorded (start .args .threshold) (start .args .text .now) (start .args .table .now) (start .args .count) names holds (start .args .start) (start .args .needed)
+    (start .args .room) (tree .last .1 .1 .1 .1 .1 .1 .1 .0) (tree .result) (tree .ensures) k deep _ _ (read .given .1) (start .pre .1 .0)
     (c .before .record-of .result .numbers) (c .before .record-of .ensures)
 
 pub recorded-spec : {M : Type 1} → statement M

@@ -8,19 +8,20 @@ use borrow.Author.Tests.{not-true, not-false}
 use Rattle.labels.specs.Bytes.{nextIs}
 use Rattle.reader.specs.Work.{ReadsTree}
 use Rattle.tokens.proofs.Places.{next-is-inside}
+use Rattle.tokens.specs.declared.answer.Threshold.the-variants.{NoThreshold}
 use Rattle.nodes.proofs.NodeWays.{Asked, NodeCall, Followed}
 use Rattle.reader.proofs.TreeWays.{fromStart, root-refused-way, end-missing-way, species-missing-way, tree-way}
 use Rattle.reader.proofs.tree.tree.Statement.{statement}
 use Rattle.reader.proofs.tree.tree.Tie as tie
 
 abbrev asked : tie.Start → Asked
-asked c = fromStart (c .args .text .now) (c .args .table .now) (c .args .count) (c .args .start) (c .args .room) (c .args .found .now)
+asked c = fromStart (c .args .threshold) (c .args .text .now) (c .args .table .now) (c .args .count) (c .args .start) (c .args .room) (c .args .found .now)
 
-abbrev root-call : (c : tie.After-slice-known2) → NodeCall (asked (c .before .before .before .before .before .before .before))
+abbrev root-call : (c : tie.After-slice-known2) → NodeCall NoThreshold (asked (c .before .before .before .before .before .before .before))
 root-call c = record {
   cursor = record { at = c .before .before .before .before .before .before .before .args .start; seen = 0; stored = 0 };
   cursor-is = refl;
-  after = c .before .before .node .last .1 .1 .1 .1 .1 .0;
+  after = c .before .before .node .last .1 .1 .1 .1 .1 .1 .1 .0;
   result = c .before .before .node .result;
   reads = c .before .before .node .ensures;
 }
@@ -59,7 +60,7 @@ returns : tie.Need-returns
 unfolding ReadsTree
 returns c = λ names holds k deep.
     let start = c .before .before .before .before .before .before .before .before .before in
-    root-refused-way (start .args .text .now) (start .args .table .now) (start .args .count) names holds (start .args .start) (start .args .needed)
+    root-refused-way (start .args .threshold) (start .args .text .now) (start .args .table .now) (start .args .count) names holds (start .args .start) (start .args .needed)
     (start .args .room) (start .args .found .now) k deep (root-call (c .before .before)) _ (c .enum-told .given .1)
 
 blanks-requires : tie.Need-blanks-requires
@@ -80,7 +81,7 @@ returns-2 c = λ names holds k deep.
     let behind = c .before .before .before in
     let root = behind .before .before .before .before in
     let start = root .before .before .before .before .before .before .before in
-    end-missing-way (start .args .text .now) (start .args .table .now) (start .args .count) names holds (start .args .start) (start .args .needed)
+    end-missing-way (start .args .threshold) (start .args .text .now) (start .args .table .now) (start .args .count) names holds (start .args .start) (start .args .needed)
     (start .args .room) (start .args .found .now) k deep (root-call root) (followed behind) (c .stray .result)
     (sym (c .before .before .next-is .ensures) ∙ not-true _ (c .before .if1 .taken)) (c .stray .ensures)
 
@@ -96,7 +97,7 @@ returns-3 c = λ names holds k deep.
     let behind = c .before .before .before .before in
     let root = behind .before .before .before .before in
     let start = root .before .before .before .before .before .before .before in
-    species-missing-way (start .args .text .now) (start .args .table .now) (start .args .count) names holds (start .args .start) (start .args .needed)
+    species-missing-way (start .args .threshold) (start .args .text .now) (start .args .table .now) (start .args .count) names holds (start .args .start) (start .args .needed)
     (start .args .room) (start .args .found .now) k deep (root-call root) (followed behind) (at-end (c .before .before))
     (sym (c .before .within .ensures) ∙ not-true _ (c .if2 .taken))
 
@@ -119,7 +120,7 @@ returns-4 c = λ names holds k deep.
     let behind = end .before .before in
     let root = behind .before .before .before .before in
     let start = root .before .before .before .before .before .before .before in
-    tree-way (start .args .text .now) (start .args .table .now) (start .args .count) names holds (start .args .start) (start .args .needed)
+    tree-way (start .args .threshold) (start .args .text .now) (start .args .table .now) (start .args .count) names holds (start .args .start) (start .args .needed)
     (start .args .room) (start .args .found .now) k deep (root-call root) (followed behind) (at-end end) (c .moved .result)
     (sym (c .before .before .within .ensures) ∙ not-false _ (c .before .if2 .left))
     (c .moved .ensures)

@@ -2,8 +2,8 @@
 use borrow.Author.Needs.{needs}
 use mathlib.Core.Path.{_∙_}
 use lib.ListN.{drop}
-use Rattle.tokens.specs.Tokens.{numbers}
 use Rattle.tokens.specs.Says.{innerWord}
+use Rattle.tokens.specs.Supports.{isGiven, supported}
 use Rattle.tokens.proofs.Pieces.{name-refused, name-read}
 use Rattle.tokens.proofs.behind.closing.Statement.{statement}
 use Rattle.tokens.proofs.behind.closing.Tie as tie
@@ -35,7 +35,8 @@ returns-2 c =
     let inner-name = c .before .before .before .before .inner-name in
     let text = start .args .text .now in (
       c .behind .ensures .0 (innerWord (drop (start .args .at) text))
-          ∙ name-read text (innerWord (drop (start .args .at) text)) (inner-name .result) _ (inner-name .ensures) (λ w s p. numbers w s p) _
+          ∙ name-read text (innerWord (drop (start .args .at) text)) (inner-name .result) _ (inner-name .ensures)
+          (λ w s p. supported (isGiven (start .args .threshold)) w s p) _
           (c .before .before .label .given .1),
       c .behind .ensures .1,
     )

@@ -76,7 +76,7 @@ returns-3 c =
           rw (c .nothing .ensures, between-none text (x .to))
           (sym (second-missing text (x .to) (blanks .result) (blanks .ensures) w (between text x) (sym (c .before .before .next-is .ensures) ∙ c .before .if1 .left))
           ∙ number-read text (number .result) _ (number .ensures .0) (λ d s p. secondNumber (nextIs 58 (skip s)) w d s p) x (read .given .1)),
-      (rw (read .given .1) at (number .ensures .1), rw (c .nothing .ensures) (none-valued text (x .to))),
+      (rw (read .given .1) at (number .ensures .1), rw (c .nothing .ensures) (none-valued text (x .to)), rw (c .nothing .ensures)),
     )
 
 pub distance-spec : {M : Type 1} → statement M

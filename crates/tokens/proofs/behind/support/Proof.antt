@@ -1,5 +1,6 @@
 -- `behind::support` meets its contract: the number behind the colon is the support.
 use borrow.Author.Needs.{needs}
+use mathlib.Core.Path.{refl}
 use Rattle.tokens.specs.Answers.Answer.{parsed}
 use Rattle.tokens.specs.Says.{between}
 use Rattle.tokens.proofs.Pieces.{number-refused, number-read}
@@ -46,7 +47,7 @@ returns-2 c =
           (λ b s p. parsed (record { name = w; distance = between text (start .args .distance); support = b }) s p)
           _
           (c .before .read .given .1)),
-      (start .pre, rw (c .before .read .given .1) at (number .ensures .1)),
+      (start .pre, rw (c .before .read .given .1) at (number .ensures .1), refl),
     )
 
 pub support-spec : {M : Type 1} → statement M

@@ -3,7 +3,7 @@ use native.Mathlib.Omega.{arith}
 use Prim.Native.Nat.{_+_, _-_}
 use lib.ListN.{drop, length-take}
 use borrow.Author.Needs.{needs}
-use Rattle.tokens.proofs.Numerals.{numeral-short, numeral-long}
+use Rattle.tokens.proofs.Numerals.{numeral-short, numeral-within, numeral-long}
 use Rattle.tokens.proofs.number.limited.Statement.{statement}
 use Rattle.tokens.proofs.number.limited.Tie as tie
 
@@ -26,7 +26,12 @@ thousandths-requires c κs =
     omega (arith, length-take n (drop (start .args .at) (start .args .text .now)))
 
 returns : tie.Need-returns
-returns c = (numeral-short (c .before .before .before .before .args .text .now) _ _ (c .thousandths .result) (c .before .before .if1 .taken), c .thousandths .ensures)
+returns c =
+    let start = c .before .before .before .before in
+    let text = start .args .text .now in (
+      numeral-short text _ _ (c .thousandths .result) (c .before .before .if1 .taken),
+      (c .thousandths .ensures, numeral-within text (start .args .at) (start .args .bytes) (c .thousandths .result) (start .pre)),
+    )
 
 add-t12 : tie.Need-add-t12
 add-t12 c = search needs
