@@ -2,14 +2,16 @@
 use Prim.Native.Nat.{ℕ, _≤_}
 use mathlib.Core.Path.{_≡_, refl, sym, ap, _∙_, subst}
 use mathlib.Core.Logic.{_↔_}
-use mathlib.Core.Bool.{Bool, false, false≢true}
+use mathlib.Core.Bool.{Bool, false, false≢true, true}
 use mathlib.Core.List.{List}
 use native.Mathlib.Omega.{arith}
 use lib.ListN.{length, drop}
 use Rattle.trees.specs.Lists.{Among}
-use Rattle.trees.specs.Tree.{Tree, Behind, clusters}
+use Rattle.trees.specs.Tree.{Tree, Behind, clusters, On}
 use Rattle.trees.specs.Records.{listed, recordOf, GeneValid}
 use Rattle.trees.specs.Thinned.{Thinned, clustersLeft, OfWeak}
+use Rattle.trees.specs.Valid.{among}
+use Rattle.trees.proofs.ValidTest.{denied, tells-among}
 use Rattle.trees.proofs.Listing.{sublist-among}
 use Rattle.trees.proofs.Thinned.{left-all, left-of-all, drawn-thinned, weaker-thinned}
 use Rattle.trees.proofs.LostNodes.{lost-exactly}
@@ -87,14 +89,13 @@ module _ {kind : Kind} {threshold : Threshold} {line text : List ℕ} {start : �
       weaker-thinned (drawn-few d) (drawn-on d) (drawn-below d) (λ b. weak (Below m) b) (λ b. weak (Below n) b)
       (λ b is. below-higher m n (thousandths (b .support)) l is)
 
--- a text read with a threshold: it draws a tree, of which exactly those clusters are not read that belong to
+-- a text read with a threshold: it draws a tree, of which exactly those clusters are read that do not belong to
 -- "An inner node, not the root, with support strictly below the threshold" (#113), and what is read is a valid gene record
 pub record ReadBelow (kind : Kind) (amount : ℕ) (line text : List ℕ) (start : ℕ) (q : Reading) : Type 0 where
   pub tree : Tree
   pub rest : List ℕ
   pub draws : Draws kind (Below amount) line text start tree rest
-  pub some : (x : ℕ) → Among x (listed (q .numbers)) → Among x (clusters tree)
-  pub lost : (x : ℕ) → (Among x (clusters tree) × (Among x (listed (q .numbers)) → ⊥)) ↔ OfWeak (λ b. weak (Below amount) b) tree x
+  pub left : (x : ℕ) → Among x (listed (q .numbers)) ↔ (Among x (clusters tree) × (OfWeak (λ b. weak (Below amount) b) tree x → ⊥))
   pub gene : GeneValid (length (names line)) (q .numbers)
 
 -- so it is read
@@ -104,24 +105,33 @@ pub dropped-exactly :
 dropped-exactly kind amount line text start q h z =
     let w = reads-zero kind (Below amount) line text start h z in
     let d = accepted-derives kind (Below amount) line text start (w .answered) .draws in
-    let t = w .tree in
-    let test : Behind → Bool = λ b. weak (Below amount) b in
-    let among : (x : ℕ) → Among x (listed (q .numbers)) → Among x (clustersLeft test t) =
-    λ x m. among-record (clustersLeft test t) (subst (λ (r : List ℕ). Among x (listed r)) (w .recorded) m)
-    in
-    let back : (x : ℕ) → Among x (clustersLeft test t) → Among x (listed (q .numbers)) =
-    λ x m. subst (λ (r : List ℕ). Among x (listed r)) (sym (w .recorded)) (record-among (clustersLeft test t) m)
-    in
     record {
-      tree = t;
+      tree = w .tree;
       rest = w .rest;
       draws = d;
-      some = λ x m. sublist-among (left-of-all test t) x (among x m);
-      lost = λ x.
-          let e = lost-exactly test (drawn-on d) x in
-          (λ k. e .0 (k .0, λ m. k .1 (back x m)), λ u. (e .1 u .0, λ m. e .1 u .1 (among x m)));
+      left = λ x.
+          subst (λ (r : List ℕ). Among x (listed r) ↔ (Among x (clusters (w .tree)) × (OfWeak (λ b. weak (Below amount) b) (w .tree) x → ⊥)))
+          (sym (w .recorded)) (left-exactly (drawn-on d) x);
       gene = w .gene;
     }
+  where
+    left-exactly :
+        {s : ℕ} {t : Tree} → On s t → (x : ℕ)
+        → Among x (listed (recordOf (clustersLeft (λ b. weak (Below amount) b) t))) ↔ (Among x (clusters t) × (OfWeak (λ b. weak (Below amount) b) t x → ⊥))
+    left-exactly {t = t} o x = (
+      λ m. let k = among-record (clustersLeft test t) m in (sublist-among (left-of-all test t) x k, λ u. e .1 u .1 k),
+      λ k. by (among x (clustersLeft test t)) refl k,
+    )
+      where
+        test : Behind → Bool
+        test b = weak (Below amount) b
+
+        e : (Among x (clusters t) × (Among x (clustersLeft test t) → ⊥)) ↔ OfWeak test t x
+        e = lost-exactly test o x
+
+        by : (b : Bool) → among x (clustersLeft test t) ≡ b → Among x (clusters t) × (OfWeak test t x → ⊥) → Among x (listed (recordOf (clustersLeft test t)))
+        by true is k = record-among (clustersLeft test t) (tells-among x (clustersLeft test t) .holds is)
+        by false is k = absurd (k .1 (e .0 (k .0, denied (tells-among x (clustersLeft test t)) is)))
 
 -- ---- the replies
 
