@@ -248,22 +248,27 @@ static void write_tree(void) {
     printf(" %.*s\n", (int)r.value, (const char *)out.at);
 }
 
+/* A small letter: the gene trees are taken without a root. */
+static int unrooted(void) {
+    return line.at[0] >= 'a';
+}
+
 static void weigh(void) {
     Numbers genes = numbers(1);
-    show_reply(st_weight(number(0), genes.at, genes.length, number(2), number(3)));
+    show_reply((unrooted() ? st_weight_unrooted : st_weight)(number(0), genes.at, genes.length, number(2), number(3)));
     printf("\n");
 }
 
 static void score(void) {
     Numbers genes = numbers(1);
-    show_reply(st_score(number(0), genes.at, genes.length, number(2), record(3)));
+    show_reply((unrooted() ? st_score_unrooted : st_score)(number(0), genes.at, genes.length, number(2), record(3)));
     printf("\n");
 }
 
 static void mark(void) {
     Numbers genes = numbers(1);
     Bytes out = lent_bytes(3);
-    show_reply(st_mark(number(0), genes.at, genes.length, number(2), out.at, out.length));
+    show_reply((unrooted() ? st_mark_unrooted : st_mark)(number(0), genes.at, genes.length, number(2), out.at, out.length));
     show_bytes(out);
     printf("\n");
 }
@@ -272,7 +277,8 @@ static void search(void) {
     Numbers genes = numbers(1), splits = lent_splits(5);
     Bytes allowed = flags(3);
     Scores scores = lent_scores(4);
-    st_Found r = st_search(number(0), genes.at, genes.length, number(2), allowed.at, allowed.length, scores.at, scores.length, splits.at, splits.length);
+    st_Found r = (unrooted() ? st_search_unrooted : st_search)(number(0), genes.at, genes.length, number(2), allowed.at, allowed.length, scores.at, scores.length, splits.at,
+                                                               splits.length);
     show(r.number, r.place, r.score);
     show_record(r.numbers);
     show_tables(scores, splits);
@@ -293,7 +299,7 @@ static const struct {
     void (*run)(void);
 } calls[] = {
     {'J', judge}, {'R', read_species}, {'G', read_gene}, {'T', read_supported}, {'W', write_tree}, {'K', weigh}, {'S', score}, {'M', mark}, {'F', search},
-    {'P', run_program},
+    {'k', weigh}, {'s', score}, {'m', mark}, {'f', search}, {'P', run_program},
 };
 
 static void run(void) {

@@ -68,6 +68,18 @@ st_Reply st_mark(size_t n, const uint16_t *genes, size_t genes_length, size_t co
 st_Found st_search(size_t n, const uint16_t *genes, size_t genes_length, size_t count, const uint8_t *allowed, size_t allowed_length,
                    uint32_t *scores, size_t scores_length, uint16_t *splits, size_t splits_length);
 
+/* The same four for gene trees without a root: the clusters of a gene record are its own and the complement of each but the whole, so
+   that it does not matter where the root was drawn. A gene tree has to have every species, and each inner node two children, the root
+   two or three; else 19 */
+st_Reply st_weight_unrooted(size_t n, const uint16_t *genes, size_t genes_length, size_t count, size_t cluster);
+
+st_Reply st_score_unrooted(size_t n, const uint16_t *genes, size_t genes_length, size_t count, st_Record species);
+
+st_Reply st_mark_unrooted(size_t n, const uint16_t *genes, size_t genes_length, size_t count, uint8_t *out, size_t out_length);
+
+st_Found st_search_unrooted(size_t n, const uint16_t *genes, size_t genes_length, size_t count, const uint8_t *allowed,
+                            size_t allowed_length, uint32_t *scores, size_t scores_length, uint16_t *splits, size_t splits_length);
+
 #ifdef __cplusplus
 }
 #endif

@@ -1,4 +1,5 @@
 //! The case file: one call a line, and the answer that is printed for it. README.md beside this file says how a line is written.
+use crate::lineages::Rooting;
 use crate::reader::Kind;
 use crate::trees::Record;
 use crate::{lineages, reader, report, roster, search, writer, Refusal};
@@ -107,6 +108,7 @@ fn listed(line: &mut String, r: &Record) {
 pub fn answer(case: &[u8]) -> Vec<u8> {
     let field: Vec<&[u8]> = case[1..].split(|&b| b == b'|').collect();
     let mut line = String::new();
+    let rooting = if case[0].is_ascii_lowercase() { Rooting::Unrooted } else { Rooting::Rooted };
     match case[0] {
         b'J' => reply(&mut line, &roster::names(&bytes(field[0])).map(|names| names.len())),
         b'R' | b'G' | b'T' => {
@@ -128,19 +130,19 @@ pub fn answer(case: &[u8]) -> Vec<u8> {
             write!(line, " {} ", mixed(out.iter().map(|&b| b as usize))).unwrap();
             line.push_str(std::str::from_utf8(&out[..answer.unwrap_or(0)]).unwrap());
         }
-        b'K' => reply(&mut line, &lineages::weight(number(field[0]), &numbers(field[1]), number(field[2]), number(field[3]))),
-        b'S' => reply(&mut line, &lineages::score(number(field[0]), &numbers(field[1]), number(field[2]), &record(field[3]))),
-        b'M' => {
+        b'K' | b'k' => reply(&mut line, &lineages::weight(rooting, number(field[0]), &numbers(field[1]), number(field[2]), number(field[3]))),
+        b'S' | b's' => reply(&mut line, &lineages::score(rooting, number(field[0]), &numbers(field[1]), number(field[2]), &record(field[3]))),
+        b'M' | b'm' => {
             let mut out = vec![BYTE; number(field[3])];
-            let answer = lineages::mark(number(field[0]), &numbers(field[1]), number(field[2]), &mut out);
+            let answer = lineages::mark(rooting, number(field[0]), &numbers(field[1]), number(field[2]), &mut out);
             reply(&mut line, &answer.map(|()| 0));
             write!(line, " {}", mixed(out.iter().map(|&b| b as usize))).unwrap();
         }
-        b'F' => {
+        b'F' | b'f' => {
             let allowed: Vec<u8> = numbers(field[3]).into_iter().map(|x| x as u8).collect();
             let mut scores = vec![SCORE; number(field[4])];
             let mut splits = vec![SPLIT; number(field[5])];
-            match search::search(number(field[0]), &numbers(field[1]), number(field[2]), &allowed, &mut scores, &mut splits) {
+            match search::search(rooting, number(field[0]), &numbers(field[1]), number(field[2]), &allowed, &mut scores, &mut splits) {
                 Ok((score, record)) => {
                     write!(line, "0 0 {score}").unwrap();
                     listed(&mut line, &record);

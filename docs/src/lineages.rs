@@ -1,26 +1,53 @@
 //! Extra lineages: the weight of a cluster, the score of a species tree, the clusters that gene trees show.
-use crate::trees::{binary, clusters, valid, valid_gene, Record};
+use crate::trees::{binary, children, clusters, largest, maximal, may_unroot, valid, valid_gene, Record};
 use crate::{Refusal, GENES, SPECIES};
+use Rooting::{Rooted, Unrooted};
 
-/// The clusters that are maximal among those that pass the test.
-fn maximal(all: &[u16], test: impl Fn(u16) -> bool) -> Vec<u16> {
-    let passed: Vec<u16> = all.iter().copied().filter(|&x| test(x)).collect();
-    passed.iter().copied().filter(|&x| !passed.iter().any(|&y| y != x && x & y == x)).collect()
+/// How gene trees are taken: with the root that was drawn, or without one (02, #106).
+#[derive(Clone, Copy, Debug, Default, PartialEq)]
+pub enum Rooting {
+    #[default]
+    Rooted,
+    Unrooted,
 }
 
-/// Unresolved nodes counted as unknown (02, #101): how many nodes of the gene tree have a child whose cluster is maximal within a,
-/// or one where a holds all its species.
-pub fn k(gene: &Record, a: u16) -> usize {
-    let all = clusters(gene);
+/// The clusters of a gene tree: its record's, and without a root the complement of each but the whole, each once.
+pub fn shown(rooting: Rooting, gene: &Record) -> Vec<u16> {
+    let mut all = clusters(gene).to_vec();
+    if rooting == Unrooted {
+        let whole = largest(gene);
+        all.extend(clusters(gene).iter().filter(|&&x| x != whole).map(|x| whole - x));
+        all.sort();
+        all.dedup();
+    }
+    all
+}
+
+/// How many lineages of a gene tree a cluster a has: one where a holds all its species.
+pub fn k(rooting: Rooting, gene: &Record, a: u16) -> usize {
+    let all = shown(rooting, gene);
     if all.iter().all(|&x| x & a == x) {
         return 1;
     }
-    let within = maximal(all, |x| x & a == x);
-    all.iter().filter(|&&p| maximal(all, |x| x != p && x & p == x).iter().any(|child| within.contains(child))).count()
+    let within = maximal(&all, |x| x & a == x);
+    match rooting {
+        // unresolved nodes counted as unknown (02, #101): the nodes of the gene tree with a child whose cluster is maximal within a
+        Rooted => all.iter().filter(|&&p| children(&all, p).iter().any(|child| within.contains(child))).count(),
+        // without a root the maximal ones (02, #106)
+        Unrooted => within.len(),
+    }
 }
 
-/// The same by one pass from the smallest cluster up: one that is not within a is counted when it is the first to hold some species of a.
-pub fn k_by_pass(gene: &Record, a: u16) -> usize {
+/// The same by passes over the record.
+pub fn k_by_pass(rooting: Rooting, gene: &Record, a: u16) -> usize {
+    match rooting {
+        Rooted => k_upward(gene, a),
+        Unrooted => k_around(gene, a),
+    }
+}
+
+/// From the smallest cluster up: one that is not within a is counted when it is the first to hold some species of a.
+fn k_upward(gene: &Record, a: u16) -> usize {
     let (mut count, mut loose, mut all) = (0, a, true);
     for &x in clusters(gene) {
         if x & a != x {
@@ -38,22 +65,41 @@ pub fn k_by_pass(gene: &Record, a: u16) -> usize {
     }
 }
 
+/// Without a root: what lies outside the smallest cluster that holds all species that a lacks is one lineage; what a has of that cluster is
+/// taken apart from the largest cluster down.
+fn k_around(gene: &Record, a: u16) -> usize {
+    let whole = largest(gene);
+    if a == whole {
+        return 1;
+    }
+    let lacked = whole & !a;
+    let around = *clusters(gene).iter().find(|&&x| x & lacked == lacked).unwrap();
+    let (mut count, mut left) = ((around != whole) as usize, a & around);
+    for &x in clusters(gene).iter().rev() {
+        if x & left == x {
+            count += 1;
+            left -= x;
+        }
+    }
+    count
+}
+
 /// The extra lineages of a in a gene tree (02, #104): none where no cluster of it lies within a, else k less one.
-pub fn extra(gene: &Record, a: u16) -> usize {
-    if clusters(gene).iter().any(|&x| x & a == x) {
-        k(gene, a) - 1
+pub fn extra(rooting: Rooting, gene: &Record, a: u16) -> usize {
+    if shown(rooting, gene).iter().any(|&x| x & a == x) {
+        k(rooting, gene, a) - 1
     } else {
         0
     }
 }
 
-/// The same by the pass, which counts no node where a has no species of the gene tree.
-pub fn extra_by_pass(gene: &Record, a: u16) -> usize {
-    k_by_pass(gene, a).saturating_sub(1)
+/// The same by the passes, which count nothing where a has no species of the gene tree.
+pub fn extra_by_pass(rooting: Rooting, gene: &Record, a: u16) -> usize {
+    k_by_pass(rooting, gene, a).saturating_sub(1)
 }
 
-pub fn weight_of(genes: &[Record], a: u16) -> usize {
-    genes.iter().map(|gene| extra(gene, a)).sum()
+pub fn weight_of(rooting: Rooting, genes: &[Record], a: u16) -> usize {
+    genes.iter().map(|gene| extra(rooting, gene, a)).sum()
 }
 
 /// 1 and 11, then 12 for the gene records and for each slice with its need, which is known only behind 1.
@@ -70,38 +116,42 @@ pub fn shape(n: usize, genes: &[u16], count: usize, lent: &[usize]) -> Result<()
     Ok(())
 }
 
-/// The gene records, or 15 at the first that is not a valid one.
-pub fn records(n: usize, genes: &[u16], count: usize) -> Result<Vec<Record>, Refusal> {
+/// The gene records, or 15 at the first that is not a valid one, or, without a root, 19 at the first that is unresolved or incomplete (02, #106).
+pub fn records(rooting: Rooting, n: usize, genes: &[u16], count: usize) -> Result<Vec<Record>, Refusal> {
     let all: Vec<Record> = (0..count).map(|i| genes[32 * i..32 * i + 32].try_into().unwrap()).collect();
-    match all.iter().position(|r| !valid_gene(n, r)) {
-        Some(index) => Err((15, index)),
+    if let Some(index) = all.iter().position(|r| !valid_gene(n, r)) {
+        return Err((15, index));
+    }
+    match all.iter().position(|r| rooting == Unrooted && !may_unroot(n, r)) {
+        Some(index) => Err((19, index)),
         None => Ok(all),
     }
 }
 
-pub fn weight(n: usize, genes: &[u16], count: usize, cluster: usize) -> Result<usize, Refusal> {
+pub fn weight(rooting: Rooting, n: usize, genes: &[u16], count: usize, cluster: usize) -> Result<usize, Refusal> {
     shape(n, genes, count, &[])?;
-    let genes = records(n, genes, count)?;
+    let genes = records(rooting, n, genes, count)?;
     if cluster < 1 || cluster >= 1 << n {
         return Err((13, cluster));
     }
-    Ok(weight_of(&genes, cluster as u16))
+    Ok(weight_of(rooting, &genes, cluster as u16))
 }
 
-pub fn score(n: usize, genes: &[u16], count: usize, species: &Record) -> Result<usize, Refusal> {
+pub fn score(rooting: Rooting, n: usize, genes: &[u16], count: usize, species: &Record) -> Result<usize, Refusal> {
     shape(n, genes, count, &[])?;
     if !valid(n, species) || !binary(n, species) {
         return Err((16, 0));
     }
-    let genes = records(n, genes, count)?;
-    Ok(clusters(species).iter().map(|&a| weight_of(&genes, a)).sum())
+    let genes = records(rooting, n, genes, count)?;
+    Ok(clusters(species).iter().map(|&a| weight_of(rooting, &genes, a)).sum())
 }
 
-pub fn mark(n: usize, genes: &[u16], count: usize, out: &mut [u8]) -> Result<(), Refusal> {
+pub fn mark(rooting: Rooting, n: usize, genes: &[u16], count: usize, out: &mut [u8]) -> Result<(), Refusal> {
     shape(n, genes, count, &[out.len()])?;
-    let genes = records(n, genes, count)?;
-    for a in 0..1usize << n {
-        out[a] = genes.iter().any(|gene| clusters(gene).contains(&(a as u16))) as u8;
+    let genes = records(rooting, n, genes, count)?;
+    out[..1 << n].fill(0);
+    for a in genes.iter().flat_map(|gene| shown(rooting, gene)) {
+        out[a as usize] = 1;
     }
     Ok(())
 }

@@ -1,5 +1,5 @@
 //! The least species tree: brute force over all binary trees up to six species, and a plain dynamic program.
-use crate::lineages::{extra_by_pass, records, shape, weight_of};
+use crate::lineages::{extra_by_pass, records, shape, weight_of, Rooting};
 use crate::trees::{record, Record};
 use crate::Refusal;
 
@@ -96,28 +96,28 @@ fn collect(splits: &[u16], a: usize, found: &mut Vec<u16>) {
     }
 }
 
-/// The weight of every cluster: by the definition up to six species, by one pass a gene tree above.
-pub fn weights(n: usize, genes: &[Record]) -> Vec<u32> {
+/// The weight of every cluster: by the definition up to six species, by passes over each gene tree above.
+pub fn weights(rooting: Rooting, n: usize, genes: &[Record]) -> Vec<u32> {
     let mut all = vec![0; 1 << n];
     for (a, w) in all.iter_mut().enumerate().skip(1) {
         *w = if n <= 6 {
-            weight_of(genes, a as u16) as u32
+            weight_of(rooting, genes, a as u16) as u32
         } else {
-            genes.iter().map(|gene| extra_by_pass(gene, a as u16) as u32).sum()
+            genes.iter().map(|gene| extra_by_pass(rooting, gene, a as u16) as u32).sum()
         };
     }
     all
 }
 
 /// The score and the record of the tree; both tables are filled where the tree is looked for, also on 14.
-pub fn search(n: usize, genes: &[u16], count: usize, allowed: &[u8], scores: &mut [u32], splits: &mut [u16]) -> Result<(usize, Record), Refusal> {
+pub fn search(rooting: Rooting, n: usize, genes: &[u16], count: usize, allowed: &[u8], scores: &mut [u32], splits: &mut [u16]) -> Result<(usize, Record), Refusal> {
     shape(n, genes, count, &[allowed.len(), scores.len(), splits.len()])?;
-    let genes = records(n, genes, count)?;
+    let genes = records(rooting, n, genes, count)?;
     let size = 1 << n;
     if let Some(index) = allowed[..size].iter().position(|&b| b > 1) {
         return Err((13, index));
     }
-    let weights = weights(n, &genes);
+    let weights = weights(rooting, n, &genes);
     let (s, p) = if n <= 6 { brute(n, &weights, allowed) } else { tables(n, &weights, allowed) };
     scores[..size].copy_from_slice(&s);
     splits[..size].copy_from_slice(&p);

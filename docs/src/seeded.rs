@@ -4,6 +4,7 @@ use crate::trees::{record, Record};
 use crate::NAME;
 
 /// A drawn tree: a species, or children.
+#[derive(Clone)]
 pub enum Tree {
     Leaf(usize),
     Node(Vec<Tree>),
@@ -129,14 +130,18 @@ impl Seeded {
         names.iter().map(|name| if self.one_in(3) { in_quotes(name) } else { written(name) }).collect()
     }
 
+    fn shuffle<T>(&mut self, items: &mut [T]) {
+        for i in (1..items.len()).rev() {
+            let j = self.below(i + 1);
+            items.swap(i, j);
+        }
+    }
+
     pub fn tree(&mut self, mut species: Vec<usize>, binary: bool) -> Tree {
         if species.len() == 1 {
             return Tree::Leaf(species[0]);
         }
-        for i in (1..species.len()).rev() {
-            let j = self.below(i + 1);
-            species.swap(i, j);
-        }
+        self.shuffle(&mut species);
         let most = if binary || self.one_in(2) { 2 } else { 2 + self.below(species.len() - 1) };
         let mut children = Vec::new();
         for k in 0..most {
@@ -146,6 +151,30 @@ impl Seeded {
             children.push(self.tree(part, binary));
         }
         Tree::Node(children)
+    }
+
+    /// A tree on n species that may be taken without its root (#106): binary, save that the root may have three children.
+    pub fn unrooted(&mut self, n: usize) -> Tree {
+        let tree = self.tree((0..n).collect(), true);
+        self.redrawn(tree)
+    }
+
+    /// The same such tree with its root drawn elsewhere: by steps from a branch to a node at its end and from a node to one of its branches, children in any order.
+    pub fn redrawn(&mut self, tree: Tree) -> Tree {
+        let Tree::Node(mut top) = tree else {
+            return tree;
+        };
+        for _ in 0..self.below(24) {
+            self.shuffle(&mut top);
+            if top.len() == 3 {
+                let others = top.split_off(1);
+                top.push(Tree::Node(others));
+            } else if let Some(at) = top.iter().position(|t| matches!(t, Tree::Node(_))) {
+                let Tree::Node(nodes) = top.remove(at) else { unreachable!() };
+                top.extend(nodes);
+            }
+        }
+        Tree::Node(top)
     }
 
     pub fn blanks(&mut self, text: &mut Vec<u8>) {
@@ -235,11 +264,21 @@ impl Seeded {
     fn drawn_with(&mut self, species: Vec<usize>, labels: &[Vec<u8>], style: &Style) -> (Record, Vec<u8>) {
         let binary = self.one_in(2);
         let tree = self.tree(species, binary);
+        let text = self.text_with(&tree, labels, style);
+        (tree.record(), text)
+    }
+
+    fn text_with(&mut self, tree: &Tree, labels: &[Vec<u8>], style: &Style) -> Vec<u8> {
         let mut text = Vec::new();
-        self.draw(labels, style, &tree, &mut text);
+        self.draw(labels, style, tree, &mut text);
         self.blanks(&mut text);
         text.push(b';');
-        (tree.record(), text)
+        text
+    }
+
+    /// A text that draws a tree, with labels of both forms.
+    pub fn text_of(&mut self, tree: &Tree, labels: &[Vec<u8>]) -> Vec<u8> {
+        self.text_with(tree, labels, &LABELLED)
     }
 
     pub fn text(&mut self, names: &[Vec<u8>]) -> Vec<u8> {

@@ -58,3 +58,24 @@ pub fn valid_gene(n: usize, r: &Record) -> bool {
 pub fn binary(n: usize, r: &Record) -> bool {
     r[0] as usize == 2 * n - 1
 }
+
+/// The clusters that are maximal among those that pass the test.
+pub fn maximal(all: &[u16], test: impl Fn(u16) -> bool) -> Vec<u16> {
+    let passed: Vec<u16> = all.iter().copied().filter(|&x| test(x)).collect();
+    passed.iter().copied().filter(|&x| !passed.iter().any(|&y| y != x && x & y == x)).collect()
+}
+
+/// The children of a cluster of a tree: maximal among the tree's clusters properly within it.
+pub fn children(all: &[u16], p: u16) -> Vec<u16> {
+    maximal(all, |x| x != p && x & p == x)
+}
+
+/// A gene record that may be taken without its root (02, #106): it has every species, and each inner cluster has two children, the whole two or three.
+pub fn may_unroot(n: usize, r: &Record) -> bool {
+    let inner = |p: &u16| p.count_ones() > 1;
+    let resolved = |p: &u16| {
+        let count = children(clusters(r), *p).len();
+        count == 2 || *p == whole(n) && count == 3
+    };
+    largest(r) == whole(n) && clusters(r).iter().filter(|p| inner(p)).all(resolved)
+}

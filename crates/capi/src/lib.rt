@@ -5,11 +5,13 @@ use reader::Threshold;
 use roster::Reply;
 use search::Found;
 use trees::Record;
+use weights::Rooting;
 ghost use Rattle.roster.specs.Judged.{Judged};
 ghost use Rattle.reader.specs.Promise.{Reads};
 ghost use Rattle.reader.specs.declared.Kind.the-variants.{Species, Gene};
 ghost use Rattle.tokens.specs.declared.answer.Threshold.the-variants.{NoThreshold, Below};
 ghost use Rattle.writer.specs.Promise.{Writes};
+ghost use Rattle.weights.specs.declared.Rooting.the-variants.{Rooted, Unrooted};
 ghost use Rattle.lineages.specs.Promise.{Weighs, Scores, Marks};
 ghost use Rattle.search.specs.Promise.{Finds};
 
@@ -59,28 +61,52 @@ pub extern "C" fn st_write(line: &[u8], tree: Record, out: &mut [u8]) -> Reply
     writer::write(line, tree, out)
 }
 
-// The weight of a cluster.
+// The weight of a cluster, the gene trees counted with their roots.
 #[no_mangle]
 pub extern "C" fn st_weight(n: usize, genes: &[u16], count: usize, cluster: usize) -> Reply
-    ensures { λ r. ⌜ Weighs n (now (genes .entry)) count cluster r ⌝ }
+    ensures { λ r. ⌜ Weighs Rooted n (now (genes .entry)) count cluster r ⌝ }
 {
-    lineages::weight(n, genes, count, cluster)
+    lineages::weight(Rooting::Rooted, n, genes, count, cluster)
+}
+
+// The same for gene trees without a root.
+#[no_mangle]
+pub extern "C" fn st_weight_unrooted(n: usize, genes: &[u16], count: usize, cluster: usize) -> Reply
+    ensures { λ r. ⌜ Weighs Unrooted n (now (genes .entry)) count cluster r ⌝ }
+{
+    lineages::weight(Rooting::Unrooted, n, genes, count, cluster)
 }
 
 // The score of a species tree.
 #[no_mangle]
 pub extern "C" fn st_score(n: usize, genes: &[u16], count: usize, species: Record) -> Reply
-    ensures { λ r. ⌜ Scores n (now (genes .entry)) count (species .numbers) r ⌝ }
+    ensures { λ r. ⌜ Scores Rooted n (now (genes .entry)) count (species .numbers) r ⌝ }
 {
-    lineages::score(n, genes, count, species)
+    lineages::score(Rooting::Rooted, n, genes, count, species)
+}
+
+// The same for gene trees without a root.
+#[no_mangle]
+pub extern "C" fn st_score_unrooted(n: usize, genes: &[u16], count: usize, species: Record) -> Reply
+    ensures { λ r. ⌜ Scores Unrooted n (now (genes .entry)) count (species .numbers) r ⌝ }
+{
+    lineages::score(Rooting::Unrooted, n, genes, count, species)
 }
 
 // Marks the clusters that the gene trees show.
 #[no_mangle]
 pub extern "C" fn st_mark(n: usize, genes: &[u16], count: usize, out: &mut [u8]) -> Reply
-    ensures { λ r. ⌜ Marks n (now (genes .entry)) count (now (out .entry)) r (now (out .exit)) ⌝ }
+    ensures { λ r. ⌜ Marks Rooted n (now (genes .entry)) count (now (out .entry)) r (now (out .exit)) ⌝ }
 {
-    lineages::mark(n, genes, count, out)
+    lineages::mark(Rooting::Rooted, n, genes, count, out)
+}
+
+// Marks the clusters that they show without a root: the complements too.
+#[no_mangle]
+pub extern "C" fn st_mark_unrooted(n: usize, genes: &[u16], count: usize, out: &mut [u8]) -> Reply
+    ensures { λ r. ⌜ Marks Unrooted n (now (genes .entry)) count (now (out .entry)) r (now (out .exit)) ⌝ }
+{
+    lineages::mark(Rooting::Unrooted, n, genes, count, out)
 }
 
 // The first least-scoring species tree over the allowed clusters; fills both tables.
@@ -93,7 +119,22 @@ pub extern "C" fn st_search(
     scores: &mut [u32],
     splits: &mut [u16],
 ) -> Found
-    ensures { λ r. ⌜ Finds n (now (genes .entry)) count (now (allowed .entry)) (now (scores .entry)) (now (splits .entry)) r (now (scores .exit)) (now (splits .exit)) ⌝ }
+    ensures { λ r. ⌜ Finds Rooted n (now (genes .entry)) count (now (allowed .entry)) (now (scores .entry)) (now (splits .entry)) r (now (scores .exit)) (now (splits .exit)) ⌝ }
 {
-    search::search(n, genes, count, allowed, scores, splits)
+    search::search(Rooting::Rooted, n, genes, count, allowed, scores, splits)
+}
+
+// The same for gene trees without a root.
+#[no_mangle]
+pub extern "C" fn st_search_unrooted(
+    n: usize,
+    genes: &[u16],
+    count: usize,
+    allowed: &[u8],
+    scores: &mut [u32],
+    splits: &mut [u16],
+) -> Found
+    ensures { λ r. ⌜ Finds Unrooted n (now (genes .entry)) count (now (allowed .entry)) (now (scores .entry)) (now (splits .entry)) r (now (scores .exit)) (now (splits .exit)) ⌝ }
+{
+    search::search(Rooting::Unrooted, n, genes, count, allowed, scores, splits)
 }

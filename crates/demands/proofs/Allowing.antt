@@ -1,59 +1,73 @@
--- Which clusters the bytes of the program's modes allow: with `all` every one, with `genes` those that a gene tree draws.
+-- Which clusters the bytes of the program's modes allow: with `all` every one, with `genes` those that a gene tree shows.
 use Prim.Native.Nat.{ℕ, _^_, _<_}
 use mathlib.Core.Path.{_≡_, refl, sym, ap, _∙_, subst}
-use mathlib.Core.Logic.{_⊎_, inl, inr}
+use mathlib.Core.Logic.{_⊎_, inl, inr, _↔_}
 use mathlib.Core.Bool.{Bool, true, false, _||_, false≢true}
 use mathlib.Core.List.{List, [], _∷_, map, List·Memᴰ, List·Memᴰ·head as here, List·Memᴰ·tail as there, List·Memᴰ·not-nil, List·Memᴰ·cases-cons}
-use native.Mathlib.Omega.{arith}
-use lib.ListN.{length, getD, replicate, getD-replicate}
+use lib.ListN.{getD, replicate, getD-replicate}
 use lib.Dec.{eqb}
 use borrow.Author.Tests.{eqb-true, eq-eqb}
 use Rattle.clusters.specs.Sets.{whole, size}
 use Rattle.trees.specs.Lists.{Among}
 use Rattle.trees.specs.Tree.{Tree, clusters}
-use Rattle.trees.specs.Records.{listed, recordOf}
+use Rattle.trees.specs.Records.{recordOf}
 use Rattle.trees.specs.Valid.{among}
 use Rattle.trees.proofs.Recorded.{among-record, record-among}
 use Rattle.trees.proofs.ValidTest.{tells-among}
+use Rattle.weights.specs.declared.Rooting.{Rooting}
+use Rattle.weights.specs.declared.Rooting.the-variants.{Rooted, Unrooted}
+use Rattle.weights.specs.Count.{shownBy}
 use Rattle.weights.specs.Marks.{shown as shownIn, flag}
 use Rattle.lineages.specs.Promise.{marks}
 use Rattle.trees.proofs.Booleans.{either, or-left, or-right}
 use Rattle.trees.proofs.UpTo.{map-upTo}
 use Rattle.tables.specs.Allowed.{allowedIn}
-use Rattle.report.specs.Input.{allWord, genesWord}
 use Rattle.outcomes.specs.Outcome.{allowedBy}
-use Rattle.demands.specs.GeneTrees.{RecordsOf}
+use Rattle.demands.specs.GeneTrees.{RecordsOf, clustersShown}
 use Rattle.demands.specs.Input.{Allows}
 use Rattle.demands.specs.Input.Allows.{every, lone, entire, shown}
 
 -- ---- the clusters that are shown
 
--- some tree of the list draws a
-abbrev DrawnIn : List Tree → ℕ → Type 0
-DrawnIn trees a = (t : Tree) × List·Memᴰ t trees × Among a (clusters t)
+-- a gene tree shows what its record does
+shows-exactly : (rooting : Rooting) (t : Tree) (a : ℕ) → Among a (shownBy rooting (recordOf (clusters t))) ↔ Among a (clustersShown rooting t)
+shows-exactly Rooted t a = (among-record (clusters t), record-among (clusters t))
+shows-exactly Unrooted t a = (λ m. m, λ m. m)
 
-shown-drawn : (trees : List Tree) (a : ℕ) → shownIn (map (λ (t : Tree). recordOf (clusters t)) trees) a ≡ true → DrawnIn trees a
-unfolding shownIn
-shown-drawn [] a e = absurd (false≢true e)
-shown-drawn (t ∷ trees) a e = go (either (among a (listed (recordOf (clusters t)))) (shownIn (map (λ (t : Tree). recordOf (clusters t)) trees) a) e) (shown-drawn trees a)
-  where
-    go :
-        (among a (listed (recordOf (clusters t))) ≡ true) ⊎ (shownIn (map (λ (t : Tree). recordOf (clusters t)) trees) a ≡ true)
-        → (shownIn (map (λ (t : Tree). recordOf (clusters t)) trees) a ≡ true → DrawnIn trees a) → DrawnIn (t ∷ trees) a
-    go (inl k) later = (t, here refl, among-record (clusters t) (tells-among a (listed (recordOf (clusters t))) .holds k))
-    go (inr k) later = let d = later k in (d .0, there (d .1), d .2)
+module _ (rooting : Rooting) where
+  -- some tree of the list shows a
+  abbrev ShownIn : List Tree → ℕ → Type 0
+  ShownIn trees a = (t : Tree) × List·Memᴰ t trees × Among a (clustersShown rooting t)
 
-drawn-shown : (trees : List Tree) (a : ℕ) (t : Tree) → List·Memᴰ t trees → Among a (clusters t) → shownIn (map (λ (t : Tree). recordOf (clusters t)) trees) a ≡ true
-unfolding shownIn
-drawn-shown [] a t m d = absurd (List·Memᴰ·not-nil m)
-drawn-shown (u ∷ trees) a t m d = go (List·Memᴰ·cases-cons m) (λ k. drawn-shown trees a t k d)
-  where
-    go : (t ≡ u) ⊎ List·Memᴰ t trees → (List·Memᴰ t trees → shownIn (map (λ (t : Tree). recordOf (clusters t)) trees) a ≡ true)
-        → (among a (listed (recordOf (clusters u))) || shownIn (map (λ (t : Tree). recordOf (clusters t)) trees) a) ≡ true
-    go (inl e) later =
-        or-left (among a (listed (recordOf (clusters u)))) (shownIn (map (λ (t : Tree). recordOf (clusters t)) trees) a)
-        (tells-among a (listed (recordOf (clusters u))) .told (record-among (clusters u) (subst (λ (t : Tree). Among a (clusters t)) e d)))
-    go (inr k) later = or-right (among a (listed (recordOf (clusters u)))) (shownIn (map (λ (t : Tree). recordOf (clusters t)) trees) a) (later k)
+  shown-drawn : (trees : List Tree) (a : ℕ) → shownIn rooting (map (λ (t : Tree). recordOf (clusters t)) trees) a ≡ true → ShownIn trees a
+  unfolding shownIn
+  shown-drawn [] a e = absurd (false≢true e)
+  shown-drawn (t ∷ trees) a e =
+      go (either (among a (shownBy rooting (recordOf (clusters t)))) (shownIn rooting (map (λ (t : Tree). recordOf (clusters t)) trees) a) e)
+      (shown-drawn trees a)
+    where
+      go :
+          (among a (shownBy rooting (recordOf (clusters t))) ≡ true) ⊎ (shownIn rooting (map (λ (t : Tree). recordOf (clusters t)) trees) a ≡ true)
+          → (shownIn rooting (map (λ (t : Tree). recordOf (clusters t)) trees) a ≡ true → ShownIn trees a) → ShownIn (t ∷ trees) a
+      go (inl k) later = (t, here refl, shows-exactly rooting t a .0 (tells-among a (shownBy rooting (recordOf (clusters t))) .holds k))
+      go (inr k) later = let d = later k in (d .0, there (d .1), d .2)
+
+  drawn-shown :
+      (trees : List Tree) (a : ℕ) (t : Tree) → List·Memᴰ t trees → Among a (clustersShown rooting t)
+      → shownIn rooting (map (λ (t : Tree). recordOf (clusters t)) trees) a ≡ true
+  unfolding shownIn
+  drawn-shown [] a t m d = absurd (List·Memᴰ·not-nil m)
+  drawn-shown (u ∷ trees) a t m d = go (List·Memᴰ·cases-cons m) (λ k. drawn-shown trees a t k d)
+    where
+      go :
+          (t ≡ u) ⊎ List·Memᴰ t trees → (List·Memᴰ t trees → shownIn rooting (map (λ (t : Tree). recordOf (clusters t)) trees) a ≡ true)
+          → (among a (shownBy rooting (recordOf (clusters u))) || shownIn rooting (map (λ (t : Tree). recordOf (clusters t)) trees) a) ≡ true
+      go (inl e) later =
+          or-left (among a (shownBy rooting (recordOf (clusters u)))) (shownIn rooting (map (λ (t : Tree). recordOf (clusters t)) trees) a)
+          (tells-among a (shownBy rooting (recordOf (clusters u))) .told
+          (shows-exactly rooting u a .1 (subst (λ (t : Tree). Among a (clustersShown rooting t)) e d)))
+      go (inr k) later =
+          or-right (among a (shownBy rooting (recordOf (clusters u)))) (shownIn rooting (map (λ (t : Tree). recordOf (clusters t)) trees) a) (later k)
 
 -- ---- the bytes
 
@@ -61,16 +75,12 @@ flag-one : (b : Bool) → eqb (flag b) 1 ≡ b
 flag-one true = refl
 flag-one false = refl
 
-marked-byte : (n : ℕ) (genes : List (List ℕ)) (a : ℕ) → a < 2 ^ n → eqb (getD (marks n genes) a 0) 1 ≡ shownIn genes a
+marked-byte : (rooting : Rooting) (n : ℕ) (genes : List (List ℕ)) (a : ℕ) → a < 2 ^ n → eqb (getD (marks rooting n genes) a 0) 1 ≡ shownIn rooting genes a
 unfolding marks
-marked-byte n genes a h = ap (λ (x : ℕ). eqb x 1) (map-upTo (λ (a : ℕ). flag (shownIn genes a)) (2 ^ n) a h) ∙ flag-one (shownIn genes a)
+marked-byte rooting n genes a h =
+    ap (λ (x : ℕ). eqb x 1) (map-upTo (λ (a : ℕ). flag (shownIn rooting genes a)) (2 ^ n) a h) ∙ flag-one (shownIn rooting genes a)
 
 -- ---- the modes
-
--- the mode's word
-abbrev pub modeWord : Bool → List ℕ
-modeWord true = allWord
-modeWord false = genesWord
 
 every-byte : (n a : ℕ) → a < 2 ^ n → allowedIn n (replicate (2 ^ n) 1) a ≡ true
 unfolding allowedIn
@@ -78,34 +88,31 @@ every-byte n a below =
     or-right (eqb (size a) 1 || eqb a (whole n)) (eqb (getD (replicate (2 ^ n) 1) a 0) 1)
     (eq-eqb (getD (replicate (2 ^ n) 1) a 0) 1 (getD-replicate (2 ^ n) a 1 0 below))
 
-module _ {n : ℕ} {genes : List (List ℕ)} {trees : List Tree} (r : RecordsOf n genes trees) (a : ℕ) (below : a < 2 ^ n) where
-  pub byte-allows : (all : Bool) → allowedIn n (allowedBy all n genes) a ≡ true → Allows n trees (modeWord all) a
+module _ (rooting : Rooting) {n : ℕ} {genes : List (List ℕ)} {trees : List Tree} (r : RecordsOf n genes trees) (a : ℕ) (below : a < 2 ^ n) where
+  pub byte-allows : (all : Bool) → allowedIn n (allowedBy all rooting n genes) a ≡ true → Allows n rooting trees all a
   unfolding allowedIn
   byte-allows true e = every
-  byte-allows false e = first (either (eqb (size a) 1 || eqb a (whole n)) (eqb (getD (marks n genes) a 0) 1) e)
+  byte-allows false e = first (either (eqb (size a) 1 || eqb a (whole n)) (eqb (getD (marks rooting n genes) a 0) 1) e)
     where
-      second : (eqb (size a) 1 ≡ true) ⊎ (eqb a (whole n) ≡ true) → Allows n trees genesWord a
+      second : (eqb (size a) 1 ≡ true) ⊎ (eqb a (whole n) ≡ true) → Allows n rooting trees false a
       second (inl k) = lone (eqb-true (size a) 1 k)
       second (inr k) = entire (eqb-true a (whole n) k)
 
-      first : ((eqb (size a) 1 || eqb a (whole n)) ≡ true) ⊎ (eqb (getD (marks n genes) a 0) 1 ≡ true) → Allows n trees genesWord a
+      first : ((eqb (size a) 1 || eqb a (whole n)) ≡ true) ⊎ (eqb (getD (marks rooting n genes) a 0) 1 ≡ true) → Allows n rooting trees false a
       first (inl k) = second (either (eqb (size a) 1) (eqb a (whole n)) k)
       first (inr k) =
-          let d = shown-drawn trees a (ap (λ (l : List (List ℕ)). shownIn l a) (sym (r .records)) ∙ sym (marked-byte n genes a below) ∙ k) in
+          let d = shown-drawn rooting trees a
+          (ap (λ (l : List (List ℕ)). shownIn rooting l a) (sym (r .records)) ∙ sym (marked-byte rooting n genes a below) ∙ k) in
           shown (d .1) (d .2)
 
-  shown-byte : {w : List ℕ} → Allows n trees w a → w ≡ genesWord → allowedIn n (marks n genes) a ≡ true
-  unfolding allowedIn
-  shown-byte every e = absurd (omega (arith, ap length e))
-  shown-byte (lone k) e =
-      or-left (eqb (size a) 1 || eqb a (whole n)) (eqb (getD (marks n genes) a 0) 1) (or-left (eqb (size a) 1) (eqb a (whole n)) (eq-eqb (size a) 1 k))
-  shown-byte (entire k) e =
-      or-left (eqb (size a) 1 || eqb a (whole n)) (eqb (getD (marks n genes) a 0) 1) (or-right (eqb (size a) 1) (eqb a (whole n)) (eq-eqb a (whole n) k))
-  shown-byte (shown {t = t} m d) e =
-      or-right (eqb (size a) 1 || eqb a (whole n)) (eqb (getD (marks n genes) a 0) 1)
-      (marked-byte n genes a below ∙ ap (λ (l : List (List ℕ)). shownIn l a) (r .records) ∙ drawn-shown trees a t m d)
-
   -- and the other way
-  pub allows-byte : (all : Bool) → Allows n trees (modeWord all) a → allowedIn n (allowedBy all n genes) a ≡ true
+  pub allows-byte : (all : Bool) → Allows n rooting trees all a → allowedIn n (allowedBy all rooting n genes) a ≡ true
+  unfolding allowedIn
   allows-byte true h = every-byte n a below
-  allows-byte false h = shown-byte h refl
+  allows-byte false (lone k) =
+      or-left (eqb (size a) 1 || eqb a (whole n)) (eqb (getD (marks rooting n genes) a 0) 1) (or-left (eqb (size a) 1) (eqb a (whole n)) (eq-eqb (size a) 1 k))
+  allows-byte false (entire k) =
+      or-left (eqb (size a) 1 || eqb a (whole n)) (eqb (getD (marks rooting n genes) a 0) 1) (or-right (eqb (size a) 1) (eqb a (whole n)) (eq-eqb a (whole n) k))
+  allows-byte false (shown {t = t} m d) =
+      or-right (eqb (size a) 1 || eqb a (whole n)) (eqb (getD (marks rooting n genes) a 0) 1)
+      (marked-byte rooting n genes a below ∙ ap (λ (l : List (List ℕ)). shownIn rooting l a) (r .records) ∙ drawn-shown rooting trees a t m d)

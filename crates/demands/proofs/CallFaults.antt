@@ -19,7 +19,8 @@ use Rattle.roster.specs.declared.Reply.{Reply}
 use Rattle.texts.specs.Writing.{written}
 use Rattle.writer.specs.Promise.{rosterTest, writeTests, Writes}
 use Rattle.writer.proofs.RosterNames.{good-names}
-use Rattle.lineages.specs.Checks.{speciesTest, countTest, recordsTest, weightTests, scoreTests, markTests}
+use Rattle.weights.specs.declared.Rooting.{Rooting}
+use Rattle.lineages.specs.Checks.{speciesTest, countTest, recordsTest, rootingTest, weightTests, scoreTests, markTests}
 use Rattle.lineages.specs.Promise.{Weighs, Scores, Marks}
 use Rattle.lineages.specs.Work.{said}
 use Rattle.lineages.proofs.Verdicts.{verdict-first}
@@ -30,10 +31,10 @@ use Rattle.search.specs.Promise.{allowedTest, searchTests, foundOr, Finds}
 use Rattle.search.specs.Candidates.{Candidate}
 use Rattle.search.proofs.Accepted.{NoneGives}
 use Rattle.search.proofs.Demand.{found-answers, none-competes}
-use Rattle.demands.specs.CallFaults.{RosterFault, NoTreeFault, WriteFault, WeightFault, ScoreFault, MarkFault, SearchFault}
+use Rattle.demands.specs.CallFaults.{RosterFault, RootingFault, NoTreeFault, WriteFault, WeightFault, ScoreFault, MarkFault, SearchFault}
 use Rattle.demands.specs.CallFaults.NoTreeFault.{no-tree}
 use Rattle.demands.proofs.FirstFaults.{Exact, Meets, exact-last, exact-next, refused-at, one-fault, behind-passed}
-use Rattle.demands.proofs.TestFaults.{species-met, count-met, length-met, species-record-met, records-met, record-met, cluster-met, allowed-met, roster-met}
+use Rattle.demands.proofs.TestFaults.{species-met, count-met, length-met, species-record-met, records-met, records-passed, rooting-met, record-met, cluster-met, allowed-met, roster-met}
 
 -- ---- judging a roster
 
@@ -79,68 +80,78 @@ module _ (line tree out : List ℕ) where
 
 -- ---- weighing, scoring and marking
 
-few-species : (n : ℕ) → speciesTest n .fault ≡ false → n ≤ 16
+-- where 1 does not stand there are at most sixteen species
+pub few-species : (n : ℕ) → speciesTest n .fault ≡ false → n ≤ 16
 unfolding speciesTest
 few-species n e = leb-true n 16 (both (leb 1 n) (leb n 16) (not-false (leb 1 n && leb n 16) e) .1)
 
-module _ (n : ℕ) (genes : List ℕ) (count : ℕ) where
+module _ (rooting : Rooting) (n : ℕ) (genes : List ℕ) (count : ℕ) where
+  -- 19, behind 15
+  rooted-met :
+      n ≤ 16 → recordsTest n (recordsIn count genes) .fault ≡ false
+      → Meets (rootingTest rooting n (recordsIn count genes)) (RootingFault rooting n (recordsIn count genes))
+  rooted-met few v = rooting-met n few rooting (recordsIn count genes) (records-passed n few (recordsIn count genes) v)
+
   module _ (a : ℕ) where
-    pub weight-exact : Exact (verdict (weightTests n genes count a)) (WeightFault n genes count a)
+    pub weight-exact : Exact (verdict (weightTests rooting n genes count a)) (WeightFault rooting n genes count a)
     unfolding weightTests
     weight-exact =
         exact-next _ (species-met n) (λ s.
         exact-next _ (count-met count) (λ c.
         exact-next _ (length-met genes (32 * count)) (λ l.
         exact-next _ (records-met n (few-species n s) (recordsIn count genes)) (λ v.
-        exact-last (cluster-met n a)))))
+        exact-next _ (rooted-met (few-species n s) v) (λ u.
+        exact-last (cluster-met n a))))))
 
     -- "All others: 1, 11, 12, 16, 15, 13, 14, each where it applies": weighing
     pub weigh-refused-at :
-        (r : Reply) → Weighs n genes count a r → (number place : ℕ)
-        → ((r .number ≡ number) × (r .place ≡ place) × (number ≡ 0 → ⊥)) ↔ WeightFault n genes count a number place
+        (r : Reply) → Weighs rooting n genes count a r → (number place : ℕ)
+        → ((r .number ≡ number) × (r .place ≡ place) × (number ≡ 0 → ⊥)) ↔ WeightFault rooting n genes count a number place
     unfolding Weighs
     weigh-refused-at r w = refused-at weight-exact (ap (λ (r : Reply). r .number) w) (ap (λ (r : Reply). r .place) w)
 
-    pub one-weight-fault : {k p k′ p′ : ℕ} → WeightFault n genes count a k p → WeightFault n genes count a k′ p′ → (k ≡ k′) × (p ≡ p′)
+    pub one-weight-fault : {k p k′ p′ : ℕ} → WeightFault rooting n genes count a k p → WeightFault rooting n genes count a k′ p′ → (k ≡ k′) × (p ≡ p′)
     one-weight-fault = one-fault weight-exact
 
   module _ (species : List ℕ) where
-    pub score-exact : Exact (verdict (scoreTests n genes count species)) (ScoreFault n genes count species)
+    pub score-exact : Exact (verdict (scoreTests rooting n genes count species)) (ScoreFault rooting n genes count species)
     unfolding scoreTests
     score-exact =
         exact-next _ (species-met n) (λ s.
         exact-next _ (count-met count) (λ c.
         exact-next _ (length-met genes (32 * count)) (λ l.
-        exact-next _ (species-record-met n species (few-species n s)) (λ v.
-        exact-last (records-met n (few-species n s) (recordsIn count genes))))))
+        exact-next _ (species-record-met n species (few-species n s)) (λ t.
+        exact-next _ (records-met n (few-species n s) (recordsIn count genes)) (λ v.
+        exact-last (rooted-met (few-species n s) v))))))
 
     -- the same: scoring
     pub score-refused-at :
-        (r : Reply) → Scores n genes count species r → (number place : ℕ)
-        → ((r .number ≡ number) × (r .place ≡ place) × (number ≡ 0 → ⊥)) ↔ ScoreFault n genes count species number place
+        (r : Reply) → Scores rooting n genes count species r → (number place : ℕ)
+        → ((r .number ≡ number) × (r .place ≡ place) × (number ≡ 0 → ⊥)) ↔ ScoreFault rooting n genes count species number place
     unfolding Scores
     score-refused-at r w = refused-at score-exact (ap (λ (r : Reply). r .number) w) (ap (λ (r : Reply). r .place) w)
 
-    pub one-score-fault : {k p k′ p′ : ℕ} → ScoreFault n genes count species k p → ScoreFault n genes count species k′ p′ → (k ≡ k′) × (p ≡ p′)
+    pub one-score-fault : {k p k′ p′ : ℕ} → ScoreFault rooting n genes count species k p → ScoreFault rooting n genes count species k′ p′ → (k ≡ k′) × (p ≡ p′)
     one-score-fault = one-fault score-exact
 
   module _ (out : List ℕ) where
-    pub mark-exact : Exact (verdict (markTests n genes count out)) (MarkFault n genes count out)
+    pub mark-exact : Exact (verdict (markTests rooting n genes count out)) (MarkFault rooting n genes count out)
     unfolding markTests
     mark-exact =
         exact-next _ (species-met n) (λ s.
         exact-next _ (count-met count) (λ c.
         exact-next _ (length-met genes (32 * count)) (λ l.
         exact-next _ (length-met out (2 ^ n)) (λ o.
-        exact-last (records-met n (few-species n s) (recordsIn count genes))))))
+        exact-next _ (records-met n (few-species n s) (recordsIn count genes)) (λ v.
+        exact-last (rooted-met (few-species n s) v))))))
 
     -- the same: marking
     pub mark-refused-at :
-        (r : Reply) (after : List ℕ) → Marks n genes count out r after → (number place : ℕ)
-        → ((r .number ≡ number) × (r .place ≡ place) × (number ≡ 0 → ⊥)) ↔ MarkFault n genes count out number place
+        (r : Reply) (after : List ℕ) → Marks rooting n genes count out r after → (number place : ℕ)
+        → ((r .number ≡ number) × (r .place ≡ place) × (number ≡ 0 → ⊥)) ↔ MarkFault rooting n genes count out number place
     mark-refused-at r after w = refused-at mark-exact (ap (λ (r : Reply). r .number) (w .reply)) (ap (λ (r : Reply). r .place) (w .reply))
 
-    pub one-mark-fault : {k p k′ p′ : ℕ} → MarkFault n genes count out k p → MarkFault n genes count out k′ p′ → (k ≡ k′) × (p ≡ p′)
+    pub one-mark-fault : {k p k′ p′ : ℕ} → MarkFault rooting n genes count out k p → MarkFault rooting n genes count out k′ p′ → (k ≡ k′) × (p ≡ p′)
     one-mark-fault = one-fault mark-exact
 
 -- ---- searching
@@ -158,29 +169,31 @@ abbrev replied : Found → Verdict
 replied r = said (r .number) (r .place)
 
 -- "14 | no binary tree over the allowed clusters | 0"
-tree-met : (n : ℕ) (genes : List (List ℕ)) (allowed : List ℕ) → n ≤ 16 → Meets (treeTest (bestFor n genes allowed (whole n))) (NoTreeFault n allowed)
-tree-met n genes allowed few =
-    record { numbered = λ z. omega arith; found = λ e. no-tree (found (bestFor n genes allowed (whole n)) refl e); only = only }
+tree-met :
+    (rooting : Rooting) (n : ℕ) (genes : List (List ℕ)) (allowed : List ℕ) → n ≤ 16
+    → Meets (treeTest (bestFor rooting n genes allowed (whole n))) (NoTreeFault n allowed)
+tree-met rooting n genes allowed few =
+    record { numbered = λ z. omega arith; found = λ e. no-tree (found (bestFor rooting n genes allowed (whole n)) refl e); only = only }
   where
-    found : (best : Option Binary) → bestFor n genes allowed (whole n) ≡ best → missing best ≡ true → (c : List ℕ) → Candidate n allowed c → ⊥
-    found none b e = none-competes n genes allowed few b
+    found : (best : Option Binary) → bestFor rooting n genes allowed (whole n) ≡ best → missing best ≡ true → (c : List ℕ) → Candidate n allowed c → ⊥
+    found none b e = none-competes rooting n genes allowed few b
     found (some t) b e = absurd (true≢false (sym e))
 
-    is-missing : (best : Option Binary) → bestFor n genes allowed (whole n) ≡ best → ((c : List ℕ) → Candidate n allowed c → ⊥) → missing best ≡ true
+    is-missing : (best : Option Binary) → bestFor rooting n genes allowed (whole n) ≡ best → ((c : List ℕ) → Candidate n allowed c → ⊥) → missing best ≡ true
     is-missing none b f = refl
-    is-missing (some t) b f = absurd (f _ (found-answers n genes allowed few t b .competes))
+    is-missing (some t) b f = absurd (f _ (found-answers rooting n genes allowed few t b .competes))
 
-    only : {k p : ℕ} → NoTreeFault n allowed k p → (missing (bestFor n genes allowed (whole n)) ≡ true) × (k ≡ 14) × (p ≡ 0)
-    only (no-tree f) = (is-missing (bestFor n genes allowed (whole n)) refl f, refl, refl)
+    only : {k p : ℕ} → NoTreeFault n allowed k p → (missing (bestFor rooting n genes allowed (whole n)) ≡ true) × (k ≡ 14) × (p ≡ 0)
+    only (no-tree f) = (is-missing (bestFor rooting n genes allowed (whole n)) refl f, refl, refl)
 
-module _ (n : ℕ) (genes : List ℕ) (count : ℕ) (allowed scores splits : List ℕ) where
+module _ (rooting : Rooting) (n : ℕ) (genes : List ℕ) (count : ℕ) (allowed scores splits : List ℕ) where
   abbrev best : Option Binary
-  best = bestFor n (recordsIn count genes) allowed (whole n)
+  best = bestFor rooting n (recordsIn count genes) allowed (whole n)
 
   abbrev allTests : List Test
-  allTests = searchTests n genes count allowed scores splits ++ (treeTest best ∷ [])
+  allTests = searchTests rooting n genes count allowed scores splits ++ (treeTest best ∷ [])
 
-  pub search-exact : Exact (verdict allTests) (SearchFault n genes count allowed scores splits)
+  pub search-exact : Exact (verdict allTests) (SearchFault rooting n genes count allowed scores splits)
   unfolding searchTests
   search-exact =
       exact-next _ (species-met n) (λ s.
@@ -190,42 +203,52 @@ module _ (n : ℕ) (genes : List ℕ) (count : ℕ) (allowed scores splits : Lis
       exact-next _ (length-met scores (2 ^ n)) (λ p.
       exact-next _ (length-met splits (2 ^ n)) (λ q.
       exact-next _ (records-met n (few-species n s) (recordsIn count genes)) (λ v.
+      exact-next _ (rooted-met rooting n genes count (few-species n s) v) (λ u.
       exact-next _ (allowed-met n allowed) (λ b.
-      exact-last (tree-met n (recordsIn count genes) allowed (few-species n s))))))))))
+      exact-last (tree-met rooting n (recordsIn count genes) allowed (few-species n s)))))))))))
 
-  numbered : NoneGives 0 (searchTests n genes count allowed scores splits)
-  unfolding searchTests speciesTest countTest lengthTest recordsTest allowedTest NoneGives
-  numbered =
-      (λ z. omega arith, (λ z. omega arith, (λ z. omega arith, (λ z. omega arith, (λ z. omega arith, (λ z. omega arith, (λ z. omega arith, (λ z. omega arith, tt))))))))
+  numbered : NoneGives 0 (searchTests rooting n genes count allowed scores splits)
+  unfolding searchTests speciesTest countTest lengthTest recordsTest rootingTest allowedTest NoneGives
+  numbered = (
+    λ z. omega arith,
+    (
+      λ z. omega arith,
+      (λ z. omega arith, (λ z. omega arith, (λ z. omega arith, (λ z. omega arith, (λ z. omega arith, (λ z. omega arith, (λ z. omega arith, tt))))))),
+    ),
+  )
 
   -- the reply has the number and the place that all tests say
   reply-said :
       replied
-      (foundOr (verdict (searchTests n genes count allowed scores splits) .number) (verdict (searchTests n genes count allowed scores splits) .place)
-      (foundBy best (recordsIn count genes)))
+      (foundOr (verdict (searchTests rooting n genes count allowed scores splits) .number)
+      (verdict (searchTests rooting n genes count allowed scores splits) .place)
+      (foundBy rooting best (recordsIn count genes)))
       ≡ verdict allTests
   unfolding verdict
-  reply-said = go (verdict (searchTests n genes count allowed scores splits) .number) (verdict (searchTests n genes count allowed scores splits) .place) refl
+  reply-said =
+      go (verdict (searchTests rooting n genes count allowed scores splits) .number)
+      (verdict (searchTests rooting n genes count allowed scores splits) .place) refl
     where
-      told : (o : Option Binary) → replied (foundBy o (recordsIn count genes)) ≡ verdict (treeTest o ∷ [])
+      told : (o : Option Binary) → replied (foundBy rooting o (recordsIn count genes)) ≡ verdict (treeTest o ∷ [])
       told none = refl
       told (some t) = refl
 
-      go : (k q : ℕ) → verdict (searchTests n genes count allowed scores splits) ≡ said k q
-          → replied (foundOr k q (foundBy best (recordsIn count genes))) ≡ verdict allTests
+      go : (k q : ℕ) → verdict (searchTests rooting n genes count allowed scores splits) ≡ said k q
+          → replied (foundOr k q (foundBy rooting best (recordsIn count genes))) ≡ verdict allTests
       go zero q e =
           told best
-          ∙ sym (behind-passed (searchTests n genes count allowed scores splits) (treeTest best ∷ []) numbered (ap (λ (v : Verdict). v .number) e))
-      go (suc k) q e = sym (verdict-first (searchTests n genes count allowed scores splits) (treeTest best ∷ []) e (λ z. omega arith))
+          ∙ sym (behind-passed (searchTests rooting n genes count allowed scores splits) (treeTest best ∷ []) numbered (ap (λ (v : Verdict). v .number) e))
+      go (suc k) q e = sym (verdict-first (searchTests rooting n genes count allowed scores splits) (treeTest best ∷ []) e (λ z. omega arith))
 
   -- the same: searching
   pub find-refused-at :
-      (r : Found) (s p : List ℕ) → Finds n genes count allowed scores splits r s p → (number place : ℕ)
-      → ((r .number ≡ number) × (r .place ≡ place) × (number ≡ 0 → ⊥)) ↔ SearchFault n genes count allowed scores splits number place
+      (r : Found) (s p : List ℕ) → Finds rooting n genes count allowed scores splits r s p → (number place : ℕ)
+      → ((r .number ≡ number) × (r .place ≡ place) × (number ≡ 0 → ⊥)) ↔ SearchFault rooting n genes count allowed scores splits number place
   find-refused-at r s p f =
       let e = ap replied (f .reply) ∙ reply-said in
       refused-at search-exact (ap (λ (v : Verdict). v .number) e) (ap (λ (v : Verdict). v .place) e)
 
   pub one-search-fault :
-      {k p k′ p′ : ℕ} → SearchFault n genes count allowed scores splits k p → SearchFault n genes count allowed scores splits k′ p′ → (k ≡ k′) × (p ≡ p′)
+      {k p k′ p′ : ℕ} → SearchFault rooting n genes count allowed scores splits k p → SearchFault rooting n genes count allowed scores splits k′ p′
+      → (k ≡ k′) × (p ≡ p′)
   one-search-fault = one-fault search-exact

@@ -1,4 +1,4 @@
--- The rows of 01's table that are marked P, and rows of #104 and #113, under one claim.
+-- The rows of 01's table that are marked P, and rows of #104, #113 and #106, under one claim.
 use Prim.Native.Nat.{ℕ}
 use mathlib.Core.Path.{_≡_, refl}
 use mathlib.Core.Bool.{true}
@@ -10,7 +10,8 @@ use Rattle.demands.specs.Examples.Row.{recorded, counted, scored, search
 use Rattle.demands.specs.Examples.Allowed.{every, own, only}
 use Rattle.clusters.specs.Sets.{whole, single, union, has, within, apart, size, lowest}
 use Rattle.demands.specs.Examples.{recordIn, foundIn, readingBelow, holds, allHold}
-use Rattle.weights.specs.Count.{kOf, extra, weight, score}
+use Rattle.weights.specs.declared.Rooting.the-variants.{Rooted, Unrooted}
+use Rattle.weights.specs.Count.{unrootedHas, unrootedClusters, maximalWithin, kDrawn, kOf, extra, weight, score}
 use Rattle.weights.specs.Marks.{shown}
 use Rattle.lineages.specs.Promise.{marks}
 use Rattle.tokens.specs.Supports.{supported}
@@ -35,7 +36,7 @@ use Rattle.trees.specs.Thinned.{leftBelow, clustersLeft}
 use Rattle.trees.specs.Valid.{every as every-trees, among, rising, singlesFrom}
 use Rattle.texts.specs.Writing.{treeText, written, nodeText}
 
--- 01's rows marked P, in its order, and behind them rows of #104 and #113
+-- 01's rows marked P, in its order, and behind them rows of #104, #113 and #106
 pub examples : List Row
 examples =
     -- the rosters, and the texts of the trees
@@ -57,6 +58,8 @@ examples =
     let ac-bd : List ℕ = 40 ∷ 40 ∷ 97 ∷ 44 ∷ 99 ∷ 41 ∷ 44 ∷ 40 ∷ 98 ∷ 44 ∷ 100 ∷ 41 ∷ 41 ∷ 59 ∷ [] in
     -- `(((a,b),c),d);`
     let ab-c-d : List ℕ = 40 ∷ 40 ∷ 40 ∷ 97 ∷ 44 ∷ 98 ∷ 41 ∷ 44 ∷ 99 ∷ 41 ∷ 44 ∷ 100 ∷ 41 ∷ 59 ∷ [] in
+    -- `(a,(b,(c,d)));`
+    let a-b-cd : List ℕ = 40 ∷ 97 ∷ 44 ∷ 40 ∷ 98 ∷ 44 ∷ 40 ∷ 99 ∷ 44 ∷ 100 ∷ 41 ∷ 41 ∷ 41 ∷ 59 ∷ [] in
     -- `(a,b,c,d);`
     let star : List ℕ = 40 ∷ 97 ∷ 44 ∷ 98 ∷ 44 ∷ 99 ∷ 44 ∷ 100 ∷ 41 ∷ 59 ∷ [] in
     -- `((a,b),c,d);`
@@ -77,35 +80,35 @@ examples =
     -- `((a,b),c);` | record 5, 1, 2, 3, 4, 7, and 26 zeros
     recorded abc ab-c (5 ∷ 1 ∷ 2 ∷ 3 ∷ 4 ∷ 7 ∷ replicate 26 0)
     -- that tree, cluster 5 | k = 2
-    ∷ counted abc ab-c 5 2
+    ∷ counted Rooted abc ab-c 5 2
     -- that tree, cluster 7 | k = 1
-    ∷ counted abc ab-c 7 1
+    ∷ counted Rooted abc ab-c 7 1
     -- `((a,b),(c,d));` scored on `(((a,b),c),d);` | 1
-    ∷ scored abcd ab-cd ab-c-d 1
+    ∷ scored Rooted abcd ab-cd ab-c-d 1
     -- the same on `((a,c),(b,d));` | 2
-    ∷ scored abcd ab-cd ac-bd 2
+    ∷ scored Rooted abcd ab-cd ac-bd 2
     -- `(a,b,c,d);` on `((a,b),(c,d));` | 0 (#101)
-    ∷ scored abcd star ab-cd 0
+    ∷ scored Rooted abcd star ab-cd 0
     -- `(a,b,c,d);` on `(((a,b),c),d);` | 0 (#101)
-    ∷ scored abcd star ab-c-d 0
+    ∷ scored Rooted abcd star ab-c-d 0
     -- `((a,b),c);` `((a,b),c);` `((a,c),b);`, all | 1, `((a,b),c);`
-    ∷ searched abc (ab-c ∷ ab-c ∷ ac-b ∷ []) every 0 1 ab-c
+    ∷ searched Rooted abc (ab-c ∷ ab-c ∷ ac-b ∷ []) every 0 1 ab-c
     -- one of each three-species binary tree, all | 2, `(a,(b,c));`
-    ∷ searched abc (ab-c ∷ ac-b ∷ bc-a ∷ []) every 0 2 a-bc
+    ∷ searched Rooted abc (ab-c ∷ ac-b ∷ bc-a ∷ []) every 0 2 a-bc
     -- `((a,b),c,d);`, its own clusters | 14
-    ∷ searched abcd (ab-star ∷ []) own 14 0 []
+    ∷ searched Rooted abcd (ab-star ∷ []) own 14 0 []
     -- `((a,c),(b,d));`, allowed 3 and 12 only | 2, `((a,b),(c,d));`
-    ∷ searched abcd (ac-bd ∷ []) (only (3 ∷ 12 ∷ [])) 0 2 ab-cd
+    ∷ searched Rooted abcd (ac-bd ∷ []) (only (3 ∷ 12 ∷ [])) 0 2 ab-cd
     -- roster `a`, `a;`, all | 0, `a;`
-    ∷ searched (97 ∷ []) ((97 ∷ 59 ∷ []) ∷ []) every 0 0 (97 ∷ 59 ∷ [])
+    ∷ searched Rooted (97 ∷ []) ((97 ∷ 59 ∷ []) ∷ []) every 0 0 (97 ∷ 59 ∷ [])
     -- `((a,c),b);` on roster `a b c d`, scored on `(((a,b),c),d);` | 1 (#104)
-    ∷ scored abcd ac-b ab-c-d 1
+    ∷ scored Rooted abcd ac-b ab-c-d 1
     -- that tree, cluster 8, of which it has no species | k = 0 (#104)
-    ∷ counted abcd ac-b 8 0
+    ∷ counted Rooted abcd ac-b 8 0
     -- `((a,c),b);` `(b,d);` on roster `a b c d`, all | 0, `((a,c),(b,d));` (#104)
-    ∷ searched abcd (ac-b ∷ bd ∷ []) every 0 0 ac-bd
+    ∷ searched Rooted abcd (ac-b ∷ bd ∷ []) every 0 0 ac-bd
     -- `(a,b);` on roster `a b c d`, its own clusters as they stand | 14 (#104)
-    ∷ searched abcd (ab ∷ []) own 14 0 []
+    ∷ searched Rooted abcd (ab ∷ []) own 14 0 []
     -- `7` is 7000 thousandths, `0.5` is 500, `1.250` is 1250, and `0.5000` has no value (#113)
     ∷ valued (55 ∷ []) (Thousandths 7000)
     ∷ valued (48 ∷ 46 ∷ 53 ∷ []) (Thousandths 500)
@@ -123,11 +126,22 @@ examples =
     ∷ readBelow abc fine-a 0 18 5 (replicate 32 0)
     -- `((a,b)::0.5000,c);` without a threshold | record 5, 1, 2, 3, 4, 7, and 26 zeros (#113)
     ∷ recorded abc ab-fine-c (5 ∷ 1 ∷ 2 ∷ 3 ∷ 4 ∷ 7 ∷ replicate 26 0)
+    -- `((a,b),(c,d));` without a root, cluster 7 | k = 1: the complement of d; with one | k = 2 (#106)
+    ∷ counted Unrooted abcd ab-cd 7 1
+    ∷ counted Rooted abcd ab-cd 7 2
+    -- the whole set without a root | k = 1 (#106)
+    ∷ counted Unrooted abcd ab-cd 15 1
+    -- `((a,b),(c,d));` without a root scored on `(((a,b),c),d);` | 0, on `((a,c),(b,d));` | 2 (#106)
+    ∷ scored Unrooted abcd ab-cd ab-c-d 0
+    ∷ scored Unrooted abcd ab-cd ac-bd 2
+    -- `((a,b),c,d);` without a root, the clusters that it shows | 0, `(a,(b,(c,d)));` (#106)
+    ∷ searched Unrooted abcd (ab-star ∷ []) own 0 0 a-b-cd
     ∷ []
 
 -- every one of them holds, by the definitions that the promises cite
 pub examples-hold : allHold examples ≡ true
-unfolding examples ones onesIn trailingZeros whole single union has within apart size lowest recordIn foundIn readingBelow holds allHold kOf extra total weight
+unfolding examples ones onesIn trailingZeros whole single union has within apart size lowest recordIn foundIn readingBelow holds allHold unrootedHas
+    unrootedClusters maximalWithin kDrawn kOf extra total weight
     score pieces shown marks answerTo leafBy closingBy readTreeToBy readTreeBy readNodeBy nextIs nextLabel blanks skip number numberBehind numbers supported
     name innerName run bareLetters letters lettersFrom doubled rawTo told padded upTo same position inQuotes begins beginnings nameAt names strayAt
     longAt manyAt againAt openAt faultAt least firstFault faulty clustersIn isLow lows each forks treesTo treesOn those all scoreOf treesOver

@@ -25,7 +25,8 @@ use Rattle.texts.specs.Writing.{written}
 use Rattle.writer.specs.Promise.{rosterTest, recordTest, writeTests, outBy, Writes}
 use Rattle.weights.specs.Count.{weight, score}
 use Rattle.trees.specs.Records.{recordsIn}
-use Rattle.lineages.specs.Checks.{speciesTest, countTest, speciesRecordTest, recordsTest, clusterTest, weightTests, scoreTests, markTests}
+use Rattle.weights.specs.declared.Rooting.{Rooting}
+use Rattle.lineages.specs.Checks.{speciesTest, countTest, speciesRecordTest, recordsTest, rootingTest, clusterTest, weightTests, scoreTests, markTests}
 use Rattle.lineages.specs.Promise.{Weighs, Scores, Marks, markedBy}
 use Rattle.splits.specs.BinaryTrees.{Binary}
 use Rattle.splits.specs.Least.{scoreEntry, splitEntry}
@@ -70,47 +71,48 @@ replies-write line tree out =
     }
 
 -- "Every .. table and number": any gene records, any n, count and cluster
-pub replies-weigh : (n : ℕ) (genes : List ℕ) (count cluster : ℕ) → Replies (Weighs n genes count cluster)
+pub replies-weigh : (rooting : Rooting) (n : ℕ) (genes : List ℕ) (count cluster : ℕ) → Replies (Weighs rooting n genes count cluster)
 unfolding Weighs
-replies-weigh n genes count cluster =
-    let reply = replyOf (verdict (weightTests n genes count cluster)) (weight (recordsIn count genes) cluster) in
-    record { outcome = reply; meets = refl; only = λ r p. weigh-once n genes count cluster r reply p refl }
+replies-weigh rooting n genes count cluster =
+    let reply = replyOf (verdict (weightTests rooting n genes count cluster)) (weight rooting (recordsIn count genes) cluster) in
+    record { outcome = reply; meets = refl; only = λ r p. weigh-once rooting n genes count cluster r reply p refl }
 
 -- any species record with them
-pub replies-score : (n : ℕ) (genes : List ℕ) (count : ℕ) (species : List ℕ) → Replies (Scores n genes count species)
+pub replies-score : (rooting : Rooting) (n : ℕ) (genes : List ℕ) (count : ℕ) (species : List ℕ) → Replies (Scores rooting n genes count species)
 unfolding Scores
-replies-score n genes count species =
-    let reply = replyOf (verdict (scoreTests n genes count species)) (score (recordsIn count genes) species) in
-    record { outcome = reply; meets = refl; only = λ r p. score-once n genes count species r reply p refl }
+replies-score rooting n genes count species =
+    let reply = replyOf (verdict (scoreTests rooting n genes count species)) (score rooting (recordsIn count genes) species) in
+    record { outcome = reply; meets = refl; only = λ r p. score-once rooting n genes count species r reply p refl }
 
 -- any bytes lent for the marks
-pub replies-mark : (n : ℕ) (genes : List ℕ) (count : ℕ) (out : List ℕ) → Replies (λ (o : Reply × List ℕ). Marks n genes count out (o .0) (o .1))
-replies-mark n genes count out =
-    let reply : Reply = replyOf (verdict (markTests n genes count out)) 0 in
-    let after : List ℕ = markedBy (verdict (markTests n genes count out) .number) n (recordsIn count genes) out in
-    let meets : Marks n genes count out reply after = record { reply = refl; bytes = refl } in
+pub replies-mark :
+    (rooting : Rooting) (n : ℕ) (genes : List ℕ) (count : ℕ) (out : List ℕ) → Replies (λ (o : Reply × List ℕ). Marks rooting n genes count out (o .0) (o .1))
+replies-mark rooting n genes count out =
+    let reply : Reply = replyOf (verdict (markTests rooting n genes count out)) 0 in
+    let after : List ℕ = markedBy rooting (verdict (markTests rooting n genes count out) .number) n (recordsIn count genes) out in
+    let meets : Marks rooting n genes count out reply after = record { reply = refl; bytes = refl } in
     record {
       outcome = (reply, after);
       meets = meets;
-      only = λ o p. let e = mark-once n genes count out (o .0) reply (o .1) after p meets in ap₂ (λ (r : Reply) (l : List ℕ). (r, l)) (e .0) (e .1);
+      only = λ o p. let e = mark-once rooting n genes count out (o .0) reply (o .1) after p meets in ap₂ (λ (r : Reply) (l : List ℕ). (r, l)) (e .0) (e .1);
     }
 
 -- any allowed set, and any two tables lent
 pub replies-find :
-    (n : ℕ) (genes : List ℕ) (count : ℕ) (allowed scores splits : List ℕ)
-    → Replies (λ (o : Found × List ℕ × List ℕ). Finds n genes count allowed scores splits (o .0) (o .1) (o .2))
-replies-find n genes count allowed scores splits =
-    let said : Verdict = verdict (searchTests n genes count allowed scores splits) in
-    let trees : ℕ → Option Binary = bestFor n (recordsIn count genes) allowed in
-    let reply : Found = foundOr (said .number) (said .place) (foundBy (trees (whole n)) (recordsIn count genes)) in
-    let s : List ℕ = filledBy (said .number) n (λ a. scoreEntry (weight (recordsIn count genes)) (trees a)) scores in
+    (rooting : Rooting) (n : ℕ) (genes : List ℕ) (count : ℕ) (allowed scores splits : List ℕ)
+    → Replies (λ (o : Found × List ℕ × List ℕ). Finds rooting n genes count allowed scores splits (o .0) (o .1) (o .2))
+replies-find rooting n genes count allowed scores splits =
+    let said : Verdict = verdict (searchTests rooting n genes count allowed scores splits) in
+    let trees : ℕ → Option Binary = bestFor rooting n (recordsIn count genes) allowed in
+    let reply : Found = foundOr (said .number) (said .place) (foundBy rooting (trees (whole n)) (recordsIn count genes)) in
+    let s : List ℕ = filledBy (said .number) n (λ a. scoreEntry (weight rooting (recordsIn count genes)) (trees a)) scores in
     let p : List ℕ = filledBy (said .number) n (λ a. splitEntry (trees a)) splits in
-    let meets : Finds n genes count allowed scores splits reply s p = record { reply = refl; scoreTable = refl; splitTable = refl } in
+    let meets : Finds rooting n genes count allowed scores splits reply s p = record { reply = refl; scoreTable = refl; splitTable = refl } in
     record {
       outcome = (reply, s, p);
       meets = meets;
       only = λ o f.
-          let e = find-once n genes count allowed scores splits (o .0) reply (o .1) s (o .2) p f meets in
+          let e = find-once rooting n genes count allowed scores splits (o .0) reply (o .1) s (o .2) p f meets in
           ap (λ (r : Found). (r, o .1, o .2)) (e .0) ∙ ap₂ (λ (l k : List ℕ). (reply, l, k)) (e .1) (e .2);
     }
 
@@ -163,53 +165,56 @@ write-refused line tree out r after w f =
       w .bytes ∙ outBy-refused (verdict l .number) (written (names line) tree) out (λ z. f (ap (λ (r : Reply). r .number) (w .answer) ∙ z)),
     )
 
--- "All others: 1, 11, 12, 16, 15, 13, 14, each where it applies": "0 for any other value"
+-- "All others: 1, 11, 12, 16, 15, 13, 14, each where it applies", with 19 "straight after 15" (#106): "0 for any other value"
 pub weigh-refused :
-    (n : ℕ) (genes : List ℕ) (count cluster : ℕ) (r : Reply) → Weighs n genes count cluster r → (r .number ≡ 0 → ⊥)
-    → TurnedAway (1 ∷ 11 ∷ 12 ∷ 15 ∷ 13 ∷ []) r
-unfolding Weighs weightTests speciesTest countTest lengthTest recordsTest clusterTest
-weigh-refused n genes count cluster r p f = replyOf-refused (weightTests n genes count cluster) (weight (recordsIn count genes) cluster) r p f
+    (rooting : Rooting) (n : ℕ) (genes : List ℕ) (count cluster : ℕ) (r : Reply) → Weighs rooting n genes count cluster r → (r .number ≡ 0 → ⊥)
+    → TurnedAway (1 ∷ 11 ∷ 12 ∷ 15 ∷ 19 ∷ 13 ∷ []) r
+unfolding Weighs weightTests speciesTest countTest lengthTest recordsTest rootingTest clusterTest
+weigh-refused rooting n genes count cluster r p f =
+    replyOf-refused (weightTests rooting n genes count cluster) (weight rooting (recordsIn count genes) cluster) r p f
 
 -- "A refused call returns score 0"
 pub score-refused :
-    (n : ℕ) (genes : List ℕ) (count : ℕ) (species : List ℕ) (r : Reply) → Scores n genes count species r → (r .number ≡ 0 → ⊥)
-    → TurnedAway (1 ∷ 11 ∷ 12 ∷ 16 ∷ 15 ∷ []) r
-unfolding Scores scoreTests speciesTest countTest lengthTest speciesRecordTest recordsTest
-score-refused n genes count species r p f = replyOf-refused (scoreTests n genes count species) (score (recordsIn count genes) species) r p f
+    (rooting : Rooting) (n : ℕ) (genes : List ℕ) (count : ℕ) (species : List ℕ) (r : Reply) → Scores rooting n genes count species r → (r .number ≡ 0 → ⊥)
+    → TurnedAway (1 ∷ 11 ∷ 12 ∷ 16 ∷ 15 ∷ 19 ∷ []) r
+unfolding Scores scoreTests speciesTest countTest lengthTest speciesRecordTest recordsTest rootingTest
+score-refused rooting n genes count species r p f =
+    replyOf-refused (scoreTests rooting n genes count species) (score rooting (recordsIn count genes) species) r p f
 
 -- "Lent slices keep every byte"
 pub mark-refused :
-    (n : ℕ) (genes : List ℕ) (count : ℕ) (out : List ℕ) (r : Reply) (after : List ℕ) → Marks n genes count out r after → (r .number ≡ 0 → ⊥)
-    → TurnedAway (1 ∷ 11 ∷ 12 ∷ 15 ∷ []) r × (after ≡ out)
-unfolding markTests speciesTest countTest lengthTest recordsTest
-mark-refused n genes count out r after p f =
-    let l : List Test = markTests n genes count out in
+    (rooting : Rooting) (n : ℕ) (genes : List ℕ) (count : ℕ) (out : List ℕ) (r : Reply) (after : List ℕ) → Marks rooting n genes count out r after
+    → (r .number ≡ 0 → ⊥)
+    → TurnedAway (1 ∷ 11 ∷ 12 ∷ 15 ∷ 19 ∷ []) r × (after ≡ out)
+unfolding markTests speciesTest countTest lengthTest recordsTest rootingTest
+mark-refused rooting n genes count out r after p f =
+    let l : List Test = markTests rooting n genes count out in
     let t = replyOf-refused l 0 r (p .reply) f in (
       record { listed = among-behind (among-behind among-once) (t .listed); value = t .value },
-      p .bytes ∙ markedBy-refused (verdict l .number) n (recordsIn count genes) out (λ z. f (ap (λ (r : Reply). r .number) (p .reply) ∙ z)),
+      p .bytes ∙ markedBy-refused rooting (verdict l .number) n (recordsIn count genes) out (λ z. f (ap (λ (r : Reply). r .number) (p .reply) ∙ z)),
     )
 
-module _ (n : ℕ) (genes : List ℕ) (count : ℕ) (allowed scores splits : List ℕ) (r : Found) (s p : List ℕ)
-    (found : Finds n genes count allowed scores splits r s p) (refusal : r .number ≡ 0 → ⊥) where
+module _ (rooting : Rooting) (n : ℕ) (genes : List ℕ) (count : ℕ) (allowed scores splits : List ℕ) (r : Found) (s p : List ℕ)
+    (found : Finds rooting n genes count allowed scores splits r s p) (refusal : r .number ≡ 0 → ⊥) where
   abbrev said : Verdict
-  said = verdict (searchTests n genes count allowed scores splits)
+  said = verdict (searchTests rooting n genes count allowed scores splits)
 
   ways : Refused said r
-  ways = refused-ways n genes count allowed scores splits r s p found refusal
+  ways = refused-ways rooting n genes count allowed scores splits r s p found refusal
 
   -- "All others: 1, 11, 12, 16, 15, 13, 14, each where it applies": "A refused call returns score 0, .. an all-zero record"
-  pub find-refused : NotFound (1 ∷ 11 ∷ 12 ∷ 15 ∷ 13 ∷ 14 ∷ []) r
-  unfolding searchTests speciesTest countTest lengthTest recordsTest allowedTest
-  find-refused = go ways (verdict-listed (searchTests n genes count allowed scores splits))
+  pub find-refused : NotFound (1 ∷ 11 ∷ 12 ∷ 15 ∷ 19 ∷ 13 ∷ 14 ∷ []) r
+  unfolding searchTests speciesTest countTest lengthTest recordsTest rootingTest allowedTest
+  find-refused = go ways (verdict-listed (searchTests rooting n genes count allowed scores splits))
     where
       -- 12 stands four times among the tests, 14 comes last
-      once : {x : ℕ} → Among x (1 ∷ 11 ∷ 12 ∷ 12 ∷ 12 ∷ 12 ∷ 15 ∷ 13 ∷ []) → Among x (1 ∷ 11 ∷ 12 ∷ 15 ∷ 13 ∷ 14 ∷ [])
+      once : {x : ℕ} → Among x (1 ∷ 11 ∷ 12 ∷ 12 ∷ 12 ∷ 12 ∷ 15 ∷ 19 ∷ 13 ∷ []) → Among x (1 ∷ 11 ∷ 12 ∷ 15 ∷ 19 ∷ 13 ∷ 14 ∷ [])
       once m =
           Memᴰ·append-left (14 ∷ []) (among-behind (among-behind (λ k. among-once (among-once (among-once k)))) m)
 
-      go : Refused said r → (said .number ≡ 0) ⊎ Among (said .number) (map (λ (t : Test). t .number) (searchTests n genes count allowed scores splits))
-          → NotFound (1 ∷ 11 ∷ 12 ∷ 15 ∷ 13 ∷ 14 ∷ []) r
-      go (no-tree z e) m = rw e (record { listed = there (there (there (there (there (here refl))))); score = refl; numbers-zero = refl })
+      go : Refused said r → (said .number ≡ 0) ⊎ Among (said .number) (map (λ (t : Test). t .number) (searchTests rooting n genes count allowed scores splits))
+          → NotFound (1 ∷ 11 ∷ 12 ∷ 15 ∷ 19 ∷ 13 ∷ 14 ∷ []) r
+      go (no-tree z e) m = rw e (record { listed = there (there (there (there (there (there (here refl)))))); score = refl; numbers-zero = refl })
       go (by-test f e) (inl z) = absurd (f z)
       go (by-test f e) (inr m) = rw e (record { listed = once m; score = refl; numbers-zero = refl })
 
@@ -220,25 +225,29 @@ module _ (n : ℕ) (genes : List ℕ) (count : ℕ) (allowed scores splits : Lis
       go : Refused said r → (s ≡ scores) × (p ≡ splits)
       go (no-tree z e) = absurd (other (ap (λ (r : Found). r .number) e))
       go (by-test f e) = (
-        found .scoreTable ∙ filledBy-refused (said .number) n (λ a. scoreEntry (weight (recordsIn count genes)) (bestFor n (recordsIn count genes) allowed a)) scores f,
-        found .splitTable ∙ filledBy-refused (said .number) n (λ a. splitEntry (bestFor n (recordsIn count genes) allowed a)) splits f,
+        found .scoreTable ∙ filledBy-refused (said .number) n
+            (λ a. scoreEntry (weight rooting (recordsIn count genes)) (bestFor rooting n (recordsIn count genes) allowed a)) scores f,
+        found .splitTable ∙ filledBy-refused (said .number) n (λ a. splitEntry (bestFor rooting n (recordsIn count genes) allowed a)) splits f,
       )
 
   -- "on 14 both tables are filled as above": "Entries from 2^n on stay"
   pub find-fills-tables :
       r .number ≡ 14
-      → (s ≡ map (λ a. scoreEntry (weight (recordsIn count genes)) (bestFor n (recordsIn count genes) allowed a)) (upTo (2 ^ n)) ++ drop (2 ^ n) scores)
-      × (p ≡ map (λ a. splitEntry (bestFor n (recordsIn count genes) allowed a)) (upTo (2 ^ n)) ++ drop (2 ^ n) splits)
+      → (s ≡ map (λ a. scoreEntry (weight rooting (recordsIn count genes)) (bestFor rooting n (recordsIn count genes) allowed a))
+      (upTo (2 ^ n)) ++ drop (2 ^ n) scores)
+      × (p ≡ map (λ a. splitEntry (bestFor rooting n (recordsIn count genes) allowed a)) (upTo (2 ^ n)) ++ drop (2 ^ n) splits)
   find-fills-tables e = go ways
     where
       go : Refused said r
-          → (s ≡ map (λ a. scoreEntry (weight (recordsIn count genes)) (bestFor n (recordsIn count genes) allowed a)) (upTo (2 ^ n)) ++ drop (2 ^ n) scores)
-          × (p ≡ map (λ a. splitEntry (bestFor n (recordsIn count genes) allowed a)) (upTo (2 ^ n)) ++ drop (2 ^ n) splits)
+          → (s ≡ map (λ a. scoreEntry (weight rooting (recordsIn count genes)) (bestFor rooting n (recordsIn count genes) allowed a))
+          (upTo (2 ^ n)) ++ drop (2 ^ n) scores)
+          × (p ≡ map (λ a. splitEntry (bestFor rooting n (recordsIn count genes) allowed a)) (upTo (2 ^ n)) ++ drop (2 ^ n) splits)
       go (no-tree z i) = (
-        filled (said .number) n (λ a. scoreEntry (weight (recordsIn count genes)) (bestFor n (recordsIn count genes) allowed a)) scores s (found .scoreTable) z,
-        filled (said .number) n (λ a. splitEntry (bestFor n (recordsIn count genes) allowed a)) splits p (found .splitTable) z,
+        filled (said .number) n
+            (λ a. scoreEntry (weight rooting (recordsIn count genes)) (bestFor rooting n (recordsIn count genes) allowed a)) scores s (found .scoreTable) z,
+        filled (said .number) n (λ a. splitEntry (bestFor rooting n (recordsIn count genes) allowed a)) splits p (found .splitTable) z,
       )
-      go (by-test f i) = absurd (no-fourteen n genes count allowed scores splits (sym (ap (λ (r : Found). r .number) i) ∙ e))
+      go (by-test f i) = absurd (no-fourteen rooting n genes count allowed scores splits (sym (ap (λ (r : Found). r .number) i) ∙ e))
 
 -- ---- "0 | done | 0": no call that is not refused has another place
 
@@ -272,42 +281,46 @@ write-done line tree out r after w =
     (λ z. omega arith, (λ z. omega arith, (λ z. omega arith, tt)))
 
 -- "done | 0": weighing
-pub weigh-done : (n : ℕ) (genes : List ℕ) (count cluster : ℕ) (r : Reply) → Weighs n genes count cluster r → r .number ≡ 0 → r .place ≡ 0
-unfolding Weighs weightTests speciesTest countTest lengthTest recordsTest clusterTest NoneGives
-weigh-done n genes count cluster r p =
-    replyOf-done (weightTests n genes count cluster) (weight (recordsIn count genes) cluster) r p
-    (λ z. omega arith, (λ z. omega arith, (λ z. omega arith, (λ z. omega arith, (λ z. omega arith, tt)))))
+pub weigh-done :
+    (rooting : Rooting) (n : ℕ) (genes : List ℕ) (count cluster : ℕ) (r : Reply) → Weighs rooting n genes count cluster r → r .number ≡ 0 → r .place ≡ 0
+unfolding Weighs weightTests speciesTest countTest lengthTest recordsTest rootingTest clusterTest NoneGives
+weigh-done rooting n genes count cluster r p =
+    replyOf-done (weightTests rooting n genes count cluster) (weight rooting (recordsIn count genes) cluster) r p
+    (λ z. omega arith, (λ z. omega arith, (λ z. omega arith, (λ z. omega arith, (λ z. omega arith, (λ z. omega arith, tt))))))
 
 -- "done | 0": scoring
-pub score-done : (n : ℕ) (genes : List ℕ) (count : ℕ) (species : List ℕ) (r : Reply) → Scores n genes count species r → r .number ≡ 0 → r .place ≡ 0
-unfolding Scores scoreTests speciesTest countTest lengthTest speciesRecordTest recordsTest NoneGives
-score-done n genes count species r p =
-    replyOf-done (scoreTests n genes count species) (score (recordsIn count genes) species) r p
-    (λ z. omega arith, (λ z. omega arith, (λ z. omega arith, (λ z. omega arith, (λ z. omega arith, tt)))))
+pub score-done :
+    (rooting : Rooting) (n : ℕ) (genes : List ℕ) (count : ℕ) (species : List ℕ) (r : Reply) → Scores rooting n genes count species r → r .number ≡ 0
+    → r .place ≡ 0
+unfolding Scores scoreTests speciesTest countTest lengthTest speciesRecordTest recordsTest rootingTest NoneGives
+score-done rooting n genes count species r p =
+    replyOf-done (scoreTests rooting n genes count species) (score rooting (recordsIn count genes) species) r p
+    (λ z. omega arith, (λ z. omega arith, (λ z. omega arith, (λ z. omega arith, (λ z. omega arith, (λ z. omega arith, tt))))))
 
 -- "done | 0": marking
 pub mark-done :
-    (n : ℕ) (genes : List ℕ) (count : ℕ) (out : List ℕ) (r : Reply) (after : List ℕ) → Marks n genes count out r after
+    (rooting : Rooting) (n : ℕ) (genes : List ℕ) (count : ℕ) (out : List ℕ) (r : Reply) (after : List ℕ) → Marks rooting n genes count out r after
     → r .number ≡ 0 → r .place ≡ 0
-unfolding markTests speciesTest countTest lengthTest recordsTest NoneGives
-mark-done n genes count out r after p =
-    replyOf-done (markTests n genes count out) 0 r (p .reply)
-    (λ z. omega arith, (λ z. omega arith, (λ z. omega arith, (λ z. omega arith, (λ z. omega arith, tt)))))
+unfolding markTests speciesTest countTest lengthTest recordsTest rootingTest NoneGives
+mark-done rooting n genes count out r after p =
+    replyOf-done (markTests rooting n genes count out) 0 r (p .reply)
+    (λ z. omega arith, (λ z. omega arith, (λ z. omega arith, (λ z. omega arith, (λ z. omega arith, (λ z. omega arith, tt))))))
 
 -- "done | 0": searching
 pub find-done :
-    (n : ℕ) (genes : List ℕ) (count : ℕ) (allowed scores splits : List ℕ) (r : Found) (s p : List ℕ)
-    → Finds n genes count allowed scores splits r s p → r .number ≡ 0 → r .place ≡ 0
-find-done n genes count allowed scores splits r s p found z =
-    go (verdict (searchTests n genes count allowed scores splits) .number) (verdict (searchTests n genes count allowed scores splits) .place) (found .reply)
+    (rooting : Rooting) (n : ℕ) (genes : List ℕ) (count : ℕ) (allowed scores splits : List ℕ) (r : Found) (s p : List ℕ)
+    → Finds rooting n genes count allowed scores splits r s p → r .number ≡ 0 → r .place ≡ 0
+find-done rooting n genes count allowed scores splits r s p found z =
+    go (verdict (searchTests rooting n genes count allowed scores splits) .number)
+    (verdict (searchTests rooting n genes count allowed scores splits) .place) (found .reply)
   where
     tree : Option Binary
-    tree = bestFor n (recordsIn count genes) allowed (whole n)
+    tree = bestFor rooting n (recordsIn count genes) allowed (whole n)
 
-    there-is : (o : Option Binary) → foundBy o (recordsIn count genes) .place ≡ 0
+    there-is : (o : Option Binary) → foundBy rooting o (recordsIn count genes) .place ≡ 0
     there-is none = refl
     there-is (some t) = refl
 
-    go : (k q : ℕ) → r ≡ foundOr k q (foundBy tree (recordsIn count genes)) → r .place ≡ 0
+    go : (k q : ℕ) → r ≡ foundOr k q (foundBy rooting tree (recordsIn count genes)) → r .place ≡ 0
     go zero q e = ap (λ (r : Found). r .place) e ∙ there-is tree
     go (suc k) q e = absurd (omega (arith, ap (λ (r : Found). r .number) e))

@@ -63,7 +63,7 @@ module _ (line txt : List ℕ) (at : ℕ) where
   behind-blanks b = record { after = let h = b .after in omega arith; within = b .within; left = b .left }
 
   -- behind the trees that were read more stands there
-  more-behind : {trees : List Tree} → TreesTo line txt trees at → begun txt at < length txt → MoreBehind line txt trees (begun txt at)
+  pub more-behind : {trees : List Tree} → TreesTo line txt trees at → begun txt at < length txt → MoreBehind line txt trees (begun txt at)
   unfolding blanks
   more-behind trees inside = record {
     at = at;
@@ -91,7 +91,8 @@ as-many r = ap length (r .records) ∙ length-map (r .trees) (λ (t : Tree). rec
 pub stopped-gathered : {number place : ℕ} {genes : List (List ℕ)} → stopped number place ≡ gathered genes → ⊥
 stopped-gathered e = let z : _≡_ {A = ℕ} 0 1 = cc in omega arith
 
-each-on : {line txt : List ℕ} {at : ℕ} {trees : List Tree} → TreesTo line txt trees at → (t : Tree) → List·Memᴰ t trees → OnSome (length (names line)) t
+-- each tree that stands there has each of its species once, and these are some of the roster's
+pub each-on : {line txt : List ℕ} {at : ℕ} {trees : List Tree} → TreesTo line txt trees at → (t : Tree) → List·Memᴰ t trees → OnSome (length (names line)) t
 each-on no-tree-yet t m = absurd (List·Memᴰ·not-nil m)
 each-on {line} (one-more {trees = trees} {t = u} before d j) t m = go (List·Memᴰ·append-cases trees m) (λ k. each-on before t k)
   where
@@ -116,10 +117,10 @@ unfolding Reads
 turns line txt shift = record { begins = record { trees = []; trees-to = no-tree-yet; records = refl }; reads = reads; ends = ends; many = many; refuses = refuses }
   where
     reads :
-        {genes : List (List ℕ)} {at : ℕ} {t : Tree} {rest : List ℕ} {q : ℕ} → ReadTo line txt genes at
+        {genes : List (List ℕ)} {at : ℕ} {t : Tree} {rest : List ℕ} {q : ℕ} → ReadTo line txt genes at → begun txt at < length txt
         → answerTo Gene NoThreshold line txt (begun txt at) ≡ parsed t rest q
         → ReadTo line txt (genes ++ (recordOf (clusters t) ∷ [])) q
-    reads {at = at} {t = t} now e =
+    reads {at = at} {t = t} now inside e =
         let a = accepted-derives Gene NoThreshold line txt (begun txt at) e in
         record {
           trees = now .trees ++ (t ∷ []);
@@ -182,7 +183,7 @@ module _ (line txt : List ℕ) (at : ℕ) where
   begun-within h = omega (arith, run-within isBlank (drop at txt), length-drop at txt)
 
   -- a tree drawn with blanks before it is drawn behind them
-  draws-from-begun : {t : Tree} {rest : List ℕ} → Draws Gene NoThreshold line txt at t rest → Draws Gene NoThreshold line txt (begun txt at) t rest
+  pub draws-from-begun : {t : Tree} {rest : List ℕ} → Draws Gene NoThreshold line txt at t rest → Draws Gene NoThreshold line txt (begun txt at) t rest
   unfolding blanks skip
   draws-from-begun d = record {
     good = d .good;
@@ -194,7 +195,7 @@ module _ (line txt : List ℕ) (at : ℕ) where
   }
 
   -- so it is read there
-  reads-from-begun :
+  pub reads-from-begun :
       {t : Tree} {rest : List ℕ} {next : ℕ} → Draws Gene NoThreshold line txt at t rest → JustBehind txt at rest next
       → (begun txt at < length txt) × (answerTo Gene NoThreshold line txt (begun txt at) ≡ parsed t rest next)
   reads-from-begun {t} {rest} {next} d j =
@@ -248,9 +249,13 @@ module _ (line txt : List ℕ) where
   unfolding gather
   turns-to w trees few turn = let c = comes trees few in ap (λ (w : Walked). w .says) (c .same ∙ turn (c .k))
 
+-- behind the last tree that stands in a text none begins
+pub stand-ends : (line txt : List ℕ) {trees : List Tree} (s : TreesStand line txt trees) → length txt ≤ begun txt (s .end)
+stand-ends line txt s = omega (arith, blanks-all (s .only-blanks), length-drop (s .end) txt)
+
 -- the gene trees that stand in a text are gathered
 pub gathers-standing : (line txt : List ℕ) {trees : List Tree} → TreesStand line txt trees → length trees ≤ genesMost → gather line txt ≡ gathered (recordsOf trees)
 unfolding gatherTo
 gathers-standing line txt {trees} s few =
     turns-to line txt (ended (recordsOf trees)) (s .trees-to) few
-    (λ k. rw (le-leb (length txt) (begun txt (s .end)) (omega (arith, blanks-all (s .only-blanks), length-drop (s .end) txt))) refl)
+    (λ k. rw (le-leb (length txt) (begun txt (s .end)) (stand-ends line txt s)) refl)

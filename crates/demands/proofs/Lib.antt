@@ -17,6 +17,7 @@ pub mod Gathering
 pub mod TreesFaults
 pub mod Allowing
 pub mod TwoLines
+pub mod UnresolvedTrees
 pub mod Solved
 pub mod Signed
 pub mod Taken
@@ -28,3 +29,4 @@ pub mod Lots
 pub mod LotsExample
 pub mod OfLetters
 pub mod Thresholds
+pub mod Redrawn

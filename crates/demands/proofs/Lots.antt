@@ -10,6 +10,7 @@ use Rattle.trees.specs.Lists.{total, InAnyOrder}
 use Rattle.trees.specs.Lists.InAnyOrder.{nothing, put}
 use Rattle.trees.proofs.Lent.{length-recordsIn}
 use Rattle.trees.proofs.Totals.{one-le-total}
+use Rattle.weights.specs.declared.Rooting.{Rooting}
 use Rattle.weights.specs.Count.{score}
 use Rattle.weights.proofs.Sums.{score-reordered}
 use Rattle.splits.specs.BinaryTrees.{each}
@@ -56,13 +57,15 @@ module _ {A : Type 0} where
 
 -- ---- sums over lots
 
-length-of-lots : {n : ℕ} (lots : List (Searched n)) → length (each (λ (s : Searched n). records s) lots) ≡ total (map (λ (s : Searched n). s .count) lots)
+length-of-lots :
+    {rooting : Rooting} {n : ℕ} (lots : List (Searched rooting n)) → length (each (λ (s : Searched rooting n). records s) lots)
+    ≡ total (map (λ (s : Searched rooting n). s .count) lots)
 unfolding each total
 length-of-lots [] = refl
-length-of-lots {n} (s ∷ lots) =
+length-of-lots {rooting} {n} (s ∷ lots) =
     omega (
       arith,
-      length-append (records s) (each (λ (s : Searched n). records s) lots),
+      length-append (records s) (each (λ (s : Searched rooting n). records s) lots),
       length-recordsIn (s .count) (s .genes),
       length-of-lots lots,
     )
@@ -70,14 +73,14 @@ length-of-lots {n} (s ∷ lots) =
 -- ---- when the checks are passed
 
 -- no check finds a fault in what was handed over
-abbrev AcceptedIn : {n : ℕ} → Searched n → Type 0
-AcceptedIn {n} s = Accepted n (s .genes) (s .count) (s .allowed) (s .scores) (s .splits)
+abbrev AcceptedIn : {rooting : Rooting} {n : ℕ} → Searched rooting n → Type 0
+AcceptedIn {rooting} {n} s = Accepted rooting n (s .genes) (s .count) (s .allowed) (s .scores) (s .splits)
 
 -- the checks are passed exactly when n, count, the lent slices, the gene records and the allowed bytes are as 01 asks
-pub passed-exactly : {n : ℕ} (s : Searched n) → Passed s ↔ AcceptedIn s
-passed-exactly {n} s = (accepted-of (s .finds), λ a. told (replied (s .finds) a))
+pub passed-exactly : {rooting : Rooting} {n : ℕ} (s : Searched rooting n) → Passed s ↔ AcceptedIn s
+passed-exactly {rooting} {n} s = (accepted-of (s .finds), λ a. told (replied (s .finds) a))
   where
-    told : Replied n (records s) (s .allowed) (s .reply) → Passed s
+    told : Replied rooting n (records s) (s .allowed) (s .reply) → Passed s
     told (answered z p a) = inl z
     told (none-there z p c m k) = inr z
 
@@ -85,35 +88,37 @@ passed-exactly {n} s = (accepted-of (s .finds), λ a. told (replied (s .finds) a
 
 -- a tree is least for a search that found one exactly when it competes and its score is the reply's
 pub least-by-the-reply :
-    {n : ℕ} (s : Searched n) → s .reply .number ≡ 0 → (c : List ℕ) → LeastIn s c ↔ (Candidate n (s .allowed) c × (score (records s) c ≡ s .reply .score))
+    {rooting : Rooting} {n : ℕ} (s : Searched rooting n) → s .reply .number ≡ 0 → (c : List ℕ) → LeastIn s c
+    ↔ (Candidate n (s .allowed) c × (score rooting (records s) c ≡ s .reply .score))
 least-by-the-reply s z c = least-exactly (reply-is-least (s .finds) z) c
 
 -- ---- lots
 
-module _ {n : ℕ} {lots : List (Searched n)} {whole : Searched n} (parted : LotsOf lots whole) where
-  whole-count : whole .count ≡ total (map (λ (s : Searched n). s .count) lots)
+module _ {rooting : Rooting} {n : ℕ} {lots : List (Searched rooting n)} {whole : Searched rooting n} (parted : LotsOf lots whole) where
+  whole-count : whole .count ≡ total (map (λ (s : Searched rooting n). s .count) lots)
   whole-count = sym (length-recordsIn (whole .count) (whole .genes)) ∙ sym (any-order-length (parted .gathered)) ∙ length-of-lots lots
 
   -- what a lot's search allows the whole's does, and the other way
-  as-the-whole : (s : Searched n) → List·Memᴰ s lots → SameAllowed n (s .allowed) (whole .allowed)
+  as-the-whole : (s : Searched rooting n) → List·Memᴰ s lots → SameAllowed n (s .allowed) (whole .allowed)
   as-the-whole s m =
       first-bytes-same n (s .allowed) (whole .allowed) (parted .lots-lent s m .allowed-long) (parted .whole-lent .allowed-long) (parted .one-allowed-set s m)
 
-  as-the-lot : (s : Searched n) → List·Memᴰ s lots → SameAllowed n (whole .allowed) (s .allowed)
+  as-the-lot : (s : Searched rooting n) → List·Memᴰ s lots → SameAllowed n (whole .allowed) (s .allowed)
   as-the-lot s m =
       first-bytes-same n (whole .allowed) (s .allowed) (parted .whole-lent .allowed-long) (parted .lots-lent s m .allowed-long) (sym (parted .one-allowed-set s m))
 
-  lot-accepted : AcceptedIn whole → (s : Searched n) → List·Memᴰ s lots → AcceptedIn s
+  lot-accepted : AcceptedIn whole → (s : Searched rooting n) → List·Memᴰ s lots → AcceptedIn s
   lot-accepted a s m = record {
     in-order = record {
       shaped = record {
         some-species = a .in-order .shaped .some-species;
         few-species = a .in-order .shaped .few-species;
         some-genes = parted .non-empty s m;
-        few-genes = let few = a .in-order .shaped .few-genes in omega (arith, whole-count, one-le-total (λ (s : Searched n). s .count) lots s m);
+        few-genes = let few = a .in-order .shaped .few-genes in omega (arith, whole-count, one-le-total (λ (s : Searched rooting n). s .count) lots s m);
         fits = parted .lots-lent s m .genes-long;
       };
-      valid = λ g k. a .in-order .valid g (any-order-there (parted .gathered) (each-among (λ (s : Searched n). records s) lots m k));
+      valid = λ g k. a .in-order .valid g (any-order-there (parted .gathered) (each-among (λ (s : Searched rooting n). records s) lots m k));
+      enter = λ u g k. a .in-order .enter u g (any-order-there (parted .gathered) (each-among (λ (s : Searched rooting n). records s) lots m k));
     };
     allowed-fits = parted .lots-lent s m .allowed-long;
     scores-fit = parted .lots-lent s m .scores-long;
@@ -121,7 +126,7 @@ module _ {n : ℕ} {lots : List (Searched n)} {whole : Searched n} (parted : Lot
     allowed-bytes = zeros-and-ones-too (as-the-lot s m) (a .allowed-bytes);
   }
 
-  whole-accepted : ((s : Searched n) → List·Memᴰ s lots → AcceptedIn s) → AcceptedIn whole
+  whole-accepted : ((s : Searched rooting n) → List·Memᴰ s lots → AcceptedIn s) → AcceptedIn whole
   whole-accepted f =
       let lot = some-member lots (parted .some-lot) in
       let s = lot .0 in
@@ -131,13 +136,17 @@ module _ {n : ℕ} {lots : List (Searched n)} {whole : Searched n} (parted : Lot
           shaped = record {
             some-species = a .in-order .shaped .some-species;
             few-species = a .in-order .shaped .few-species;
-            some-genes = let one = a .in-order .shaped .some-genes in omega (arith, whole-count, one-le-total (λ (s : Searched n). s .count) lots s (lot .1));
+            some-genes =
+                let one = a .in-order .shaped .some-genes in omega (arith, whole-count, one-le-total (λ (s : Searched rooting n). s .count) lots s (lot .1));
             few-genes = let few = parted .inside-the-limit in omega (arith, whole-count);
             fits = parted .whole-lent .genes-long;
           };
           valid = λ g m.
-              let k = among-each (λ (s : Searched n). records s) lots (any-order-back (parted .gathered) m) in
+              let k = among-each (λ (s : Searched rooting n). records s) lots (any-order-back (parted .gathered) m) in
               f (k .0) (k .1) .in-order .valid g (k .2);
+          enter = λ u g m.
+              let k = among-each (λ (s : Searched rooting n). records s) lots (any-order-back (parted .gathered) m) in
+              f (k .0) (k .1) .in-order .enter u g (k .2);
         };
         allowed-fits = parted .whole-lent .allowed-long;
         scores-fit = parted .whole-lent .scores-long;
@@ -146,18 +155,18 @@ module _ {n : ℕ} {lots : List (Searched n)} {whole : Searched n} (parted : Lot
       }
 
   -- for lots that are non-empty and together inside the limit, the whole passes the checks exactly when every lot does
-  pub passed-together : Passed whole ↔ ((s : Searched n) → List·Memᴰ s lots → Passed s)
+  pub passed-together : Passed whole ↔ ((s : Searched rooting n) → List·Memᴰ s lots → Passed s)
   passed-together = (
     λ p s m. passed-exactly s .1 (lot-accepted (passed-exactly whole .0 p) s m),
     λ f. passed-exactly whole .1 (whole-accepted (λ s m. passed-exactly s .0 (f s m))),
   )
 
   -- the same trees compete in every search
-  same-compete : (s : Searched n) → List·Memᴰ s lots → (c : List ℕ) → Candidate n (s .allowed) c ↔ Candidate n (whole .allowed) c
+  same-compete : (s : Searched rooting n) → List·Memᴰ s lots → (c : List ℕ) → Candidate n (s .allowed) c ↔ Candidate n (whole .allowed) c
   same-compete s m c = (competes-too (as-the-whole s m) c, competes-too (as-the-lot s m) c)
 
   -- all searches give the same number
-  pub numbers-equal : Passed whole → (s : Searched n) → List·Memᴰ s lots → s .reply .number ≡ whole .reply .number
+  pub numbers-equal : Passed whole → (s : Searched rooting n) → List·Memᴰ s lots → s .reply .number ≡ whole .reply .number
   numbers-equal p s m = go p
     where
       a : AcceptedIn s
@@ -169,25 +178,26 @@ module _ {n : ℕ} {lots : List (Searched n)} {whole : Searched n} (parted : Lot
 
   -- "If there is no tree, all three searches say so", and only then
   pub all-say-so :
-      Passed whole → ((c : List ℕ) → Candidate n (whole .allowed) c → ⊥) ↔ ((s : Searched n) → List·Memᴰ s (whole ∷ lots) → s .reply .number ≡ 14)
+      Passed whole → ((c : List ℕ) → Candidate n (whole .allowed) c → ⊥) ↔ ((s : Searched rooting n) → List·Memᴰ s (whole ∷ lots) → s .reply .number ≡ 14)
   all-say-so p = (
     λ none s m. go (fourteen-exactly (whole .finds) .1 (passed-exactly whole .0 p, none)) s (List·Memᴰ·cases-cons m),
     λ f. fourteen-exactly (whole .finds) .0 (f whole (here refl)) .1,
   )
     where
-      go : whole .reply .number ≡ 14 → (s : Searched n) → (s ≡ whole) ⊎ List·Memᴰ s lots → s .reply .number ≡ 14
-      go z s (inl e) = ap (λ (x : Searched n). x .reply .number) e ∙ z
+      go : whole .reply .number ≡ 14 → (s : Searched rooting n) → (s ≡ whole) ⊎ List·Memᴰ s lots → s .reply .number ≡ 14
+      go z s (inl e) = ap (λ (x : Searched rooting n). x .reply .number) e ∙ z
       go z s (inr m) = numbers-equal p s m ∙ z
 
   -- ---- where there is a tree
 
   module _ (found : whole .reply .number ≡ 0) where
     added :
-        AddedUp (λ (s : Searched n). Candidate n (s .allowed)) (λ (s : Searched n). score (records s)) (λ (s : Searched n). s .reply .score) lots whole
+        AddedUp (λ (s : Searched rooting n). Candidate n (s .allowed)) (λ (s : Searched rooting n). score rooting (records s))
+        (λ (s : Searched rooting n). s .reply .score) lots whole
     added = record {
       some-lot = parted .some-lot;
       same-compete = same-compete;
-      adds-up = λ c. sym (score-reordered c (parted .gathered)) ∙ score-of-lots (λ (s : Searched n). records s) lots c;
+      adds-up = λ c. sym (score-reordered rooting c (parted .gathered)) ∙ score-of-lots rooting (λ (s : Searched rooting n). records s) lots c;
       of-whole = reply-is-least (whole .finds) found;
       of-lots = λ s m. reply-is-least (s .finds) (numbers-equal (inl found) s m ∙ found);
     }
@@ -206,9 +216,9 @@ module _ {n : ℕ} {lots : List (Searched n)} {whole : Searched n} (parted : Lot
 
 -- ---- two lots
 
-module _ {n : ℕ} (first second : Searched n) where
+module _ {rooting : Rooting} {n : ℕ} (first second : Searched rooting n) where
   -- what holds of both holds of every lot
-  pub of-both : (P : Searched n → Type 0) → P first → P second → (s : Searched n) → List·Memᴰ s (first ∷ second ∷ []) → P s
+  pub of-both : (P : Searched rooting n → Type 0) → P first → P second → (s : Searched rooting n) → List·Memᴰ s (first ∷ second ∷ []) → P s
   of-both P p q s m = go (List·Memᴰ·cases-cons m)
     where
       other : (s ≡ second) ⊎ List·Memᴰ s [] → P s
@@ -220,18 +230,18 @@ module _ {n : ℕ} (first second : Searched n) where
       go (inr k) = other (List·Memᴰ·cases-cons k)
 
   both : (c : List ℕ) → LeastInEach (first ∷ second ∷ []) c ↔ (LeastIn first c × LeastIn second c)
-  both c = (λ f. (f first (here refl), f second (there (here refl))), λ q. of-both (λ (s : Searched n). LeastIn s c) (q .0) (q .1))
+  both c = (λ f. (f first (here refl), f second (there (here refl))), λ q. of-both (λ (s : Searched rooting n). LeastIn s c) (q .0) (q .1))
 
   sum-of-both : sumOfLeast (first ∷ second ∷ []) ≡ first .reply .score + second .reply .score
   unfolding total
   sum-of-both = omega arith
 
-  module _ {whole : Searched n} (parted : LotsOf (first ∷ second ∷ []) whole) where
+  module _ {whole : Searched rooting n} (parted : LotsOf (first ∷ second ∷ []) whole) where
     -- the whole passes the checks exactly when both lots do
     pub whole-passes-with-both : Passed whole ↔ (Passed first × Passed second)
     whole-passes-with-both = (
       λ p. let f = passed-together parted .0 p in (f first (here refl), f second (there (here refl))),
-      λ q. passed-together parted .1 (of-both (λ (s : Searched n). Passed s) (q .0) (q .1)),
+      λ q. passed-together parted .1 (of-both (λ (s : Searched rooting n). Passed s) (q .0) (q .1)),
     )
 
     -- and then the three numbers are equal: where one says 14 all do

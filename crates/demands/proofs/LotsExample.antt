@@ -14,7 +14,8 @@ use Rattle.trees.specs.Valid.{every, among, rising, singlesFrom, nested, valid,
 use Rattle.roster.specs.Roster.{least}
 use Rattle.roster.specs.Verdict.{verdict, lengthTest}
 use Rattle.weights.specs.Count.{kOf, extra, weight, score}
-use Rattle.lineages.specs.Checks.{speciesTest, countTest, firstBad, recordsTest}
+use Rattle.weights.specs.declared.Rooting.the-variants.{Rooted}
+use Rattle.lineages.specs.Checks.{speciesTest, countTest, firstFailing, recordsTest, rootingTest}
 use Rattle.splits.specs.BinaryTrees.{clustersIn, isLow, lows, each, forks, treesTo, treesOn}
 use Rattle.splits.specs.Least.{those, all, scoreOf, treesOver, leastTrees, best}
 use Rattle.tables.specs.Allowed.{allowedIn}
@@ -31,8 +32,8 @@ use Rattle.demands.proofs.SmallInputs.{ab-c, ac-b, every-cluster, no-cl
 -- what the promise says of a search over three species
 replyTo : List ℕ → ℕ → List ℕ → Found
 replyTo genes count allowed =
-    let tests = verdict (searchTests 3 genes count allowed lent lent) in
-    foundOr (tests .number) (tests .place) (foundBy (bestFor 3 (recordsIn count genes) allowed (whole 3)) (recordsIn count genes))
+    let tests = verdict (searchTests Rooted 3 genes count allowed lent lent) in
+    foundOr (tests .number) (tests .place) (foundBy Rooted (bestFor Rooted 3 (recordsIn count genes) allowed (whole 3)) (recordsIn count genes))
 
 -- a tree with its score, and that there is none
 abbrev tree : ℕ → List ℕ → Found
@@ -52,16 +53,17 @@ replies :
     × (replyTo ab-c 1 only-bc ≡ tree 1 (recordOf (1 ∷ 2 ∷ 4 ∷ 6 ∷ 7 ∷ [])))
     × (replyTo ac-b 1 only-bc ≡ tree 1 (recordOf (1 ∷ 2 ∷ 4 ∷ 6 ∷ 7 ∷ [])))
     × (replyTo (ac-b ++ ab-c) 2 only-bc ≡ tree 2 (recordOf (1 ∷ 2 ∷ 4 ∷ 6 ∷ 7 ∷ [])))
-unfolding ab-c ac-b every-cluster no-cluster only-bc lent replyTo ones onesIn trailingZeros whole single union has within apart size lowest keep some insert sorted
+unfolding ab-c ac-b every-cluster no-cluster only-bc lent replyTo rootingTest firstFailing ones onesIn trailingZeros whole single union has within
+    apart size lowest keep some insert sorted
     recordOf properly maximal placed byLowest children every among rising singlesFrom nested valid validGene binary verdict lengthTest kOf extra total weight score
-    pieces speciesTest countTest firstBad recordsTest upTo least clustersIn isLow lows each forks treesTo treesOn those all scoreOf treesOver leastTrees
+    pieces speciesTest countTest recordsTest upTo least clustersIn isLow lows each forks treesTo treesOn those all scoreOf treesOver leastTrees
     best allowedIn firstStrange allowedTest searchTests bestFor
 replies = (refl, refl, refl, refl, refl, refl, refl, refl, refl, refl)
 
 -- ---- three searches
 
 -- a search over three species that was made with these
-pub call : {genes : List ℕ} {count : ℕ} {allowed : List ℕ} {r : Found} {s p : List ℕ} → Finds 3 genes count allowed lent lent r s p → Searched 3
+pub call : {genes : List ℕ} {count : ℕ} {allowed : List ℕ} {r : Found} {s p : List ℕ} → Finds Rooted 3 genes count allowed lent lent r s p → Searched Rooted 3
 call {genes} {count} {allowed} {r} {s} {p} f = record {
   genes = genes;
   count = count;
@@ -75,17 +77,19 @@ call {genes} {count} {allowed} {r} {s} {p} f = record {
 }
 
 -- its reply is what the promise says: of a tree, its number and score
-replied-so : {genes : List ℕ} {count : ℕ} {allowed : List ℕ} {r : Found} {s p : List ℕ} → Finds 3 genes count allowed lent lent r s p → r ≡ replyTo genes count allowed
+replied-so :
+    {genes : List ℕ} {count : ℕ} {allowed : List ℕ} {r : Found} {s p : List ℕ} → Finds Rooted 3 genes count allowed lent lent r s p → r
+    ≡ replyTo genes count allowed
 unfolding replyTo
 replied-so f = f .reply
 
 scored :
-    {genes : List ℕ} {count : ℕ} {allowed : List ℕ} {r : Found} {s p : List ℕ} {m : ℕ} {c : List ℕ} → Finds 3 genes count allowed lent lent r s p
+    {genes : List ℕ} {count : ℕ} {allowed : List ℕ} {r : Found} {s p : List ℕ} {m : ℕ} {c : List ℕ} → Finds Rooted 3 genes count allowed lent lent r s p
     → replyTo genes count allowed ≡ tree m c → (r .number ≡ 0) × (r .score ≡ m)
 scored f e = let told = replied-so f ∙ e in (ap (λ (r : Found). r .number) told, ap (λ (r : Found). r .score) told)
 
 lent-enough :
-    {genes : List ℕ} {count : ℕ} {allowed : List ℕ} {r : Found} {s p : List ℕ} (f : Finds 3 genes count allowed lent lent r s p)
+    {genes : List ℕ} {count : ℕ} {allowed : List ℕ} {r : Found} {s p : List ℕ} (f : Finds Rooted 3 genes count allowed lent lent r s p)
     → length genes ≡ 32 * count → length allowed ≡ 8 → Lent (call f)
 unfolding call lent
 lent-enough f e b = record { genes-long = omega arith; allowed-long = omega arith; scores-long = omega arith; splits-long = omega arith }
@@ -101,18 +105,18 @@ in-one g h e k = rw (take-at g h 32 e, drop-at g h 32 e, take-all 32 h (omega ar
 
 -- two lots of one gene tree each; the whole has the second one first
 parted :
-    (g h allowed : List ℕ) {r q w : Found} {s p s′ p′ s″ p″ : List ℕ} (first : Finds 3 g 1 allowed lent lent r s p)
-    (second : Finds 3 h 1 allowed lent lent q s′ p′) (both : Finds 3 (h ++ g) 2 allowed lent lent w s″ p″)
+    (g h allowed : List ℕ) {r q w : Found} {s p s′ p′ s″ p″ : List ℕ} (first : Finds Rooted 3 g 1 allowed lent lent r s p)
+    (second : Finds Rooted 3 h 1 allowed lent lent q s′ p′) (both : Finds Rooted 3 (h ++ g) 2 allowed lent lent w s″ p″)
     → length g ≡ 32 → length h ≡ 32 → length allowed ≡ 8 → LotsOf (call first ∷ call second ∷ []) (call both)
 unfolding call each total
 parted g h allowed first second both e k b = record {
   gathered = rw (alone g e, alone h k, in-one h g k e) (put (h ∷ []) [] (put [] [] nothing));
-  one-allowed-set = of-both (call first) (call second) (λ (s : Searched 3). take 8 (s .allowed) ≡ take 8 allowed) refl refl;
+  one-allowed-set = of-both (call first) (call second) (λ (s : Searched Rooted 3). take 8 (s .allowed) ≡ take 8 allowed) refl refl;
   some-lot = omega arith;
-  non-empty = of-both (call first) (call second) (λ (s : Searched 3). 1 ≤ s .count) (omega arith) (omega arith);
+  non-empty = of-both (call first) (call second) (λ (s : Searched Rooted 3). 1 ≤ s .count) (omega arith) (omega arith);
   inside-the-limit = omega arith;
   whole-lent = lent-enough both (omega (arith, length-append h g)) b;
-  lots-lent = of-both (call first) (call second) (λ (s : Searched 3). Lent s) (lent-enough first e b) (lent-enough second k b);
+  lots-lent = of-both (call first) (call second) (λ (s : Searched Rooted 3). Lent s) (lent-enough first e b) (lent-enough second k b);
 }
 
 sizes : (length ab-c ≡ 32) × (length ac-b ≡ 32) × (length every-cluster ≡ 8) × (length only-bc ≡ 8)
@@ -123,8 +127,8 @@ sizes = (refl, refl, refl, refl)
 
 -- `((a,b),c);` in both lots: the least scores are 0 and 0, the whole's is their sum, and some tree is least for both
 pub lots-that-agree :
-    {r q w : Found} {s p s′ p′ s″ p″ : List ℕ} (first : Finds 3 ab-c 1 every-cluster lent lent r s p)
-    (second : Finds 3 ab-c 1 every-cluster lent lent q s′ p′) (both : Finds 3 (ab-c ++ ab-c) 2 every-cluster lent lent w s″ p″)
+    {r q w : Found} {s p s′ p′ s″ p″ : List ℕ} (first : Finds Rooted 3 ab-c 1 every-cluster lent lent r s p)
+    (second : Finds Rooted 3 ab-c 1 every-cluster lent lent q s′ p′) (both : Finds Rooted 3 (ab-c ++ ab-c) 2 every-cluster lent lent w s″ p″)
     → (r .score ≡ 0) × (q .score ≡ 0) × (w .score ≡ 0) × ((c : List ℕ) × LeastIn (call first) c × LeastIn (call second) c)
 unfolding call
 lots-that-agree first second both =
@@ -136,8 +140,8 @@ lots-that-agree first second both =
 
 -- `((a,b),c);` in one lot and `((a,c),b);` in the other, with b and c together allowed alone: the least scores are 1 and 1, the whole's is 2, their sum
 pub lots-that-add-up :
-    {r q w : Found} {s p s′ p′ s″ p″ : List ℕ} (first : Finds 3 ab-c 1 only-bc lent lent r s p)
-    (second : Finds 3 ac-b 1 only-bc lent lent q s′ p′) (both : Finds 3 (ac-b ++ ab-c) 2 only-bc lent lent w s″ p″)
+    {r q w : Found} {s p s′ p′ s″ p″ : List ℕ} (first : Finds Rooted 3 ab-c 1 only-bc lent lent r s p)
+    (second : Finds Rooted 3 ac-b 1 only-bc lent lent q s′ p′) (both : Finds Rooted 3 (ac-b ++ ab-c) 2 only-bc lent lent w s″ p″)
     → (r .score ≡ 1) × (q .score ≡ 1) × (w .score ≡ 2) × ((c : List ℕ) × LeastIn (call first) c × LeastIn (call second) c)
 unfolding call
 lots-that-add-up first second both =
@@ -149,8 +153,8 @@ lots-that-add-up first second both =
 
 -- `((a,b),c);` in one lot and `((a,c),b);` in the other: the least scores are 0 and 0, the whole's is 1, and no tree is least for both
 pub lots-that-differ :
-    {r q w : Found} {s p s′ p′ s″ p″ : List ℕ} (first : Finds 3 ab-c 1 every-cluster lent lent r s p)
-    (second : Finds 3 ac-b 1 every-cluster lent lent q s′ p′) (both : Finds 3 (ac-b ++ ab-c) 2 every-cluster lent lent w s″ p″)
+    {r q w : Found} {s p s′ p′ s″ p″ : List ℕ} (first : Finds Rooted 3 ab-c 1 every-cluster lent lent r s p)
+    (second : Finds Rooted 3 ac-b 1 every-cluster lent lent q s′ p′) (both : Finds Rooted 3 (ac-b ++ ab-c) 2 every-cluster lent lent w s″ p″)
     → (r .score ≡ 0) × (q .score ≡ 0) × (w .score ≡ 1) × ((c : List ℕ) → LeastIn (call first) c → LeastIn (call second) c → ⊥)
 unfolding call
 lots-that-differ first second both =
@@ -166,8 +170,8 @@ lots-that-differ first second both =
 
 -- without allowed clusters there is no tree on three species, and all three searches say so
 pub lots-without-a-tree :
-    {r q w : Found} {s p s′ p′ s″ p″ : List ℕ} → Finds 3 ab-c 1 no-cluster lent lent r s p
-    → Finds 3 ac-b 1 no-cluster lent lent q s′ p′ → Finds 3 (ac-b ++ ab-c) 2 no-cluster lent lent w s″ p″
+    {r q w : Found} {s p s′ p′ s″ p″ : List ℕ} → Finds Rooted 3 ab-c 1 no-cluster lent lent r s p
+    → Finds Rooted 3 ac-b 1 no-cluster lent lent q s′ p′ → Finds Rooted 3 (ac-b ++ ab-c) 2 no-cluster lent lent w s″ p″
     → (r .number ≡ 14) × (q .number ≡ 14) × (w .number ≡ 14)
 lots-without-a-tree first second both = (
   ap (λ (f : Found). f .number) (replied-so first ∙ replies .4),

@@ -11,6 +11,7 @@ use Rattle.reader.specs.declared.Kind.{Kind}
 use Rattle.reader.specs.declared.Reading.{Reading}
 use Rattle.writer.specs.Promise.{Writes}
 use Rattle.writer.proofs.Outcomes.{writes-once}
+use Rattle.weights.specs.declared.Rooting.{Rooting}
 use Rattle.lineages.specs.Promise.{Weighs, Scores, Marks}
 use Rattle.lineages.proofs.Outcomes.{weighs-once, scores-once, marks-once}
 use Rattle.search.specs.Promise.{Finds}
@@ -36,25 +37,28 @@ pub write-once :
 write-once line tree out r r′ after after′ p q = writes-once p q
 
 -- for the weight of a cluster
-pub weigh-once : (n : ℕ) (genes : List ℕ) (count cluster : ℕ) (r r′ : Reply) → Weighs n genes count cluster r → Weighs n genes count cluster r′ → r ≡ r′
-weigh-once n genes count cluster r r′ p q = weighs-once n genes count cluster p q
+pub weigh-once :
+    (rooting : Rooting) (n : ℕ) (genes : List ℕ) (count cluster : ℕ) (r r′ : Reply) → Weighs rooting n genes count cluster r
+    → Weighs rooting n genes count cluster r′ → r ≡ r′
+weigh-once rooting n genes count cluster r r′ p q = weighs-once rooting n genes count cluster p q
 
 -- for the score of a species tree
 pub score-once :
-    (n : ℕ) (genes : List ℕ) (count : ℕ) (species : List ℕ) (r r′ : Reply) → Scores n genes count species r → Scores n genes count species r′ → r ≡ r′
-score-once n genes count species r r′ p q = scores-once n genes count species p q
+    (rooting : Rooting) (n : ℕ) (genes : List ℕ) (count : ℕ) (species : List ℕ) (r r′ : Reply) → Scores rooting n genes count species r
+    → Scores rooting n genes count species r′ → r ≡ r′
+score-once rooting n genes count species r r′ p q = scores-once rooting n genes count species p q
 
 -- for the marks: the reply and the lent bytes
 pub mark-once :
-    (n : ℕ) (genes : List ℕ) (count : ℕ) (out : List ℕ) (r r′ : Reply) (after after′ : List ℕ)
-    → Marks n genes count out r after → Marks n genes count out r′ after′ → (r ≡ r′) × (after ≡ after′)
-mark-once n genes count out r r′ after after′ p q = marks-once p q
+    (rooting : Rooting) (n : ℕ) (genes : List ℕ) (count : ℕ) (out : List ℕ) (r r′ : Reply) (after after′ : List ℕ)
+    → Marks rooting n genes count out r after → Marks rooting n genes count out r′ after′ → (r ≡ r′) × (after ≡ after′)
+mark-once rooting n genes count out r r′ after after′ p q = marks-once p q
 
 -- for the search: the reply and both tables
 pub find-once :
-    (n : ℕ) (genes : List ℕ) (count : ℕ) (allowed scores splits : List ℕ) (r r′ : Found) (s s′ p p′ : List ℕ)
-    → Finds n genes count allowed scores splits r s p → Finds n genes count allowed scores splits r′ s′ p′ → (r ≡ r′) × (s ≡ s′) × (p ≡ p′)
-find-once n genes count allowed scores splits r r′ s s′ p p′ f g = finds-once f g
+    (rooting : Rooting) (n : ℕ) (genes : List ℕ) (count : ℕ) (allowed scores splits : List ℕ) (r r′ : Found) (s s′ p p′ : List ℕ)
+    → Finds rooting n genes count allowed scores splits r s p → Finds rooting n genes count allowed scores splits r′ s′ p′ → (r ≡ r′) × (s ≡ s′) × (p ≡ p′)
+find-once rooting n genes count allowed scores splits r r′ s s′ p p′ f g = finds-once f g
 
 -- for the program's report
 pub report-once : (input : List ℕ) (r r′ : _) → Reports input r → Reports input r′ → r ≡ r′

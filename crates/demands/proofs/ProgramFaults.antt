@@ -12,9 +12,9 @@ use borrow.Author.Tests.{leb-true, leb-false}
 use Rattle.clusters.specs.Sets.{whole}
 use Rattle.trees.specs.Tree.{Tree, clusters}
 use Rattle.trees.specs.Records.{recordOf}
-use Rattle.roster.specs.Roster.{names, faulty, firstFault, same}
+use Rattle.roster.specs.Roster.{names, faulty, firstFault}
 use Rattle.roster.specs.Judged.{speciesMost}
-use Rattle.roster.proofs.Positions.{same-is, same-self}
+use Rattle.roster.specs.Verdict.{Test}
 use Rattle.nodes.specs.Grammar.{Blanks}
 use Rattle.splits.specs.BinaryTrees.{Binary}
 use Rattle.solver.specs.Best.{bestFor, foundBy}
@@ -22,6 +22,8 @@ use Rattle.reader.specs.Promise.{textMost}
 use Rattle.tokens.specs.declared.answer.Threshold.the-variants.{NoThreshold}
 use Rattle.reader.specs.declared.Kind.the-variants.{Gene}
 use Rattle.writer.specs.Promise.{rosterTest}
+use Rattle.weights.specs.declared.Rooting.{Rooting}
+use Rattle.lineages.specs.Checks.{rootingTest}
 use Rattle.gather.specs.GeneTrees.{Gathered, gather}
 use Rattle.gather.specs.GeneTrees.Gathered.{gathered, stopped}
 use Rattle.gather.proofs.GeneTrees.{stopped-inside}
@@ -30,10 +32,12 @@ use Rattle.printing.specs.Texts.{refusalText}
 use Rattle.printing.specs.declared.Report.{Report}
 use Rattle.report.proofs.Bytewise.{line-within}
 use Rattle.report.proofs.Outcomes.{program-never-nine}
-use Rattle.report.specs.Input.{lineLength, firstLine, behindLine, endsInFeed, modePlace, treesPlace, allWord, genesWord}
+use Rattle.report.specs.Input.{lineLength, firstLine, behindLine, endsInFeed, modePlace, treesPlace, modeWord}
+use Rattle.report.specs.declared.modes.Mode.{Mode}
+use Rattle.report.specs.declared.modes.Mode.the-variants.{Another, Over}
 use Rattle.report.specs.Promise.{output, Reports}
-use Rattle.report.specs.Program.{onMode, onFeeds, onSpecies, onRoster, onText, program}
-use Rattle.outcomes.specs.Outcome.{Outcome, programMost, outcomeOf, searched, allowedBy, withGenes, onTrees, printed}
+use Rattle.report.specs.Program.{modeOf, onMode, onFeeds, onSpecies, onRoster, onText, program}
+use Rattle.outcomes.specs.Outcome.{Outcome, programMost, outcomeOf, searched, allowedBy, treePlace, onRooting, withGenes, onTrees, printed}
 use Rattle.outcomes.specs.Outcome.Outcome.{refused, solved}
 use Rattle.demands.specs.CallFaults.{_before_, RosterFault}
 use Rattle.demands.specs.TextFaults.{TextFault}
@@ -42,19 +46,21 @@ use Rattle.demands.specs.CallFaults._before_.{first, later}
 use Rattle.demands.specs.Input.{TreesTo, TreesStand}
 use Rattle.demands.specs.Input.TreesTo.{no-tree-yet, one-more}
 use Rattle.demands.specs.Signed.{Solvable}
-use Rattle.demands.specs.ProgramFaults.{TextLengthFault, ManySpeciesFault, LineFeedFault, ModeFault, TreesFault, NoGeneTreeFault, UnsolvableFault, ProgramFault}
+use Rattle.demands.specs.ProgramFaults.{TextLengthFault, ManySpeciesFault, LineFeedFault, ModeFault, TreesFault, NoGeneTreeFault, UnresolvedFault, UnsolvableFault, ProgramFault}
 use Rattle.demands.specs.ProgramFaults.TextLengthFault.{too-long}
 use Rattle.demands.specs.ProgramFaults.ManySpeciesFault.{over-12}
 use Rattle.demands.specs.ProgramFaults.LineFeedFault.{feed-missing}
 use Rattle.demands.specs.ProgramFaults.ModeFault.{another-word}
 use Rattle.demands.specs.ProgramFaults.NoGeneTreeFault.{only-blanks}
+use Rattle.demands.specs.ProgramFaults.UnresolvedFault.{unresolved-or-incomplete}
 use Rattle.demands.specs.ProgramFaults.UnsolvableFault.{no-tree}
-use Rattle.demands.proofs.FirstFaults.{NoFault, Names, names-one, names-first, names-later, passed-none, none-passed}
+use Rattle.demands.proofs.FirstFaults.{NoFault, Meets, Names, names-one, names-first, names-later, passed-none, none-passed}
 use Rattle.demands.proofs.TestFaults.{roster-met}
 use Rattle.demands.proofs.TextFaults.{plain-fault-numbers}
 use Rattle.demands.proofs.Gathering.{recordsOf, stopped-gathered, stopped-fault, gathered-from, gathers-standing}
 use Rattle.demands.proofs.TreesFaults.{fault-stops, trees-fault-means}
-use Rattle.demands.proofs.TwoLines.{feed-splits}
+use Rattle.demands.proofs.TwoLines.{feed-splits, ModeTold, mode-told}
+use Rattle.demands.proofs.UnresolvedTrees.{unresolved-met}
 use Rattle.demands.proofs.LineFeeds.{feed-found, second-feed-found}
 use Rattle.demands.proofs.RefusalLines.{same-number, one-refusal}
 use Rattle.demands.proofs.Solved.{refused-solved}
@@ -77,11 +83,12 @@ says-first {o} k p e f one = names-first k p f (names-one e same f one)
 
 -- ---- the kinds, from the last to the first
 
-searched-fourteen : (n : ℕ) (genes : List (List ℕ)) (allowed : List ℕ) {k p : ℕ} → searched n genes allowed ≡ refused k p → (k ≡ 14) × (p ≡ 0)
+searched-fourteen :
+    (rooting : Rooting) (n : ℕ) (genes : List (List ℕ)) (allowed : List ℕ) {k p : ℕ} → searched rooting n genes allowed ≡ refused k p → (k ≡ 14) × (p ≡ 0)
 unfolding searched
-searched-fourteen n genes allowed {k} {p} e = go (bestFor n genes allowed (whole n)) e
+searched-fourteen rooting n genes allowed {k} {p} e = go (bestFor rooting n genes allowed (whole n)) e
   where
-    go : (o : Option Binary) → outcomeOf (foundBy o genes .number) n (length genes) (foundBy o genes) ≡ refused k p → (k ≡ 14) × (p ≡ 0)
+    go : (o : Option Binary) → outcomeOf (foundBy rooting o genes .number) n (length genes) (foundBy rooting o genes) ≡ refused k p → (k ≡ 14) × (p ≡ 0)
     go none e = (let a : 14 ≡ k = cc in sym a, let b : 0 ≡ p = cc in sym b)
     go (some t) e = absurd (refused-solved (sym e))
 
@@ -106,31 +113,69 @@ module _ (input : List ℕ) where
 
   -- 14
   says-unsolvable :
-      (all : Bool) (genes : List (List ℕ)) → program input ≡ searched (length (names line)) genes (allowedBy all (length (names line)) genes)
+      (all : Bool) (rooting : Rooting) (genes : List (List ℕ)) → program input
+      ≡ searched rooting (length (names line)) genes (allowedBy all rooting (length (names line)) genes)
       → Says (program input) (UnsolvableFault input)
-  says-unsolvable all genes e = record { found = found; only = only }
+  says-unsolvable all rooting genes e = record { found = found; only = only }
     where
       found : {k p : ℕ} → program input ≡ refused k p → UnsolvableFault input k p
       found {k} {p} h =
-          let z = searched-fourteen (length (names line)) genes (allowedBy all (length (names line)) genes) (sym e ∙ h) in
+          let z = searched-fourteen rooting (length (names line)) genes (allowedBy all rooting (length (names line)) genes) (sym e ∙ h) in
           subst₂ (UnsolvableFault input) (sym (z .0)) (sym (z .1))
           (no-tree (none-exactly input .0 (h ∙ ap₂ refused (z .0) (z .1))))
 
       only : {k p : ℕ} → UnsolvableFault input k p → program input ≡ refused k p
       only (no-tree u) = none-exactly input .1 u
 
+  abbrev mode : List ℕ
+  mode = firstLine (behindLine input)
+
+  -- 19
+  abbrev From19 : ℕ → ℕ → Type 0
+  From19 = UnresolvedFault line mode text (treesPlace input) before UnsolvableFault input
+
+  says-unresolved :
+      (all : Bool) (rooting : Rooting) (genes : List (List ℕ)) → length (names line) ≤ 16 → mode ≡ modeWord all rooting → gather line text ≡ gathered genes
+      → program input
+      ≡ onRooting (rootingTest rooting (length (names line)) genes .fault)
+      (treePlace line text (treesPlace input) (rootingTest rooting (length (names line)) genes .place))
+      (searched rooting (length (names line)) genes (allowedBy all rooting (length (names line)) genes))
+      → Says (program input) From19
+  says-unresolved all rooting genes few is g e =
+      let from = gathered-from line text genes g in
+      let same : recordsOf (from .trees) ≡ genes = sym (from .records .records) in
+      go (rootingTest rooting (length (names line)) genes) (rw same at (unresolved-met line text (treesPlace input) (from .stand) few all rooting is)) e
+    where
+      go :
+          (t : Test) → Meets (record { fault = t .fault; number = 19; place = treePlace line text (treesPlace input) (t .place) })
+          (UnresolvedFault line mode text (treesPlace input))
+          → program input
+          ≡ onRooting (t .fault) (treePlace line text (treesPlace input) (t .place))
+          (searched rooting (length (names line)) genes (allowedBy all rooting (length (names line)) genes))
+          → Says (program input) From19
+      go t met e = by (t .fault) refl e
+        where
+          by : (b : Bool) → t .fault ≡ b
+              → program input
+              ≡ onRooting b (treePlace line text (treesPlace input) (t .place))
+              (searched rooting (length (names line)) genes (allowedBy all rooting (length (names line)) genes))
+              → Says (program input) From19
+          by true fault e =
+              says-first 19 (treePlace line text (treesPlace input) (t .place)) e (met .found fault) (λ j q f. let h = met .only f in (h .1, h .2))
+          by false fault e = names-later (passed-none met fault) (says-unsolvable all rooting genes e)
+
   -- 11
   abbrev From11 : ℕ → ℕ → Type 0
-  From11 = NoGeneTreeFault text before UnsolvableFault input
+  From11 = NoGeneTreeFault text before From19
 
   says-gathered :
-      (all : Bool) (genes : List (List ℕ)) → gather line text ≡ gathered genes → program input ≡ withGenes genes all (length (names line))
-      → Says (program input) From11
-  says-gathered all [] g e = says-first 11 0 e (only-blanks (no-trees-stand line text g)) (λ j q f. one f)
+      (all : Bool) (rooting : Rooting) (genes : List (List ℕ)) → length (names line) ≤ 16 → mode ≡ modeWord all rooting → gather line text ≡ gathered genes
+      → program input ≡ withGenes genes (λ i. treePlace line text (treesPlace input) i) all rooting (length (names line)) → Says (program input) From11
+  says-gathered all rooting [] few is g e = says-first 11 0 e (only-blanks (no-trees-stand line text g)) (λ j q f. one f)
     where
       one : {j q : ℕ} → NoGeneTreeFault text j q → (j ≡ 11) × (q ≡ 0)
       one (only-blanks b) = (refl, refl)
-  says-gathered all (x ∷ l) g e = names-later (λ k p f. never f) (says-unsolvable all (x ∷ l) e)
+  says-gathered all rooting (x ∷ l) few is g e = names-later (λ k p f. never f) (says-unresolved all rooting (x ∷ l) few is g e)
     where
       never : {k p : ℕ} → NoGeneTreeFault text k p → ⊥
       never (only-blanks b) =
@@ -143,8 +188,9 @@ module _ (input : List ℕ) where
   FromTrees = TreesFault line text (treesPlace input) before From11
 
   says-trees :
-      (all : Bool) (g : Gathered) → gather line text ≡ g → program input ≡ onTrees g (treesPlace input) all (length (names line)) → Says (program input) FromTrees
-  says-trees all (stopped number place) g e =
+      (all : Bool) (rooting : Rooting) (g : Gathered) → length (names line) ≤ 16 → mode ≡ modeWord all rooting → gather line text ≡ g
+      → program input ≡ onTrees g line text (treesPlace input) all rooting (length (names line)) → Says (program input) FromTrees
+  says-trees all rooting (stopped number place) few is g e =
       says-first number (treesPlace input + place) e (stopped-fault line text (treesPlace input) g) (λ j q f. one (fault-stops line text f))
     where
       one : {j q : ℕ} → (p : ℕ) × (gather line text ≡ stopped j p) × (q ≡ treesPlace input + p) → (j ≡ number) × (q ≡ treesPlace input + place)
@@ -153,33 +199,22 @@ module _ (input : List ℕ) where
           let a : j ≡ number = cc in
           let b : p ≡ place = cc in
           (a, i ∙ ap (λ (x : ℕ). treesPlace input + x) b)
-  says-trees all (gathered genes) g e =
-      names-later (λ k p f. stopped-gathered (sym (fault-stops line text f .1) ∙ g)) (says-gathered all genes g e)
+  says-trees all rooting (gathered genes) few is g e =
+      names-later (λ k p f. stopped-gathered (sym (fault-stops line text f .1) ∙ g)) (says-gathered all rooting genes few is g e)
 
   -- 3
   abbrev FromMode : ℕ → ℕ → Type 0
   FromMode = ModeFault input before FromTrees
 
-  abbrev mode : List ℕ
-  mode = firstLine (behindLine input)
-
-  says-mode : (a b : Bool) → same mode allWord ≡ a → same mode genesWord ≡ b → program input ≡ onMode a b input → Says (program input) FromMode
-  says-mode false false p q e =
-      says-first 3 (modePlace input) e (another-word (other allWord p) (other genesWord q)) (λ j q f. one f)
+  says-mode : (m : Mode) → length (names line) ≤ 16 → ModeTold mode m → program input ≡ onMode m input → Says (program input) FromMode
+  says-mode Another few told e = says-first 3 (modePlace input) e (another-word told) (λ j q f. one f)
     where
-      other : (w : List ℕ) → same mode w ≡ false → mode ≡ w → ⊥
-      other w p e = true≢false (sym (same-self w) ∙ ap (λ (m : List ℕ). same m w) (sym e) ∙ p)
-
       one : {j q : ℕ} → ModeFault input j q → (j ≡ 3) × (q ≡ modePlace input)
-      one (another-word f g) = (refl, refl)
-  says-mode false true p q e = names-later (λ k p f. never f) (says-trees false (gather line text) refl e)
+      one (another-word f) = (refl, refl)
+  says-mode (Over all rooting) few told e = names-later (λ k p f. never f) (says-trees all rooting (gather line text) few told refl e)
     where
       never : {k p : ℕ} → ModeFault input k p → ⊥
-      never (another-word f g) = g (same-is mode genesWord q)
-  says-mode true b p q e = names-later (λ k p f. never f) (says-trees true (gather line text) refl e)
-    where
-      never : {k p : ℕ} → ModeFault input k p → ⊥
-      never (another-word f g) = f (same-is mode allWord p)
+      never (another-word f) = f all rooting told
 
   -- 10
   abbrev FromFeeds : ℕ → ℕ → Type 0
@@ -196,10 +231,12 @@ module _ (input : List ℕ) where
       one : {j q : ℕ} → LineFeedFault input j q → (j ≡ 10) × (q ≡ length input)
       one (feed-missing h) = (refl, refl)
 
-  says-feeds : (a b : Bool) → endsInFeed input ≡ a → endsInFeed (behindLine input) ≡ b → program input ≡ onFeeds a b input → Says (program input) FromFeeds
-  says-feeds false b p q e = says-missing (inl p) e
-  says-feeds true false p q e = says-missing (inr q) e
-  says-feeds true true p q e = names-later (λ k p f. never f) (says-mode (same mode allWord) (same mode genesWord) refl refl e)
+  says-feeds :
+      (a b : Bool) → length (names line) ≤ 16 → endsInFeed input ≡ a → endsInFeed (behindLine input) ≡ b → program input ≡ onFeeds a b input
+      → Says (program input) FromFeeds
+  says-feeds false b few p q e = says-missing (inl p) e
+  says-feeds true false few p q e = says-missing (inr q) e
+  says-feeds true true few p q e = names-later (λ k p f. never f) (says-mode (modeOf mode) few (mode-told mode) e)
     where
       never : {k p : ℕ} → LineFeedFault input k p → ⊥
       never (feed-missing f) =
@@ -211,7 +248,9 @@ module _ (input : List ℕ) where
   FromSpecies = ManySpeciesFault line before FromFeeds
 
   says-species : (b : Bool) → leb (length (names line)) programMost ≡ b → program input ≡ onSpecies b input → Says (program input) FromSpecies
-  says-species true is e = names-later (λ k p f. never f) (says-feeds (endsInFeed input) (endsInFeed (behindLine input)) refl refl e)
+  says-species true is e =
+      names-later (λ k p f. never f)
+      (says-feeds (endsInFeed input) (endsInFeed (behindLine input)) (let l = leb-true (length (names line)) programMost is in omega arith) refl refl e)
     where
       never : {k p : ℕ} → ManySpeciesFault line k p → ⊥
       never (over-12 h) = let l = leb-true (length (names line)) programMost is in omega arith
@@ -241,7 +280,7 @@ module _ (input : List ℕ) where
       one : {j q : ℕ} → TextLengthFault input j q → (j ≡ 2) × (q ≡ textMost)
       one (too-long h) = (refl, refl)
 
-  -- "Checks: 2, 1, 17, mode, trees, 11, 14": the program refuses with a number at a place exactly where that fault stands
+  -- "Checks: 2, 1, 17, mode, trees, 11, 14", with 19 "after 11" (#106): the program refuses with a number at a place exactly where that fault stands
   pub refused-exactly : (number place : ℕ) → (program input ≡ refused number place) ↔ ProgramFault input number place
   unfolding program
   refused-exactly number place = let s = says-text (leb (length input) textMost) refl refl in (λ e. s .found e, λ f. s .only f)
@@ -262,29 +301,31 @@ module _ (input : List ℕ) where
   line-short = omega (arith, length-take (lineLength input) input)
 
   -- so of a refusal among the trees, whose place lies in their text
-  trees-within : {k p : ℕ} → length input ≤ textMost → faulty speciesMost line ≡ false → TreesFault line text (treesPlace input) k p → (k ≤ 17) × (p ≤ 200000)
+  trees-within : {k p : ℕ} → length input ≤ textMost → faulty speciesMost line ≡ false → TreesFault line text (treesPlace input) k p → (k ≤ 19) × (p ≤ 200000)
   trees-within {k} {p} short good f = (number (trees-fault-means f), place (fault-stops line text f))
     where
-      number : (k ≡ 17) ⊎ ((b : ℕ) × (q : ℕ) × TextFault Gene NoThreshold line text b k q × (p ≡ treesPlace input + q)) → k ≤ 17
+      number : (k ≡ 17) ⊎ ((b : ℕ) × (q : ℕ) × TextFault Gene NoThreshold line text b k q × (p ≡ treesPlace input + q)) → k ≤ 19
       number (inl e) = omega arith
       number (inr h) = omega (arith, plain-fault-numbers (h .2) .1)
 
       place : (q : ℕ) × (gather line text ≡ stopped k q) × (p ≡ treesPlace input + q) → p ≤ 200000
       place (q, e, i) = let t = places .3 in let l = stopped-inside line text good (omega arith) (sym e) in omega (arith, places .1)
 
-  -- no number is over 17, and no place over 200,000: each has at most twenty digits
-  small : {k p : ℕ} → ProgramFault input k p → (k ≤ 17) × (p ≤ 200000)
+  -- no number is over 19, and no place over 200,000: each has at most twenty digits
+  small : {k p : ℕ} → ProgramFault input k p → (k ≤ 19) × (p ≤ 200000)
   unfolding rosterTest
   small (first (too-long h)) = (omega arith, omega arith)
   small (later free f) = roster (let g : textMost < length input → ⊥ = λ h. free 2 textMost (too-long h) in omega (arith, g)) f
     where
-      mode-on : {k p : ℕ} → length input ≤ textMost → faulty speciesMost line ≡ false → FromMode k p → (k ≤ 17) × (p ≤ 200000)
-      mode-on short good (first (another-word f g)) = (omega arith, let m = places .2 in omega arith)
+      mode-on : {k p : ℕ} → length input ≤ textMost → faulty speciesMost line ≡ false → FromMode k p → (k ≤ 19) × (p ≤ 200000)
+      mode-on short good (first (another-word f)) = (omega arith, let m = places .2 in omega arith)
       mode-on short good (later free (first f)) = trees-within short good f
       mode-on short good (later free (later free′ (first (only-blanks b)))) = (omega arith, omega arith)
-      mode-on short good (later free (later free′ (later free″ (no-tree u)))) = (omega arith, omega arith)
+      mode-on short good (later free (later free′ (later free″ (first (unresolved-or-incomplete all is more enter draws unresolved))))) =
+          let t = places .3 in let b = more .inside in (omega arith, omega (arith, places .1))
+      mode-on short good (later free (later free′ (later free″ (later free‴ (no-tree u))))) = (omega arith, omega arith)
 
-      roster : {k p : ℕ} → length input ≤ textMost → FromRoster k p → (k ≤ 17) × (p ≤ 200000)
+      roster : {k p : ℕ} → length input ≤ textMost → FromRoster k p → (k ≤ 19) × (p ≤ 200000)
       roster short (first (roster-faulty inside stands earlier)) = (omega arith, omega (arith, line-short))
       roster short (later free (first (over-12 h))) = (omega arith, omega arith)
       roster short (later free (later free′ (first (feed-missing h)))) = (omega arith, omega arith)

@@ -13,6 +13,7 @@ use Rattle.roster.specs.Verdict.{Test, Verdict, verdict, verdictBy, replyOf}
 use Rattle.roster.specs.declared.Reply.{Reply}
 use Rattle.writer.specs.Promise.{outBy}
 use Rattle.trees.specs.Records.{recordsIn}
+use Rattle.weights.specs.declared.Rooting.{Rooting}
 use Rattle.lineages.specs.Promise.{markedBy}
 use Rattle.splits.specs.BinaryTrees.{Binary}
 use Rattle.search.specs.Promise.{searchTests, foundOr, filledBy, Finds}
@@ -75,9 +76,9 @@ pub outBy-refused : (k : ℕ) (text out : List ℕ) → (k ≡ 0 → ⊥) → ou
 outBy-refused zero text out f = absurd (f refl)
 outBy-refused (suc k) text out f = refl
 
-pub markedBy-refused : (k n : ℕ) (genes : List (List ℕ)) (out : List ℕ) → (k ≡ 0 → ⊥) → markedBy k n genes out ≡ out
-markedBy-refused zero n genes out f = absurd (f refl)
-markedBy-refused (suc k) n genes out f = refl
+pub markedBy-refused : (rooting : Rooting) (k n : ℕ) (genes : List (List ℕ)) (out : List ℕ) → (k ≡ 0 → ⊥) → markedBy rooting k n genes out ≡ out
+markedBy-refused rooting zero n genes out f = absurd (f refl)
+markedBy-refused rooting (suc k) n genes out f = refl
 
 pub filledBy-refused : (k n : ℕ) (entry : ℕ → ℕ) (lent : List ℕ) → (k ≡ 0 → ⊥) → filledBy k n entry lent ≡ lent
 filledBy-refused zero n entry lent f = absurd (f refl)
@@ -90,9 +91,9 @@ abbrev pub without : ℕ → ℕ → Found
 without number place = record { number = number; place = place; score = 0; numbers = replicate 32 0 }
 
 -- 14
-missed : (o : Option Binary) (genes : List (List ℕ)) → (foundBy o genes .number ≡ 0 → ⊥) → foundBy o genes ≡ without 14 0
-missed none genes f = refl
-missed (some t) genes f = absurd (f refl)
+missed : (rooting : Rooting) (o : Option Binary) (genes : List (List ℕ)) → (foundBy rooting o genes .number ≡ 0 → ⊥) → foundBy rooting o genes ≡ without 14 0
+missed rooting none genes f = refl
+missed rooting (some t) genes f = absurd (f refl)
 
 -- no test found a fault, and there is no tree; or one did
 pub data Refused (said : Verdict) (r : Found) : Type 0 where
@@ -104,18 +105,19 @@ pub filled : (k n : ℕ) (entry : ℕ → ℕ) (lent after : List ℕ) → after
 filled zero n entry lent after e z = e
 filled (suc k) n entry lent after e z = absurd (omega arith)
 
-module _ (n : ℕ) (genes : List ℕ) (count : ℕ) (allowed scores splits : List ℕ) (r : Found) (s p : List ℕ)
-    (found : Finds n genes count allowed scores splits r s p) (refusal : r .number ≡ 0 → ⊥) where
+module _ (rooting : Rooting) (n : ℕ) (genes : List ℕ) (count : ℕ) (allowed scores splits : List ℕ) (r : Found) (s p : List ℕ)
+    (found : Finds rooting n genes count allowed scores splits r s p) (refusal : r .number ≡ 0 → ⊥) where
   -- a refusal comes in one of these two ways
-  pub refused-ways : Refused (verdict (searchTests n genes count allowed scores splits)) r
+  pub refused-ways : Refused (verdict (searchTests rooting n genes count allowed scores splits)) r
   refused-ways =
-      go (verdict (searchTests n genes count allowed scores splits) .number) (verdict (searchTests n genes count allowed scores splits) .place) (found .reply)
+      go (verdict (searchTests rooting n genes count allowed scores splits) .number)
+      (verdict (searchTests rooting n genes count allowed scores splits) .place) (found .reply)
     where
       tree : Option Binary
-      tree = bestFor n (recordsIn count genes) allowed (whole n)
+      tree = bestFor rooting n (recordsIn count genes) allowed (whole n)
 
-      go : (k q : ℕ) → r ≡ foundOr k q (foundBy tree (recordsIn count genes)) → Refused (record { number = k; place = q }) r
-      go zero q e = no-tree refl (e ∙ missed tree (recordsIn count genes) (λ z. refusal (ap (λ (r : Found). r .number) e ∙ z)))
+      go : (k q : ℕ) → r ≡ foundOr k q (foundBy rooting tree (recordsIn count genes)) → Refused (record { number = k; place = q }) r
+      go zero q e = no-tree refl (e ∙ missed rooting tree (recordsIn count genes) (λ z. refusal (ap (λ (r : Found). r .number) e ∙ z)))
       go (suc k) q e = by-test (λ z. omega arith) e
 
 -- ---- "0 | done | 0"

@@ -1,15 +1,16 @@
 -- The second demand: tree text and its clusters, both ways, and the score as the sum that the paper has.
-use Prim.Native.Nat.{ℕ, _+_, _-_, _≤_}
+use Prim.Native.Nat.{ℕ, suc, _+_, _-_, _≤_}
 use mathlib.Core.Path.{_≡_, refl, sym, ap, _∙_, subst}
 use mathlib.Core.Logic.{_⊎_, inl, inr, _↔_}
-use mathlib.Core.Bool.{false}
+use mathlib.Core.Bool.{false, not, _&&_, _||_}
 use mathlib.Core.List.{List, [], _∷_, _++_, map, append-assoc}
 use native.Mathlib.Decide.{ℕ-discrete}
 use native.Mathlib.Omega.{arith}
 use lib.ListN.{length, getD, take, drop, length-append}
 use lib.Seq.{getD-append-seam}
+use lib.Dec.{eqb}
 use Rattle.clusters.specs.Sets.{Within, whole, within}
-use Rattle.trees.specs.Lists.{Among, NoneTwice, keep, some, total}
+use Rattle.trees.specs.Lists.{Among, NoneTwice, keep, some, total, upTo}
 use Rattle.trees.specs.Tree.{Tree, leaves, clusters}
 use Rattle.trees.specs.Drawn.{maximal, children, drawn}
 use Rattle.trees.specs.Valid.{every, among}
@@ -40,7 +41,9 @@ use Rattle.writer.proofs.RosterNames.{good-names}
 use Rattle.texts.proofs.Lengths.{text-most}
 use Rattle.writer.proofs.Outcomes.{writes-once, writes-done, writes-zero}
 use Rattle.writer.proofs.RoundTrip.{write-read, write-read-gene, write-read-lacking}
-use Rattle.weights.specs.Count.{kDrawn, kOf, oneOr, extra, weight, score}
+use Rattle.weights.specs.declared.Rooting.{Rooting}
+use Rattle.weights.specs.declared.Rooting.the-variants.{Rooted, Unrooted}
+use Rattle.weights.specs.Count.{unrootedClusters, kDrawn, kOf, oneOr, kBy, extra, weight, score}
 use Rattle.weights.specs.Lineages.{lineages}
 use Rattle.weights.proofs.Compared.{k-never-more, k-binary}
 use Rattle.weights.proofs.Lost.{none-within-adds-nothing as lost-adds-nothing, some-within-adds-k-less-one}
@@ -235,32 +238,48 @@ pub some-within-counts :
 unfolding extra
 some-within-counts n g a x few v m w = some-within-adds-k-less-one few v a x m w
 
+-- without a root k "counts the maximal ones as before; for the whole set, one" (#106): of the record's clusters and "the complement of each but the whole"
+pub maximal-without-a-root :
+    (g : List ℕ) (a : ℕ)
+    → kBy Unrooted g a ≡ oneOr (eqb a (largest g)) (length (maximal (keep (λ (x : ℕ). within x a) (keep (λ (x : ℕ).
+    among x (listed g) || some (λ (y : ℕ). not (eqb y (largest g)) && eqb x (largest g - y)) (listed g)) (upTo (suc (largest g)))))))
+unfolding kDrawn unrootedClusters
+maximal-without-a-root g a = refl
+
 -- the scoring call gives the sum, over the species tree's clusters A and the gene records g, of k - 1
 pub score-is-the-sum :
-    (n : ℕ) (genes : List ℕ) (count : ℕ) (species : List ℕ) (r : Reply) → Scores n genes count species r → r .number ≡ 0
-    → r .value ≡ total (map (λ (a : ℕ). total (map (λ (g : List ℕ). kOf (listed g) a - 1) (recordsIn count genes))) (listed species))
+    (rooting : Rooting) (n : ℕ) (genes : List ℕ) (count : ℕ) (species : List ℕ) (r : Reply) → Scores rooting n genes count species r → r .number ≡ 0
+    → r .value ≡ total (map (λ (a : ℕ). total (map (λ (g : List ℕ). kBy rooting g a - 1) (recordsIn count genes))) (listed species))
 unfolding score weight extra
-score-is-the-sum n genes count species r p z = scored-value n genes count species r p z
+score-is-the-sum rooting n genes count species r p z = scored-value rooting n genes count species r p z
 
 -- "The weight of A is the sum over all gene trees of k - 1"
 pub weight-is-the-sum :
-    (n : ℕ) (genes : List ℕ) (count a : ℕ) (r : Reply) → Weighs n genes count a r → r .number ≡ 0
-    → r .value ≡ total (map (λ (g : List ℕ). kOf (listed g) a - 1) (recordsIn count genes))
+    (rooting : Rooting) (n : ℕ) (genes : List ℕ) (count a : ℕ) (r : Reply) → Weighs rooting n genes count a r → r .number ≡ 0
+    → r .value ≡ total (map (λ (g : List ℕ). kBy rooting g a - 1) (recordsIn count genes))
 unfolding weight extra
-weight-is-the-sum n genes count a r p z = weighed-value n genes count a r p z
+weight-is-the-sum rooting n genes count a r p z = weighed-value rooting n genes count a r p z
 
--- every valid binary species tree is scored against every list of valid gene trees inside the limits
+-- every valid binary species tree is scored against every list of valid gene trees inside the limits, which may enter by the rooting
 pub score-given-exactly :
-    (n : ℕ) (genes : List ℕ) (count : ℕ) (species : List ℕ) (r : Reply) → Scores n genes count species r → (r .number ≡ 0) ↔ Scorable n genes count species
+    (rooting : Rooting) (n : ℕ) (genes : List ℕ) (count : ℕ) (species : List ℕ) (r : Reply) → Scores rooting n genes count species r
+    → (r .number ≡ 0) ↔ Scorable rooting n genes count species
 score-given-exactly = scored-exactly
 
--- the same sum over the gene trees as drawn; "as in the paper of Yu, Warnow and Nakhleh": also with the lineages counted down each tree
+-- the same sum over the gene trees as drawn
 pub score-over-gene-trees :
-    (n : ℕ) (genes : List ℕ) (count : ℕ) (species : List ℕ) (r : Reply) → Scores n genes count species r → r .number ≡ 0
-    → (trees : List Tree) × RecordsOf n (recordsIn count genes) trees × (r .value ≡ scoreOver trees species)
-    × (r .value ≡ total (map (λ (a : ℕ). total (map (λ (t : Tree). lineages a t - 1) trees)) (listed species)))
-score-over-gene-trees n genes count species r p z =
-    let h = scored-exactly n genes count species r p .0 z in
+    (rooting : Rooting) (n : ℕ) (genes : List ℕ) (count : ℕ) (species : List ℕ) (r : Reply) → Scores rooting n genes count species r → r .number ≡ 0
+    → (trees : List Tree) × RecordsOf n (recordsIn count genes) trees × (r .value ≡ scoreOver rooting trees species)
+score-over-gene-trees rooting n genes count species r p z =
+    let h = scored-exactly rooting n genes count species r p .0 z in
     let d = gene-trees n (recordsIn count genes) (h .in-order .shaped .few-species) (h .in-order .valid) in
-    let e = scored-value n genes count species r p z ∙ score-drawn (d .1) species in
-    (d .0, d .1, e, e ∙ score-down (d .1) species)
+    (d .0, d .1, scored-value rooting n genes count species r p z ∙ score-drawn (d .1) rooting species)
+
+-- "as in the paper of Yu, Warnow and Nakhleh": with their roots, also with the lineages counted down each tree
+pub score-counted-down :
+    (n : ℕ) (genes : List ℕ) (count : ℕ) (species : List ℕ) (r : Reply) → Scores Rooted n genes count species r → r .number ≡ 0
+    → (trees : List Tree) × RecordsOf n (recordsIn count genes) trees
+    × (r .value ≡ scoreOver Rooted trees species)
+    × (r .value ≡ total (map (λ (a : ℕ). total (map (λ (t : Tree). lineages a t - 1) trees)) (listed species)))
+score-counted-down n genes count species r p z =
+    let s = score-over-gene-trees Rooted n genes count species r p z in (s .0, s .1, s .2, s .2 ∙ score-down (s .1) species)

@@ -1,5 +1,5 @@
 -- "What the promises have to shut out": no function that meets a promise on all that a machine can hand over is one of 01's wrong versions there.
-use Prim.Native.Nat.{ℕ, _-_, _^_, _<_}
+use Prim.Native.Nat.{ℕ, _-_, _^_, _≤_, _<_}
 use mathlib.Core.Path.{_≡_, refl, sym, ap, _∙_}
 use mathlib.Core.List.{List, [], _∷_, _++_}
 use mathlib.Core.Bool.{true}
@@ -16,6 +16,7 @@ use Rattle.trees.specs.Drawn.{properly, maximal, placed, byLowest, children, dr
 use Rattle.trees.specs.Lists.{keep, some, insert, sorted, pieces, total, upTo}
 use Rattle.trees.specs.Records.{recordOf}
 use Rattle.trees.specs.Tree.{cluster, clusters}
+use Rattle.trees.specs.Unrooted.{resolved, mayUnroot}
 use Rattle.trees.specs.Thinned.{leftBelow, clustersLeft}
 use Rattle.trees.specs.Valid.{every, among, rising, singlesFrom, nested, valid, validGene, binary}
 use Rattle.roster.specs.Roster.{same, position, inQuotes, begins, beginnings, nameAt, names, strayAt, longAt, manyAt, againAt, openAt, faultAt, least, firstFault, faulty}
@@ -34,8 +35,10 @@ use Rattle.reader.specs.declared.Kind.the-variants.{Species, Gene}
 use Rattle.reader.specs.declared.Reading.{Reading}
 use Rattle.texts.specs.Writing.{treeText, written, nodeText}
 use Rattle.writer.specs.Promise.{rosterTest, recordTest, writeTests, Writes}
-use Rattle.weights.specs.Count.{kOf, extra, weight, score}
-use Rattle.lineages.specs.Checks.{speciesTest, countTest, speciesRecordTest, firstBad, recordsTest, clusterTest, weightTests, scoreTests, markTests}
+use Rattle.weights.specs.declared.Rooting.{Rooting}
+use Rattle.weights.specs.declared.Rooting.the-variants.{Rooted, Unrooted}
+use Rattle.weights.specs.Count.{unrootedHas, unrootedClusters, maximalWithin, kDrawn, kOf, extra, weight, score}
+use Rattle.lineages.specs.Checks.{speciesTest, countTest, speciesRecordTest, firstFailing, recordsTest, rootingTest, clusterTest, weightTests, scoreTests, markTests}
 use Rattle.weights.specs.Marks.{shown}
 use Rattle.lineages.specs.Promise.{marks, Weighs, Scores, Marks}
 use Rattle.splits.specs.BinaryTrees.{clustersIn, isLow, lows, each, forks, treesTo, treesOn}
@@ -49,11 +52,11 @@ use Rattle.printing.specs.Texts.{reportBytes}
 use Rattle.printing.specs.Words.{taxaText, genesText, scoreText, refusedText, atText, digitsTo, decimal}
 use Rattle.gather.specs.GeneTrees.{gatherTo, walk, gather}
 use Rattle.report.specs.Input.{lineLength, firstLine, behindLine, endsInFeed, modePlace, treesPlace}
-use Rattle.report.specs.Program.{program}
+use Rattle.report.specs.Program.{modeOf, program}
 use Rattle.outcomes.specs.Outcome.{searched}
 use Rattle.report.specs.Promise.{output, Reports}
 use Rattle.demands.specs.Handed.{Slice, Bytes, AnyRecord, ToRead, ToWrite, GeneTrees, ToWeigh, ToScore, ToMark, ToSearch}
-use Rattle.demands.proofs.SmallInputs.{ab-c, ac-b, every-cluster, lent}
+use Rattle.demands.proofs.SmallInputs.{ab-cd, ac-bd, every-of-four, lent-of-four}
 
 -- ---- what is computed: small inputs and their replies
 
@@ -122,75 +125,129 @@ unfolding a-line a-text a-record room ones onesIn trailingZeros whole single uni
 write-a r after w = (w .answer, w .bytes)
 
 -- cluster 3, `a` with `b`, weighs nothing in two trees that have it, and 1 where the second does not
-weigh-alike : (r : Reply) → Weighs 3 (ab-c ++ ab-c) 2 3 r → r ≡ record { number = 0; place = 0; value = 0 }
-unfolding ab-c Weighs weightTests clusterTest ones onesIn trailingZeros whole single union has within apart size lowest keep some insert sorted
-    recordOf properly maximal every among rising singlesFrom nested valid validGene binary verdict lengthTest kOf placed byLowest children extra total
-    weight score pieces speciesTest countTest firstBad recordsTest
-weigh-alike r p = p
+weigh-alike : (rooting : Rooting) (r : Reply) → Weighs rooting 4 (ab-cd ++ ab-cd) 2 3 r → r ≡ record { number = 0; place = 0; value = 0 }
+unfolding ab-cd Weighs weightTests clusterTest ones onesIn trailingZeros whole single union has within apart size lowest keep some insert sorted
+    recordOf properly maximal every among rising singlesFrom nested valid validGene binary verdict lengthTest unrootedHas unrootedClusters
+    maximalWithin kDrawn kOf
+    placed byLowest children extra total weight score pieces upTo speciesTest countTest firstFailing recordsTest resolved mayUnroot rootingTest
+weigh-alike Rooted r p = p
+weigh-alike Unrooted r p = p
 
-weigh-unlike : (r : Reply) → Weighs 3 (ab-c ++ ac-b) 2 3 r → r ≡ record { number = 0; place = 0; value = 1 }
-unfolding ab-c ac-b Weighs weightTests clusterTest ones onesIn trailingZeros whole single union has within apart size lowest keep some insert sorted
-    recordOf properly maximal every among rising singlesFrom nested valid validGene binary verdict lengthTest kOf placed byLowest children extra total
-    weight score pieces speciesTest countTest firstBad recordsTest
-weigh-unlike r p = p
+weigh-unlike : (rooting : Rooting) (r : Reply) → Weighs rooting 4 (ab-cd ++ ac-bd) 2 3 r → r ≡ record { number = 0; place = 0; value = 1 }
+unfolding ab-cd ac-bd Weighs weightTests clusterTest ones onesIn trailingZeros whole single union has within apart size lowest keep some insert sorted
+    recordOf properly maximal every among rising singlesFrom nested valid validGene binary verdict lengthTest unrootedHas unrootedClusters
+    maximalWithin kDrawn kOf
+    placed byLowest children extra total weight score pieces upTo speciesTest countTest firstFailing recordsTest resolved mayUnroot rootingTest
+weigh-unlike Rooted r p = p
+weigh-unlike Unrooted r p = p
 
--- and so for the score of `((a,b),c);`
-score-alike : (r : Reply) → Scores 3 (ab-c ++ ab-c) 2 ab-c r → r ≡ record { number = 0; place = 0; value = 0 }
-unfolding ab-c Scores scoreTests speciesRecordTest ones onesIn trailingZeros whole single union has within apart size lowest keep some insert sorted
-    recordOf properly maximal every among rising singlesFrom nested valid validGene binary verdict lengthTest kOf placed byLowest children extra total
-    weight score pieces speciesTest countTest firstBad recordsTest
-score-alike r p = p
+-- and so for the score of `((a,b),(c,d));`
+score-alike : (rooting : Rooting) (r : Reply) → Scores rooting 4 (ab-cd ++ ab-cd) 2 ab-cd r → r ≡ record { number = 0; place = 0; value = 0 }
+unfolding ab-cd Scores scoreTests speciesRecordTest ones onesIn trailingZeros whole single union has within apart size lowest keep some insert sorted
+    recordOf properly maximal every among rising singlesFrom nested valid validGene binary verdict lengthTest unrootedHas unrootedClusters
+    maximalWithin kDrawn kOf
+    placed byLowest children extra total weight score pieces upTo speciesTest countTest firstFailing recordsTest resolved mayUnroot rootingTest
+score-alike Rooted r p = p
+score-alike Unrooted r p = p
 
-score-unlike : (r : Reply) → Scores 3 (ab-c ++ ac-b) 2 ab-c r → r ≡ record { number = 0; place = 0; value = 1 }
-unfolding ab-c ac-b Scores scoreTests speciesRecordTest ones onesIn trailingZeros whole single union has within apart size lowest keep some insert
-    sorted recordOf properly maximal every among rising singlesFrom nested valid validGene binary verdict lengthTest kOf placed byLowest children
-    extra total weight score pieces speciesTest countTest firstBad recordsTest
-score-unlike r p = p
+score-unlike : (rooting : Rooting) (r : Reply) → Scores rooting 4 (ab-cd ++ ac-bd) 2 ab-cd r → r ≡ record { number = 0; place = 0; value = 2 }
+unfolding ab-cd ac-bd Scores scoreTests speciesRecordTest ones onesIn trailingZeros whole single union has within apart size lowest keep some insert
+    sorted recordOf properly maximal every among rising singlesFrom nested valid validGene binary verdict lengthTest unrootedHas unrootedClusters
+    maximalWithin kDrawn kOf
+    placed byLowest children extra total weight score pieces upTo speciesTest countTest firstFailing recordsTest resolved mayUnroot rootingTest
+score-unlike Rooted r p = p
+score-unlike Unrooted r p = p
 
-mark-one : (r : Reply) (after : List ℕ) → Marks 1 a-record 1 room r after → (r ≡ record { number = 0; place = 0; value = 0 }) × (after ≡ 0 ∷ 1 ∷ [])
+mark-one :
+    (rooting : Rooting) (r : Reply) (after : List ℕ) → Marks rooting 1 a-record 1 room r after
+    → (r ≡ record { number = 0; place = 0; value = 0 }) × (after ≡ 0 ∷ 1 ∷ [])
 unfolding a-record room markTests shown marks upTo ones onesIn trailingZeros whole single union has within apart size lowest keep some insert sorted
-    recordOf properly maximal every among rising singlesFrom nested valid validGene binary verdict lengthTest kOf placed byLowest children extra total
-    weight score pieces speciesTest countTest firstBad recordsTest
-mark-one r after p = (p .reply, p .bytes)
+    recordOf properly maximal every among rising singlesFrom nested valid validGene binary verdict lengthTest unrootedHas unrootedClusters
+    placed byLowest children pieces speciesTest countTest firstFailing recordsTest resolved mayUnroot rootingTest
+mark-one Rooted r after p = (p .reply, p .bytes)
+mark-one Unrooted r after p = (p .reply, p .bytes)
 
-find-ab-c : (r : Found) (s p : List ℕ) → Finds 3 ab-c 1 every-cluster lent lent r s p → r ≡ record { number = 0; place = 0; score = 0; numbers = ab-c }
-unfolding ab-c every-cluster lent ones onesIn trailingZeros whole single union has within apart size lowest keep some insert sorted recordOf properly
-    maximal every among rising singlesFrom nested valid validGene binary verdict lengthTest kOf placed byLowest children extra total weight score
-    pieces speciesTest countTest firstBad recordsTest shown marks upTo least clustersIn isLow lows each forks treesTo treesOn those all scoreOf
-    treesOver leastTrees best allowedIn firstStrange allowedTest searchTests bestFor
-find-ab-c r s p f = f .reply
+-- the first least trees over all clusters: for either gene tree alone, where they score nothing, and what the first scores for both
+unfoldable first-tree : Rooting → List ℕ
+first-tree Rooted = ab-cd
+first-tree Unrooted = recordOf (1 ∷ 2 ∷ 4 ∷ 8 ∷ 12 ∷ 14 ∷ 15 ∷ [])
 
-find-ac-b : (r : Found) (s p : List ℕ) → Finds 3 ac-b 1 every-cluster lent lent r s p → r ≡ record { number = 0; place = 0; score = 0; numbers = ac-b }
-unfolding ac-b every-cluster lent ones onesIn trailingZeros whole single union has within apart size lowest keep some insert sorted recordOf properly
-    maximal every among rising singlesFrom nested valid validGene binary verdict lengthTest kOf placed byLowest children extra total weight score
-    pieces speciesTest countTest firstBad recordsTest shown marks upTo least clustersIn isLow lows each forks treesTo treesOn those all scoreOf
-    treesOver leastTrees best allowedIn firstStrange allowedTest searchTests bestFor
-find-ac-b r s p f = f .reply
+unfoldable second-tree : Rooting → List ℕ
+second-tree Rooted = ac-bd
+second-tree Unrooted = recordOf (1 ∷ 2 ∷ 4 ∷ 8 ∷ 10 ∷ 14 ∷ 15 ∷ [])
 
-find-both : (r : Found) (s p : List ℕ) → Finds 3 (ab-c ++ ac-b) 2 every-cluster lent lent r s p → r ≡ record { number = 0; place = 0; score = 1; numbers = ab-c }
-unfolding ab-c ac-b every-cluster lent ones onesIn trailingZeros whole single union has within apart size lowest keep some insert sorted recordOf
-    properly maximal every among rising singlesFrom nested valid validGene binary verdict lengthTest kOf placed byLowest children extra total weight
-    score pieces speciesTest countTest firstBad recordsTest shown marks upTo least clustersIn isLow lows each forks treesTo treesOn those all scoreOf
-    treesOver leastTrees best allowedIn firstStrange allowedTest searchTests bestFor
-find-both r s p f = f .reply
+abbrev score-of-both : Rooting → ℕ
+score-of-both Rooted = 2
+score-of-both Unrooted = 1
 
+trees-differ : (rooting : Rooting) → first-tree rooting ≡ second-tree rooting → ⊥
+unfolding first-tree second-tree ab-cd ac-bd recordOf sorted insert
+trees-differ Rooted e = omega (arith, ap (λ (l : List ℕ). getD l 3 0) e)
+trees-differ Unrooted e = omega (arith, ap (λ (l : List ℕ). getD l 5 0) e)
+
+both-score-something : (rooting : Rooting) → 1 ≤ score-of-both rooting
+both-score-something Rooted = omega arith
+both-score-something Unrooted = omega arith
+
+find-ab-cd :
+    (rooting : Rooting) (r : Found) (s p : List ℕ) → Finds rooting 4 ab-cd 1 every-of-four lent-of-four lent-of-four r s p
+    → r ≡ record { number = 0; place = 0; score = 0; numbers = first-tree rooting }
+unfolding first-tree ab-cd every-of-four lent-of-four ones onesIn trailingZeros whole single union has within apart size lowest keep some insert sorted recordOf
+    properly maximal every among rising singlesFrom nested valid validGene binary verdict lengthTest unrootedHas unrootedClusters maximalWithin kDrawn
+    kOf placed byLowest
+    children extra total weight score pieces speciesTest countTest firstFailing recordsTest resolved mayUnroot rootingTest shown marks upTo least
+    clustersIn isLow lows
+    each forks treesTo treesOn those all scoreOf treesOver leastTrees best allowedIn firstStrange allowedTest searchTests bestFor
+find-ab-cd Rooted r s p f = f .reply
+find-ab-cd Unrooted r s p f = f .reply
+
+find-ac-bd :
+    (rooting : Rooting) (r : Found) (s p : List ℕ) → Finds rooting 4 ac-bd 1 every-of-four lent-of-four lent-of-four r s p
+    → r ≡ record { number = 0; place = 0; score = 0; numbers = second-tree rooting }
+unfolding second-tree ac-bd every-of-four lent-of-four ones onesIn trailingZeros whole single union has within apart size lowest keep some insert sorted recordOf
+    properly maximal every among rising singlesFrom nested valid validGene binary verdict lengthTest unrootedHas unrootedClusters maximalWithin kDrawn
+    kOf placed byLowest
+    children extra total weight score pieces speciesTest countTest firstFailing recordsTest resolved mayUnroot rootingTest shown marks upTo least
+    clustersIn isLow lows
+    each forks treesTo treesOn those all scoreOf treesOver leastTrees best allowedIn firstStrange allowedTest searchTests bestFor
+find-ac-bd Rooted r s p f = f .reply
+find-ac-bd Unrooted r s p f = f .reply
+
+find-both :
+    (rooting : Rooting) (r : Found) (s p : List ℕ) → Finds rooting 4 (ab-cd ++ ac-bd) 2 every-of-four lent-of-four lent-of-four r s p
+    → r ≡ record { number = 0; place = 0; score = score-of-both rooting; numbers = first-tree rooting }
+unfolding first-tree ab-cd ac-bd every-of-four lent-of-four ones onesIn trailingZeros whole single union has within apart size lowest keep some insert
+    sorted recordOf
+    properly maximal every among rising singlesFrom nested valid validGene binary verdict lengthTest unrootedHas unrootedClusters maximalWithin kDrawn
+    kOf placed byLowest
+    children extra total weight score pieces speciesTest countTest firstFailing recordsTest resolved mayUnroot rootingTest shown marks upTo least
+    clustersIn isLow lows
+    each forks treesTo treesOn those all scoreOf treesOver leastTrees best allowedIn firstStrange allowedTest searchTests bestFor
+find-both Rooted r s p f = f .reply
+find-both Unrooted r s p f = f .reply
+
+-- "entry 0" of both tables, where no tree is
 find-tables :
-    (r : Found) (s p : List ℕ) → Finds 3 ab-c 1 every-cluster lent lent r s p
-    → (s ≡ noTree ∷ 0 ∷ 0 ∷ 0 ∷ 0 ∷ 1 ∷ 1 ∷ 0 ∷ []) × (p ≡ 0 ∷ 0 ∷ 0 ∷ 1 ∷ 0 ∷ 1 ∷ 2 ∷ 3 ∷ [])
-unfolding ab-c every-cluster lent ones onesIn trailingZeros whole single union has within apart size lowest keep some insert sorted recordOf properly
-    maximal every among rising singlesFrom nested valid validGene binary verdict lengthTest kOf placed byLowest children extra total weight score
-    pieces speciesTest countTest firstBad recordsTest shown marks upTo least clustersIn isLow lows each forks treesTo treesOn those all scoreOf
-    treesOver leastTrees best allowedIn firstStrange allowedTest searchTests bestFor
-find-tables r s p f = (f .scoreTable, f .splitTable)
+    (rooting : Rooting) (r : Found) (s p : List ℕ) → Finds rooting 4 ab-cd 1 every-of-four lent-of-four lent-of-four r s p
+    → (getD s 0 0 ≡ noTree) × (getD p 0 0 ≡ 0)
+unfolding ab-cd every-of-four lent-of-four ones onesIn trailingZeros whole single union has within apart size lowest keep some insert sorted recordOf
+    properly maximal every among rising singlesFrom nested valid validGene binary verdict lengthTest unrootedHas unrootedClusters maximalWithin kDrawn
+    kOf placed byLowest
+    children extra total weight score pieces speciesTest countTest firstFailing recordsTest resolved mayUnroot rootingTest shown marks upTo least
+    clustersIn isLow lows
+    each forks treesTo treesOn those all scoreOf treesOver leastTrees best allowedIn firstStrange allowedTest searchTests bestFor
+find-tables Rooted r s p f = (ap (λ (l : List ℕ). getD l 0 0) (f .scoreTable), ap (λ (l : List ℕ). getD l 0 0) (f .splitTable))
+find-tables Unrooted r s p f = (ap (λ (l : List ℕ). getD l 0 0) (f .scoreTable), ap (λ (l : List ℕ). getD l 0 0) (f .splitTable))
 
 -- the input `a`, `all`, `a;` prints three lines, the empty one `refused 1 at 0`
 a-input : List ℕ
 a-input = 97 ∷ 10 ∷ 97 ∷ 108 ∷ 108 ∷ 10 ∷ 97 ∷ 59 ∷ 10 ∷ []
 
 a-output : output a-input ≡ taxaText ++ 49 ∷ genesText ++ 49 ∷ 10 ∷ scoreText ++ 48 ∷ 10 ∷ 97 ∷ 59 ∷ 10 ∷ []
-unfolding a-input lineLength firstLine behindLine endsInFeed modePlace treesPlace gatherTo walk gather searched program digitsTo decimal output ones onesIn
+unfolding a-input lineLength firstLine behindLine endsInFeed modePlace treesPlace modeOf gatherTo walk gather rootingTest searched program digitsTo
+    decimal output ones onesIn
     trailingZeros whole single union has within apart size lowest keep some insert sorted recordOf properly maximal every among rising singlesFrom
-    nested valid validGene binary verdict lengthTest kOf extra total weight score pieces speciesTest countTest firstBad recordsTest shown marks upTo
+    nested valid validGene binary verdict lengthTest kOf extra total weight score pieces speciesTest countTest firstFailing recordsTest shown marks upTo
     least clustersIn isLow lows each forks treesTo treesOn those all scoreOf treesOver leastTrees best allowedIn bestFor answerTo leafBy closingBy
     readTreeToBy readTreeBy readNodeBy nextIs nextLabel blanks skip number numberBehind numbers supported name innerName run bareLetters letters lettersFrom
     doubled rawTo told padded same position inQuotes begins beginnings nameAt names strayAt longAt manyAt againAt openAt faultAt firstFault faulty
@@ -198,7 +255,8 @@ unfolding a-input lineLength firstLine behindLine endsInFeed modePlace treesPlac
 a-output = refl
 
 no-output : output [] ≡ refusedText ++ 49 ∷ atText ++ 48 ∷ 10 ∷ []
-unfolding lineLength firstLine behindLine endsInFeed modePlace treesPlace gatherTo walk gather searched program digitsTo decimal output answerTo leafBy
+unfolding lineLength firstLine behindLine endsInFeed modePlace treesPlace modeOf gatherTo walk gather rootingTest searched program digitsTo decimal
+    output answerTo leafBy
     closingBy readTreeToBy readTreeBy readNodeBy nextIs nextLabel blanks skip number numberBehind numbers supported name innerName run bareLetters letters
     lettersFrom doubled rawTo told padded same position inQuotes begins beginnings nameAt names strayAt longAt manyAt againAt openAt faultAt
     firstFault faulty cluster clusters upTo least keep some
@@ -222,9 +280,9 @@ a-record-handed : AnyRecord a-record
 unfolding a-record recordOf sorted insert every
 a-record-handed = record { numbers = slice-told (2 ^ 16) a-record refl (omega arith); thirty-two = refl }
 
-ab-c-handed : AnyRecord ab-c
-unfolding ab-c recordOf sorted insert every
-ab-c-handed = record { numbers = slice-told (2 ^ 16) ab-c refl (omega arith); thirty-two = refl }
+ab-cd-handed : AnyRecord ab-cd
+unfolding ab-cd recordOf sorted insert every
+ab-cd-handed = record { numbers = slice-told (2 ^ 16) ab-cd refl (omega arith); thirty-two = refl }
 
 to-read-a-of-two : ToRead ab-line a-text 0
 unfolding ab-line every
@@ -248,19 +306,19 @@ room-handed = slice-told (2 ^ 8) room refl (omega arith)
 to-write-a : ToWrite a-line a-record room
 to-write-a = record { line-bytes = a-line-handed; tree-record = a-record-handed; out-bytes = room-handed }
 
-alike-handed : GeneTrees 3 (ab-c ++ ab-c) 2
-unfolding ab-c recordOf sorted insert every
+alike-handed : GeneTrees 4 (ab-cd ++ ab-cd) 2
+unfolding ab-cd recordOf sorted insert every
 alike-handed = record {
   species-size = omega arith;
-  genes-numbers = slice-told (2 ^ 16) (ab-c ++ ab-c) refl (omega arith);
+  genes-numbers = slice-told (2 ^ 16) (ab-cd ++ ab-cd) refl (omega arith);
   count-size = omega arith;
 }
 
-unlike-handed : GeneTrees 3 (ab-c ++ ac-b) 2
-unfolding ab-c ac-b recordOf sorted insert every
+unlike-handed : GeneTrees 4 (ab-cd ++ ac-bd) 2
+unfolding ab-cd ac-bd recordOf sorted insert every
 unlike-handed = record {
   species-size = omega arith;
-  genes-numbers = slice-told (2 ^ 16) (ab-c ++ ac-b) refl (omega arith);
+  genes-numbers = slice-told (2 ^ 16) (ab-cd ++ ac-bd) refl (omega arith);
   count-size = omega arith;
 }
 
@@ -270,25 +328,26 @@ to-mark-one = record {
   out-bytes = room-handed;
 }
 
--- a search on three species with every cluster allowed
-to-search : (genes : List ℕ) (count : ℕ) → GeneTrees 3 genes count → ToSearch 3 genes count every-cluster lent lent
-unfolding every-cluster lent every
+-- a search on four species with every cluster allowed
+to-search : (genes : List ℕ) (count : ℕ) → GeneTrees 4 genes count → ToSearch 4 genes count every-of-four lent-of-four lent-of-four
+unfolding every-of-four lent-of-four every
 to-search genes count h = record {
   gene-trees = h;
-  allowed-bytes = slice-told (2 ^ 8) every-cluster refl (omega arith);
-  scores-numbers = slice-told (2 ^ 32) lent refl (omega arith);
-  splits-numbers = slice-told (2 ^ 16) lent refl (omega arith);
+  allowed-bytes = slice-told (2 ^ 8) every-of-four refl (omega arith);
+  scores-numbers = slice-told (2 ^ 32) lent-of-four refl (omega arith);
+  splits-numbers = slice-told (2 ^ 16) lent-of-four refl (omega arith);
 }
 
-to-search-ab-c : ToSearch 3 ab-c 1 every-cluster lent lent
-to-search-ab-c = to-search ab-c 1 (record { species-size = omega arith; genes-numbers = ab-c-handed .numbers; count-size = omega arith })
+to-search-ab-cd : ToSearch 4 ab-cd 1 every-of-four lent-of-four lent-of-four
+to-search-ab-cd = to-search ab-cd 1 (record { species-size = omega arith; genes-numbers = ab-cd-handed .numbers; count-size = omega arith })
 
-to-search-ac-b : ToSearch 3 ac-b 1 every-cluster lent lent
-unfolding ac-b recordOf sorted insert every
-to-search-ac-b = to-search ac-b 1 (record { species-size = omega arith; genes-numbers = slice-told (2 ^ 16) ac-b refl (omega arith); count-size = omega arith })
+to-search-ac-bd : ToSearch 4 ac-bd 1 every-of-four lent-of-four lent-of-four
+unfolding ac-bd recordOf sorted insert every
+to-search-ac-bd =
+    to-search ac-bd 1 (record { species-size = omega arith; genes-numbers = slice-told (2 ^ 16) ac-bd refl (omega arith); count-size = omega arith })
 
-to-search-both : ToSearch 3 (ab-c ++ ac-b) 2 every-cluster lent lent
-to-search-both = to-search (ab-c ++ ac-b) 2 unlike-handed
+to-search-both : ToSearch 4 (ab-cd ++ ac-bd) 2 every-of-four lent-of-four lent-of-four
+to-search-both = to-search (ab-cd ++ ac-bd) 2 unlike-handed
 
 a-input-handed : Bytes a-input
 unfolding a-input every
@@ -354,31 +413,31 @@ module _ (f : List ℕ → List ℕ → List ℕ → Reply) (after : List ℕ �
 
 -- ---- the weight
 
-module _ (f : ℕ → List ℕ → ℕ → ℕ → Reply)
-    (meets : (n : ℕ) (genes : List ℕ) (count a : ℕ) → ToWeigh n genes count a → Weighs n genes count a (f n genes count a)) where
-  to-weigh-alike : ToWeigh 3 (ab-c ++ ab-c) 2 3
+module _ (rooting : Rooting) (f : ℕ → List ℕ → ℕ → ℕ → Reply)
+    (meets : (n : ℕ) (genes : List ℕ) (count a : ℕ) → ToWeigh n genes count a → Weighs rooting n genes count a (f n genes count a)) where
+  to-weigh-alike : ToWeigh 4 (ab-cd ++ ab-cd) 2 3
   to-weigh-alike = record { gene-trees = alike-handed; cluster-size = omega arith }
 
-  to-weigh-unlike : ToWeigh 3 (ab-c ++ ac-b) 2 3
+  to-weigh-unlike : ToWeigh 4 (ab-cd ++ ac-bd) 2 3
   to-weigh-unlike = record { gene-trees = unlike-handed; cluster-size = omega arith }
 
-  weighed-alike : f 3 (ab-c ++ ab-c) 2 3 ≡ record { number = 0; place = 0; value = 0 }
-  weighed-alike = weigh-alike (f 3 (ab-c ++ ab-c) 2 3) (meets 3 (ab-c ++ ab-c) 2 3 to-weigh-alike)
+  weighed-alike : f 4 (ab-cd ++ ab-cd) 2 3 ≡ record { number = 0; place = 0; value = 0 }
+  weighed-alike = weigh-alike rooting (f 4 (ab-cd ++ ab-cd) 2 3) (meets 4 (ab-cd ++ ab-cd) 2 3 to-weigh-alike)
 
-  weighed-unlike : f 3 (ab-c ++ ac-b) 2 3 ≡ record { number = 0; place = 0; value = 1 }
-  weighed-unlike = weigh-unlike (f 3 (ab-c ++ ac-b) 2 3) (meets 3 (ab-c ++ ac-b) 2 3 to-weigh-unlike)
+  weighed-unlike : f 4 (ab-cd ++ ac-bd) 2 3 ≡ record { number = 0; place = 0; value = 1 }
+  weighed-unlike = weigh-unlike rooting (f 4 (ab-cd ++ ac-bd) 2 3) (meets 4 (ab-cd ++ ac-bd) 2 3 to-weigh-unlike)
 
   -- "one that turns everything away"
   pub weight-does-not-refuse-all : ((n : ℕ) (genes : List ℕ) (count a : ℕ) → ToWeigh n genes count a → f n genes count a .number ≡ 0 → ⊥) → ⊥
-  weight-does-not-refuse-all away = away 3 (ab-c ++ ab-c) 2 3 to-weigh-alike (ap (λ (r : Reply). r .number) weighed-alike)
+  weight-does-not-refuse-all away = away 4 (ab-cd ++ ab-cd) 2 3 to-weigh-alike (ap (λ (r : Reply). r .number) weighed-alike)
 
   -- "one that counts the first gene tree and passes over the others (2's sum over all)"
   pub weight-counts-every-gene-tree :
       ((n : ℕ) (genes genes′ : List ℕ) (count a : ℕ) → ToWeigh n genes count a → ToWeigh n genes′ count a → take 32 genes ≡ take 32 genes′
       → f n genes count a .number ≡ 0 → f n genes′ count a .number ≡ 0 → f n genes count a .value ≡ f n genes′ count a .value) → ⊥
-  unfolding ab-c ac-b recordOf sorted insert
+  unfolding ab-cd ac-bd recordOf sorted insert
   weight-counts-every-gene-tree first-only =
-      let e = first-only 3 (ab-c ++ ab-c) (ab-c ++ ac-b) 2 3 to-weigh-alike to-weigh-unlike refl
+      let e = first-only 4 (ab-cd ++ ab-cd) (ab-cd ++ ac-bd) 2 3 to-weigh-alike to-weigh-unlike refl
       (ap (λ (r : Reply). r .number) weighed-alike) (ap (λ (r : Reply). r .number) weighed-unlike) in
       omega (arith, ap (λ (r : Reply). r .value) weighed-alike, ap (λ (r : Reply). r .value) weighed-unlike, e)
 
@@ -386,41 +445,43 @@ module _ (f : ℕ → List ℕ → ℕ → ℕ → Reply)
   pub weight-is-not-invented :
       (w : ℕ) → ((n : ℕ) (genes : List ℕ) (count a : ℕ) → ToWeigh n genes count a → f n genes count a .number ≡ 0 → f n genes count a .value ≡ w) → ⊥
   weight-is-not-invented w always =
-      let e = always 3 (ab-c ++ ab-c) 2 3 to-weigh-alike (ap (λ (r : Reply). r .number) weighed-alike) in
-      let d = always 3 (ab-c ++ ac-b) 2 3 to-weigh-unlike (ap (λ (r : Reply). r .number) weighed-unlike) in
+      let e = always 4 (ab-cd ++ ab-cd) 2 3 to-weigh-alike (ap (λ (r : Reply). r .number) weighed-alike) in
+      let d = always 4 (ab-cd ++ ac-bd) 2 3 to-weigh-unlike (ap (λ (r : Reply). r .number) weighed-unlike) in
       omega (arith, ap (λ (r : Reply). r .value) weighed-alike, ap (λ (r : Reply). r .value) weighed-unlike, e, d)
 
 -- ---- the score
 
 module _
+    (rooting : Rooting)
     (f : ℕ → List ℕ → ℕ → List ℕ → Reply)
-    (meets : (n : ℕ) (genes : List ℕ) (count : ℕ) (species : List ℕ) → ToScore n genes count species → Scores n genes count species (f n genes count species))
+    (meets : (n : ℕ) (genes : List ℕ) (count : ℕ) (species : List ℕ) → ToScore n genes count species
+    → Scores rooting n genes count species (f n genes count species))
   where
-    to-score-alike : ToScore 3 (ab-c ++ ab-c) 2 ab-c
-    to-score-alike = record { gene-trees = alike-handed; species-record = ab-c-handed }
+    to-score-alike : ToScore 4 (ab-cd ++ ab-cd) 2 ab-cd
+    to-score-alike = record { gene-trees = alike-handed; species-record = ab-cd-handed }
 
-    to-score-unlike : ToScore 3 (ab-c ++ ac-b) 2 ab-c
-    to-score-unlike = record { gene-trees = unlike-handed; species-record = ab-c-handed }
+    to-score-unlike : ToScore 4 (ab-cd ++ ac-bd) 2 ab-cd
+    to-score-unlike = record { gene-trees = unlike-handed; species-record = ab-cd-handed }
 
-    scored-alike : f 3 (ab-c ++ ab-c) 2 ab-c ≡ record { number = 0; place = 0; value = 0 }
-    scored-alike = score-alike (f 3 (ab-c ++ ab-c) 2 ab-c) (meets 3 (ab-c ++ ab-c) 2 ab-c to-score-alike)
+    scored-alike : f 4 (ab-cd ++ ab-cd) 2 ab-cd ≡ record { number = 0; place = 0; value = 0 }
+    scored-alike = score-alike rooting (f 4 (ab-cd ++ ab-cd) 2 ab-cd) (meets 4 (ab-cd ++ ab-cd) 2 ab-cd to-score-alike)
 
-    scored-unlike : f 3 (ab-c ++ ac-b) 2 ab-c ≡ record { number = 0; place = 0; value = 1 }
-    scored-unlike = score-unlike (f 3 (ab-c ++ ac-b) 2 ab-c) (meets 3 (ab-c ++ ac-b) 2 ab-c to-score-unlike)
+    scored-unlike : f 4 (ab-cd ++ ac-bd) 2 ab-cd ≡ record { number = 0; place = 0; value = 2 }
+    scored-unlike = score-unlike rooting (f 4 (ab-cd ++ ac-bd) 2 ab-cd) (meets 4 (ab-cd ++ ac-bd) 2 ab-cd to-score-unlike)
 
     -- "one that turns everything away (demand 2 for .. scoring)"
     pub score-does-not-refuse-all :
         ((n : ℕ) (genes : List ℕ) (count : ℕ) (species : List ℕ) → ToScore n genes count species → f n genes count species .number ≡ 0 → ⊥) → ⊥
-    score-does-not-refuse-all away = away 3 (ab-c ++ ab-c) 2 ab-c to-score-alike (ap (λ (r : Reply). r .number) scored-alike)
+    score-does-not-refuse-all away = away 4 (ab-cd ++ ab-cd) 2 ab-cd to-score-alike (ap (λ (r : Reply). r .number) scored-alike)
 
     -- "one that counts the first gene tree and passes over the others (2's sum over all)"
     pub score-counts-every-gene-tree :
         ((n : ℕ) (genes genes′ : List ℕ) (count : ℕ) (species : List ℕ) → ToScore n genes count species → ToScore n genes′ count species
         → take 32 genes ≡ take 32 genes′ → f n genes count species .number ≡ 0 → f n genes′ count species .number ≡ 0
         → f n genes count species .value ≡ f n genes′ count species .value) → ⊥
-    unfolding ab-c ac-b recordOf sorted insert
+    unfolding ab-cd ac-bd recordOf sorted insert
     score-counts-every-gene-tree first-only =
-        let e = first-only 3 (ab-c ++ ab-c) (ab-c ++ ac-b) 2 ab-c to-score-alike to-score-unlike refl
+        let e = first-only 4 (ab-cd ++ ab-cd) (ab-cd ++ ac-bd) 2 ab-cd to-score-alike to-score-unlike refl
         (ap (λ (r : Reply). r .number) scored-alike) (ap (λ (r : Reply). r .number) scored-unlike) in
         omega (arith, ap (λ (r : Reply). r .value) scored-alike, ap (λ (r : Reply). r .value) scored-unlike, e)
 
@@ -430,17 +491,17 @@ module _
         → ((n : ℕ) (genes : List ℕ) (count : ℕ) (species : List ℕ) → ToScore n genes count species → f n genes count species .number ≡ 0
         → f n genes count species .value ≡ c) → ⊥
     score-is-not-invented c always =
-        let e = always 3 (ab-c ++ ab-c) 2 ab-c to-score-alike (ap (λ (r : Reply). r .number) scored-alike) in
-        let d = always 3 (ab-c ++ ac-b) 2 ab-c to-score-unlike (ap (λ (r : Reply). r .number) scored-unlike) in
+        let e = always 4 (ab-cd ++ ab-cd) 2 ab-cd to-score-alike (ap (λ (r : Reply). r .number) scored-alike) in
+        let d = always 4 (ab-cd ++ ac-bd) 2 ab-cd to-score-unlike (ap (λ (r : Reply). r .number) scored-unlike) in
         omega (arith, ap (λ (r : Reply). r .value) scored-alike, ap (λ (r : Reply). r .value) scored-unlike, e, d)
 
 -- ---- marking
 
-module _ (f : ℕ → List ℕ → ℕ → List ℕ → Reply) (after : ℕ → List ℕ → ℕ → List ℕ → List ℕ)
+module _ (rooting : Rooting) (f : ℕ → List ℕ → ℕ → List ℕ → Reply) (after : ℕ → List ℕ → ℕ → List ℕ → List ℕ)
     (meets : (n : ℕ) (genes : List ℕ) (count : ℕ) (out : List ℕ) → ToMark n genes count out
-    → Marks n genes count out (f n genes count out) (after n genes count out)) where
+    → Marks rooting n genes count out (f n genes count out) (after n genes count out)) where
   marked-one : (f 1 a-record 1 room ≡ record { number = 0; place = 0; value = 0 }) × (after 1 a-record 1 room ≡ 0 ∷ 1 ∷ [])
-  marked-one = mark-one (f 1 a-record 1 room) (after 1 a-record 1 room) (meets 1 a-record 1 room to-mark-one)
+  marked-one = mark-one rooting (f 1 a-record 1 room) (after 1 a-record 1 room) (meets 1 a-record 1 room to-mark-one)
 
   -- "one that turns everything away"
   pub mark-does-not-refuse-all :
@@ -454,52 +515,56 @@ module _ (f : ℕ → List ℕ → ℕ → List ℕ → Reply) (after : ℕ → 
 
 -- ---- the search
 
-module _ (f : ℕ → List ℕ → ℕ → List ℕ → List ℕ → List ℕ → Found) (s p : ℕ → List ℕ → ℕ → List ℕ → List ℕ → List ℕ → List ℕ)
+module _ (rooting : Rooting) (f : ℕ → List ℕ → ℕ → List ℕ → List ℕ → List ℕ → Found) (s p : ℕ → List ℕ → ℕ → List ℕ → List ℕ → List ℕ → List ℕ)
     (meets : (n : ℕ) (genes : List ℕ) (count : ℕ) (allowed scores splits : List ℕ) → ToSearch n genes count allowed scores splits
-    → Finds n genes count allowed scores splits (f n genes count allowed scores splits) (s n genes count allowed scores splits) (p n genes count allowed scores splits)) where
-  found-ab-c : f 3 ab-c 1 every-cluster lent lent ≡ record { number = 0; place = 0; score = 0; numbers = ab-c }
-  found-ab-c = find-ab-c _ _ _ (meets 3 ab-c 1 every-cluster lent lent to-search-ab-c)
+    → Finds rooting n genes count allowed scores splits (f n genes count allowed scores splits) (s n genes count allowed scores splits)
+    (p n genes count allowed scores splits)) where
+  found-ab-cd : f 4 ab-cd 1 every-of-four lent-of-four lent-of-four ≡ record { number = 0; place = 0; score = 0; numbers = first-tree rooting }
+  found-ab-cd = find-ab-cd rooting _ _ _ (meets 4 ab-cd 1 every-of-four lent-of-four lent-of-four to-search-ab-cd)
 
-  found-ac-b : f 3 ac-b 1 every-cluster lent lent ≡ record { number = 0; place = 0; score = 0; numbers = ac-b }
-  found-ac-b = find-ac-b _ _ _ (meets 3 ac-b 1 every-cluster lent lent to-search-ac-b)
+  found-ac-bd : f 4 ac-bd 1 every-of-four lent-of-four lent-of-four ≡ record { number = 0; place = 0; score = 0; numbers = second-tree rooting }
+  found-ac-bd = find-ac-bd rooting _ _ _ (meets 4 ac-bd 1 every-of-four lent-of-four lent-of-four to-search-ac-bd)
 
-  found-both : f 3 (ab-c ++ ac-b) 2 every-cluster lent lent ≡ record { number = 0; place = 0; score = 1; numbers = ab-c }
-  found-both = find-both _ _ _ (meets 3 (ab-c ++ ac-b) 2 every-cluster lent lent to-search-both)
+  found-both :
+      f 4 (ab-cd ++ ac-bd) 2 every-of-four lent-of-four lent-of-four
+      ≡ record { number = 0; place = 0; score = score-of-both rooting; numbers = first-tree rooting }
+  found-both = find-both rooting _ _ _ (meets 4 (ab-cd ++ ac-bd) 2 every-of-four lent-of-four lent-of-four to-search-both)
 
   -- "one that turns everything away (.. the exactly-when of 3 for searching)": by 14 or by any number
   pub search-does-not-refuse-all :
       ((n : ℕ) (genes : List ℕ) (count : ℕ) (allowed scores splits : List ℕ) → ToSearch n genes count allowed scores splits
       → f n genes count allowed scores splits .number ≡ 0 → ⊥) → ⊥
-  search-does-not-refuse-all away = away 3 ab-c 1 every-cluster lent lent to-search-ab-c (ap (λ (r : Found). r .number) found-ab-c)
+  search-does-not-refuse-all away = away 4 ab-cd 1 every-of-four lent-of-four lent-of-four to-search-ab-cd (ap (λ (r : Found). r .number) found-ab-cd)
 
   -- "one that returns one fixed tree (3's least score)"
   pub search-has-no-fixed-tree :
       (tree : List ℕ)
       → ((n : ℕ) (genes : List ℕ) (count : ℕ) (allowed scores splits : List ℕ) → ToSearch n genes count allowed scores splits
       → f n genes count allowed scores splits .number ≡ 0 → f n genes count allowed scores splits .numbers ≡ tree) → ⊥
-  unfolding ab-c ac-b recordOf sorted insert
+  unfolding ab-cd ac-bd recordOf sorted insert
   search-has-no-fixed-tree tree fixed =
-      let x = fixed 3 ab-c 1 every-cluster lent lent to-search-ab-c (ap (λ (r : Found). r .number) found-ab-c) in
-      let y = fixed 3 ac-b 1 every-cluster lent lent to-search-ac-b (ap (λ (r : Found). r .number) found-ac-b) in
-      let e : ab-c ≡ ac-b = sym (ap (λ (r : Found). r .numbers) found-ab-c) ∙ x ∙ sym y ∙ ap (λ (r : Found). r .numbers) found-ac-b in
-      omega (arith, ap (λ (l : List ℕ). getD l 3 0) e)
+      let x = fixed 4 ab-cd 1 every-of-four lent-of-four lent-of-four to-search-ab-cd (ap (λ (r : Found). r .number) found-ab-cd) in
+      let y = fixed 4 ac-bd 1 every-of-four lent-of-four lent-of-four to-search-ac-bd (ap (λ (r : Found). r .number) found-ac-bd) in
+      let e : first-tree rooting ≡ second-tree rooting = sym (ap (λ (r : Found). r .numbers) found-ab-cd) ∙ x ∙ sym y
+      ∙ ap (λ (r : Found). r .numbers) found-ac-bd in
+      trees-differ rooting e
 
   -- "one that does nothing (1, which fixes every buffer ..)": it leaves both tables as they were lent
   pub search-fills-the-score-table :
       ((n : ℕ) (genes : List ℕ) (count : ℕ) (allowed scores splits : List ℕ) → ToSearch n genes count allowed scores splits
       → s n genes count allowed scores splits ≡ scores) → ⊥
-  unfolding lent
+  unfolding lent-of-four
   search-fills-the-score-table keeps =
-      let e = find-tables _ _ _ (meets 3 ab-c 1 every-cluster lent lent to-search-ab-c) .0 in
-      omega (arith, ap (λ (l : List ℕ). getD l 0 0) (sym e ∙ keeps 3 ab-c 1 every-cluster lent lent to-search-ab-c))
+      let e = find-tables rooting _ _ _ (meets 4 ab-cd 1 every-of-four lent-of-four lent-of-four to-search-ab-cd) .0 in
+      omega (arith, e, ap (λ (l : List ℕ). getD l 0 0) (keeps 4 ab-cd 1 every-of-four lent-of-four lent-of-four to-search-ab-cd))
 
   pub search-fills-the-split-table :
       ((n : ℕ) (genes : List ℕ) (count : ℕ) (allowed scores splits : List ℕ) → ToSearch n genes count allowed scores splits
       → p n genes count allowed scores splits ≡ splits) → ⊥
-  unfolding lent
+  unfolding lent-of-four
   search-fills-the-split-table keeps =
-      let e = find-tables _ _ _ (meets 3 ab-c 1 every-cluster lent lent to-search-ab-c) .1 in
-      omega (arith, ap (λ (l : List ℕ). getD l 0 0) (sym e ∙ keeps 3 ab-c 1 every-cluster lent lent to-search-ab-c))
+      let e = find-tables rooting _ _ _ (meets 4 ab-cd 1 every-of-four lent-of-four lent-of-four to-search-ab-cd) .1 in
+      omega (arith, e, ap (λ (l : List ℕ). getD l 0 0) (keeps 4 ab-cd 1 every-of-four lent-of-four lent-of-four to-search-ab-cd))
 
   -- "one that does nothing (.. 3's least score)", "one that reports an invented score": the same for all
   pub search-has-no-invented-score :
@@ -507,9 +572,9 @@ module _ (f : ℕ → List ℕ → ℕ → List ℕ → List ℕ → List ℕ �
       → ((n : ℕ) (genes : List ℕ) (count : ℕ) (allowed scores splits : List ℕ) → ToSearch n genes count allowed scores splits
       → f n genes count allowed scores splits .number ≡ 0 → f n genes count allowed scores splits .score ≡ c) → ⊥
   search-has-no-invented-score c always =
-      let e = always 3 ab-c 1 every-cluster lent lent to-search-ab-c (ap (λ (r : Found). r .number) found-ab-c) in
-      let d = always 3 (ab-c ++ ac-b) 2 every-cluster lent lent to-search-both (ap (λ (r : Found). r .number) found-both) in
-      omega (arith, ap (λ (r : Found). r .score) found-ab-c, ap (λ (r : Found). r .score) found-both, e, d)
+      let e = always 4 ab-cd 1 every-of-four lent-of-four lent-of-four to-search-ab-cd (ap (λ (r : Found). r .number) found-ab-cd) in
+      let d = always 4 (ab-cd ++ ac-bd) 2 every-of-four lent-of-four lent-of-four to-search-both (ap (λ (r : Found). r .number) found-both) in
+      omega (arith, both-score-something rooting, ap (λ (r : Found). r .score) found-ab-cd, ap (λ (r : Found). r .score) found-both, e, d)
 
   -- "one that counts the first gene tree and passes over the others"
   pub search-counts-every-gene-tree :
@@ -517,11 +582,11 @@ module _ (f : ℕ → List ℕ → ℕ → List ℕ → List ℕ → List ℕ �
       → ToSearch n genes count allowed scores splits → ToSearch n genes′ count′ allowed scores splits → take 32 genes ≡ take 32 genes′
       → f n genes count allowed scores splits .number ≡ 0 → f n genes′ count′ allowed scores splits .number ≡ 0
       → f n genes count allowed scores splits .score ≡ f n genes′ count′ allowed scores splits .score) → ⊥
-  unfolding ab-c ac-b recordOf sorted insert
+  unfolding ab-cd ac-bd recordOf sorted insert
   search-counts-every-gene-tree first-only =
-      let e = first-only 3 ab-c (ab-c ++ ac-b) 1 2 every-cluster lent lent to-search-ab-c to-search-both refl
-      (ap (λ (r : Found). r .number) found-ab-c) (ap (λ (r : Found). r .number) found-both) in
-      omega (arith, ap (λ (r : Found). r .score) found-ab-c, ap (λ (r : Found). r .score) found-both, e)
+      let e = first-only 4 ab-cd (ab-cd ++ ac-bd) 1 2 every-of-four lent-of-four lent-of-four to-search-ab-cd to-search-both refl
+      (ap (λ (r : Found). r .number) found-ab-cd) (ap (λ (r : Found). r .number) found-both) in
+      omega (arith, both-score-something rooting, ap (λ (r : Found). r .score) found-ab-cd, ap (λ (r : Found). r .score) found-both, e)
 
 -- ---- the program
 

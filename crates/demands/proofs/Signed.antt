@@ -1,8 +1,7 @@
 -- What the clerk signs: "I must be able to say that the tree in it is the right one".
 use Prim.Native.Nat.{ℕ, _≤_}
 use mathlib.Core.Path.{_≡_, refl, sym, ap, _∙_, subst}
-use mathlib.Core.Logic.{_⊎_, inl, inr}
-use mathlib.Core.Bool.{Bool, true, false}
+use mathlib.Core.Bool.{Bool, false}
 use mathlib.Core.List.{List, _∷_, _++_, append-assoc}
 use native.Mathlib.Omega.{arith}
 use lib.ListN.{length, getD, take, drop, length-map}
@@ -21,13 +20,16 @@ use Rattle.reader.specs.declared.Kind.the-variants.{Species, Gene}
 use Rattle.reader.specs.declared.Reading.{Reading}
 use Rattle.texts.specs.Writing.{written}
 use Rattle.writer.proofs.RoundTrip.{reads-back}
+use Rattle.weights.specs.declared.Rooting.{Rooting}
 use Rattle.weights.specs.Count.{weight}
+use Rattle.lineages.specs.Checks.{rootingTest}
+use Rattle.lineages.proofs.FirstBad.{none-unresolved}
 use Rattle.splits.specs.BinaryTrees.{clustersIn}
 use Rattle.splits.specs.Least.{scoreOf}
 use Rattle.search.specs.Candidates.{Candidate}
 use Rattle.search.proofs.Demand.{found-answers}
 use Rattle.printing.specs.Words.{taxaText, genesText, scoreText, newline, decimal}
-use Rattle.report.specs.Input.{firstLine, behindLine, treesPlace, allWord, genesWord}
+use Rattle.report.specs.Input.{firstLine, behindLine, treesPlace}
 use Rattle.report.specs.Program.{program}
 use Rattle.outcomes.specs.Outcome.{Outcome, allowedBy, printed}
 use Rattle.outcomes.specs.Outcome.Outcome.{refused, solved}
@@ -36,36 +38,30 @@ use Rattle.report.proofs.Outcomes.{reported-text}
 use Rattle.demands.specs.GeneTrees.{RecordsOf}
 use Rattle.demands.specs.Input.{Holds}
 use Rattle.demands.specs.Signed.{Eligible, Signed}
-use Rattle.demands.proofs.GeneTrees.{score-drawn}
+use Rattle.demands.proofs.GeneTrees.{trees-enter, score-drawn}
 use Rattle.demands.proofs.Gathering.{GatheredFrom, gathered-from}
 use Rattle.demands.proofs.TwoLines.{feed-splits, trees-behind}
-use Rattle.demands.proofs.Allowing.{modeWord, byte-allows, allows-byte}
+use Rattle.demands.proofs.Allowing.{byte-allows, allows-byte}
 use Rattle.demands.proofs.Solved.{Best, searched-best, speciesIn, Reached, program-reached}
 use Rattle.demands.proofs.Solved.Late.{a-tree}
 
 -- ---- the trees that compete
 
-module _ {n : ℕ} {genes : List (List ℕ)} {trees : List Tree} (all : Bool) (r : RecordsOf n genes trees) (c : List ℕ) where
+module _ {n : ℕ} {genes : List (List ℕ)} {trees : List Tree} (all : Bool) (rooting : Rooting) (r : RecordsOf n genes trees) (c : List ℕ) where
   -- what is eligible competes in the search, and the other way round
-  pub eligible-competes : Eligible n (modeWord all) trees c → Candidate n (allowedBy all n genes) c
+  pub eligible-competes : Eligible n all rooting trees c → Candidate n (allowedBy all rooting n genes) c
   eligible-competes e = record {
     valid = e .valid;
     binary = e .binary;
-    over = λ a m. allows-byte r a (below-of-within n (e .valid .inside a m .1)) all (e .allowed a m);
+    over = λ a m. allows-byte rooting r a (below-of-within n (e .valid .inside a m .1)) all (e .allowed a m);
   }
 
-  pub competitor-eligible : Candidate n (allowedBy all n genes) c → Eligible n (modeWord all) trees c
+  pub competitor-eligible : Candidate n (allowedBy all rooting n genes) c → Eligible n all rooting trees c
   competitor-eligible k = record {
     valid = k .valid;
     binary = k .binary;
-    allowed = λ a m. byte-allows r a (below-of-within n (k .valid .inside a m .1)) all (k .over a m);
+    allowed = λ a m. byte-allows rooting r a (below-of-within n (k .valid .inside a m .1)) all (k .over a m);
   }
-
--- ---- the input
-
-mode-word : (all : Bool) → (modeWord all ≡ allWord) ⊎ (modeWord all ≡ genesWord)
-mode-word true = inl refl
-mode-word false = inr refl
 
 -- ---- the tree's text
 
@@ -107,7 +103,11 @@ module _ (input : List ℕ) {o : Outcome} (v : Reached input o) where
   as-many : length (v .genes) ≡ length (gathered-trees .trees)
   as-many = ap length (gathered-trees .records .records) ∙ length-map (gathered-trees .trees) (λ (t : Tree). recordOf (clusters t))
 
-  pub input-holds : Holds input (firstLine input) (modeWord (v .all)) (gathered-trees .trees)
+  few : speciesIn input ≤ 16
+  few = let k = v .few in omega arith
+
+  pub input-holds : Holds input (firstLine input) (v .all) (v .rooting) (gathered-trees .trees)
+  unfolding rootingTest
   input-holds = record {
     text = drop (treesPlace input) input;
     parts =
@@ -116,36 +116,47 @@ module _ (input : List ℕ) {o : Outcome} (v : Reached input o) where
     short = v .short;
     roster-good = v .good;
     few-species = v .few;
-    mode-word = mode-word (v .all);
     stand = gathered-trees .stand;
     some-trees = let h = v .some-genes in omega (arith, as-many);
     few-trees = let h = gathered-trees .few in omega (arith, as-many);
+    enter = λ u. trees-enter few (gathered-trees .records) .0 (none-unresolved (v .rooting) (speciesIn input) (v .genes) (v .resolved) u);
   }
 
 -- for an input that the program solves
 pub signed : (input : List ℕ) (n m s : ℕ) (r : List ℕ) → program input ≡ solved n m s r → Signed input n m s r
-signed input n m s r e = let v = program-reached input a-tree e in go v (searched-best (speciesIn input) (v .genes) (allowedBy (v .all) (speciesIn input) (v .genes)) (v .result))
+signed input n m s r e =
+    let v = program-reached input a-tree e in go v
+    (searched-best (v .rooting) (speciesIn input) (v .genes) (allowedBy (v .all) (v .rooting) (speciesIn input) (v .genes)) (v .result))
   where
-    go : (v : Reached input (solved n m s r)) → Best (speciesIn input) (v .genes) (allowedBy (v .all) (speciesIn input) (v .genes)) n m s r → Signed input n m s r
+    go :
+        (v : Reached input (solved n m s r))
+        → Best (v .rooting) (speciesIn input) (v .genes) (allowedBy (v .all) (v .rooting) (speciesIn input) (v .genes)) n m s r → Signed input n m s r
     go v b =
         let g = gathered-trees input v in
         let k = v .few in
-        let a = found-answers (speciesIn input) (v .genes) (allowedBy (v .all) (speciesIn input) (v .genes)) (omega arith) (b .tree) (b .is-best) in
-        let told : program input ≡ solved (speciesIn input) (length (v .genes)) (scoreOf (weight (v .genes)) (b .tree)) (recordOf (clustersIn (b .tree))) =
+        let a = found-answers (v .rooting) (speciesIn input) (v .genes) (allowedBy (v .all) (v .rooting) (speciesIn input) (v .genes)) (omega arith)
+        (b .tree) (b .is-best) in
+        let told : program input
+        ≡ solved (speciesIn input) (length (v .genes)) (scoreOf (weight (v .rooting) (v .genes)) (b .tree)) (recordOf (clustersIn (b .tree))) =
         cc (e, b .species, b .count, b .scored, b .recorded)
         in
         rw (← b .species, ← b .count, ← b .scored, ← b .recorded) (record {
           line = firstLine input;
-          mode = modeWord (v .all);
+          all = v .all;
+          rooting = v .rooting;
           trees = g .trees;
           holds = input-holds input v;
           species = refl;
           count = as-many input v;
-          eligible = competitor-eligible (v .all) (g .records) (recordOf (clustersIn (b .tree))) (a .competes);
-          counted = sym (score-drawn (g .records) (recordOf (clustersIn (b .tree)))) ∙ a .counted;
-          least = λ c h. subst (λ (x : ℕ). scoreOf (weight (v .genes)) (b .tree) ≤ x) (score-drawn (g .records) c) (a .least c (eligible-competes (v .all) (g .records) c h));
+          eligible = competitor-eligible (v .all) (v .rooting) (g .records) (recordOf (clustersIn (b .tree))) (a .competes);
+          counted = sym (score-drawn (g .records) (v .rooting) (recordOf (clustersIn (b .tree)))) ∙ a .counted;
+          least =
+              λ c h. subst (λ (x : ℕ). scoreOf (weight (v .rooting) (v .genes)) (b .tree) ≤ x) (score-drawn (g .records) (v .rooting) c)
+              (a .least c (eligible-competes (v .all) (v .rooting) (g .records) c h));
           reads-back = λ kind q. species-reads-back (firstLine input) (v .good) (a .competes .valid) kind;
-          lines = three-lines input (speciesIn input) (length (v .genes)) (scoreOf (weight (v .genes)) (b .tree)) (recordOf (clustersIn (b .tree))) told;
+          lines =
+              three-lines input (speciesIn input) (length (v .genes)) (scoreOf (weight (v .rooting) (v .genes)) (b .tree))
+              (recordOf (clustersIn (b .tree))) told;
         })
 
 -- ---- what is printed

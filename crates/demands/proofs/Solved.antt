@@ -10,22 +10,25 @@ use lib.Dec.{leb}
 use borrow.Author.Tests.{leb-true}
 use Rattle.clusters.specs.Sets.{whole}
 use Rattle.trees.specs.Records.{recordOf}
-use Rattle.roster.specs.Roster.{names, faulty, same}
+use Rattle.roster.specs.Roster.{names, faulty}
 use Rattle.roster.specs.Judged.{speciesMost}
-use Rattle.roster.proofs.Positions.{same-is}
+use Rattle.weights.specs.declared.Rooting.{Rooting}
 use Rattle.weights.specs.Count.{weight}
+use Rattle.lineages.specs.Checks.{rootingTest}
 use Rattle.splits.specs.BinaryTrees.{Binary, clustersIn}
 use Rattle.splits.specs.Least.{scoreOf}
 use Rattle.solver.specs.Best.{bestFor, foundBy}
 use Rattle.reader.specs.Promise.{textMost}
 use Rattle.gather.specs.GeneTrees.{Gathered, gather}
 use Rattle.gather.specs.GeneTrees.Gathered.{gathered, stopped}
-use Rattle.report.specs.Input.{firstLine, behindLine, endsInFeed, treesPlace, allWord, genesWord}
-use Rattle.report.specs.Program.{onMode, onFeeds, onSpecies, onRoster, onText, program}
-use Rattle.outcomes.specs.Outcome.{Outcome, programMost, outcomeOf, searched, allowedBy, withGenes, onTrees}
+use Rattle.report.specs.Input.{firstLine, behindLine, endsInFeed, treesPlace, modeWord}
+use Rattle.report.specs.declared.modes.Mode.{Mode}
+use Rattle.report.specs.declared.modes.Mode.the-variants.{Another, Over}
+use Rattle.report.specs.Program.{modeOf, onMode, onFeeds, onSpecies, onRoster, onText, program}
+use Rattle.outcomes.specs.Outcome.{Outcome, programMost, outcomeOf, searched, allowedBy, treePlace, onRooting, withGenes, onTrees}
 use Rattle.outcomes.specs.Outcome.Outcome.{refused, solved}
 use Rattle.demands.proofs.TreesFaults.{stopped-early}
-use Rattle.demands.proofs.Allowing.{modeWord}
+use Rattle.demands.proofs.TwoLines.{ModeTold, mode-told}
 
 pub refused-solved : {number place n m s : ℕ} {r : List ℕ} → refused number place ≡ solved n m s r → ⊥
 refused-solved e = let z : _≡_ {A = ℕ} 0 1 = cc in omega arith
@@ -33,35 +36,37 @@ refused-solved e = let z : _≡_ {A = ℕ} 0 1 = cc in omega arith
 -- ---- the search
 
 -- the best tree on n species for these gene trees, and what is said of it
-pub record Best (n : ℕ) (genes : List (List ℕ)) (allowed : List ℕ) (n′ m s : ℕ) (r : List ℕ) : Type 0 where
+pub record Best (rooting : Rooting) (n : ℕ) (genes : List (List ℕ)) (allowed : List ℕ) (n′ m s : ℕ) (r : List ℕ) : Type 0 where
   pub tree : Binary
-  pub is-best : bestFor n genes allowed (whole n) ≡ some tree
+  pub is-best : bestFor rooting n genes allowed (whole n) ≡ some tree
   pub species : n ≡ n′
   pub count : length genes ≡ m
-  pub scored : scoreOf (weight genes) tree ≡ s
+  pub scored : scoreOf (weight rooting genes) tree ≡ s
   pub recorded : recordOf (clustersIn tree) ≡ r
 
 pub searched-best :
-    (n : ℕ) (genes : List (List ℕ)) (allowed : List ℕ) {n′ m s : ℕ} {r : List ℕ} → searched n genes allowed ≡ solved n′ m s r
-    → Best n genes allowed n′ m s r
+    (rooting : Rooting) (n : ℕ) (genes : List (List ℕ)) (allowed : List ℕ) {n′ m s : ℕ} {r : List ℕ} → searched rooting n genes allowed ≡ solved n′ m s r
+    → Best rooting n genes allowed n′ m s r
 unfolding searched
-searched-best n genes allowed {n′} {m} {s} {r} e = go (bestFor n genes allowed (whole n)) refl e
+searched-best rooting n genes allowed {n′} {m} {s} {r} e = go (bestFor rooting n genes allowed (whole n)) refl e
   where
     go :
-        (o : Option Binary) → bestFor n genes allowed (whole n) ≡ o
-        → outcomeOf (foundBy o genes .number) n (length genes) (foundBy o genes) ≡ solved n′ m s r
-        → Best n genes allowed n′ m s r
+        (o : Option Binary) → bestFor rooting n genes allowed (whole n) ≡ o
+        → outcomeOf (foundBy rooting o genes .number) n (length genes) (foundBy rooting o genes) ≡ solved n′ m s r
+        → Best rooting n genes allowed n′ m s r
     go none b e = absurd (refused-solved e)
     go (some t) b e = record { tree = t; is-best = b; species = cc; count = cc; scored = cc; recorded = cc }
 
 pub searched-none :
-    (n : ℕ) (genes : List (List ℕ)) (allowed : List ℕ) {number place : ℕ} → searched n genes allowed ≡ refused number place
-    → bestFor n genes allowed (whole n) ≡ none
+    (rooting : Rooting) (n : ℕ) (genes : List (List ℕ)) (allowed : List ℕ) {number place : ℕ} → searched rooting n genes allowed ≡ refused number place
+    → bestFor rooting n genes allowed (whole n) ≡ none
 unfolding searched
-searched-none n genes allowed {number} {place} e = go (bestFor n genes allowed (whole n)) refl e
+searched-none rooting n genes allowed {number} {place} e = go (bestFor rooting n genes allowed (whole n)) refl e
   where
-    go : (o : Option Binary) → bestFor n genes allowed (whole n) ≡ o → outcomeOf (foundBy o genes .number) n (length genes) (foundBy o genes) ≡ refused number place
-        → bestFor n genes allowed (whole n) ≡ none
+    go :
+        (o : Option Binary) → bestFor rooting n genes allowed (whole n) ≡ o
+        → outcomeOf (foundBy rooting o genes .number) n (length genes) (foundBy rooting o genes) ≡ refused number place
+        → bestFor rooting n genes allowed (whole n) ≡ none
     go none b e = b
     go (some t) b e = absurd (refused-solved (sym e))
 
@@ -88,45 +93,55 @@ pub record Reached (input : List ℕ) (o : Outcome) : Type 0 where
   pub first-feed : endsInFeed input ≡ true
   pub second-feed : endsInFeed (behindLine input) ≡ true
   pub all : Bool
-  pub mode : firstLine (behindLine input) ≡ modeWord all
+  pub rooting : Rooting
+  pub mode : firstLine (behindLine input) ≡ modeWord all rooting
   pub genes : List (List ℕ)
   pub gathers : gather (firstLine input) (drop (treesPlace input) input) ≡ gathered genes
   pub some-genes : 1 ≤ length genes
-  pub result : searched (speciesIn input) genes (allowedBy all (speciesIn input) genes) ≡ o
+  pub resolved : rootingTest rooting (speciesIn input) genes .fault ≡ false
+  pub result : searched rooting (speciesIn input) genes (allowedBy all rooting (speciesIn input) genes) ≡ o
 
 module _ (input : List ℕ) {o : Outcome} (late : Late o) (short : length input ≤ textMost) (good : faulty speciesMost (firstLine input) ≡ false)
     (few : speciesIn input ≤ programMost) (first : endsInFeed input ≡ true) (second : endsInFeed (behindLine input) ≡ true) where
   from-genes :
-      (all : Bool) (genes : List (List ℕ)) → firstLine (behindLine input) ≡ modeWord all
-      → gather (firstLine input) (drop (treesPlace input) input) ≡ gathered genes → withGenes genes all (speciesIn input) ≡ o → Reached input o
-  from-genes all [] mode g e = absurd (early late (λ k. omega arith) e)
-  from-genes all (x ∷ genes) mode g e = record {
-    short = short;
-    good = good;
-    few = few;
-    first-feed = first;
-    second-feed = second;
-    all = all;
-    mode = mode;
-    genes = x ∷ genes;
-    gathers = g;
-    some-genes = omega arith;
-    result = e;
-  }
+      (all : Bool) (rooting : Rooting) (genes : List (List ℕ)) (at : ℕ → ℕ) → firstLine (behindLine input) ≡ modeWord all rooting
+      → gather (firstLine input) (drop (treesPlace input) input) ≡ gathered genes → withGenes genes at all rooting (speciesIn input) ≡ o → Reached input o
+  from-genes all rooting [] at mode g e = absurd (early late (λ k. omega arith) e)
+  from-genes all rooting (x ∷ genes) at mode g e = go (rootingTest rooting (speciesIn input) (x ∷ genes) .fault) refl e
+    where
+      go :
+          (b : Bool) → rootingTest rooting (speciesIn input) (x ∷ genes) .fault ≡ b
+          → onRooting b (at (rootingTest rooting (speciesIn input) (x ∷ genes) .place))
+          (searched rooting (speciesIn input) (x ∷ genes) (allowedBy all rooting (speciesIn input) (x ∷ genes)))
+          ≡ o → Reached input o
+      go true is e = absurd (early late (λ k. omega arith) e)
+      go false is e = record {
+        short = short;
+        good = good;
+        few = few;
+        first-feed = first;
+        second-feed = second;
+        all = all;
+        rooting = rooting;
+        mode = mode;
+        genes = x ∷ genes;
+        gathers = g;
+        some-genes = omega arith;
+        resolved = is;
+        result = e;
+      }
 
   from-trees :
-      (all : Bool) (g : Gathered) → firstLine (behindLine input) ≡ modeWord all → gather (firstLine input) (drop (treesPlace input) input) ≡ g
-      → onTrees g (treesPlace input) all (speciesIn input) ≡ o → Reached input o
-  from-trees all (stopped number place) mode g e = absurd (early late (stopped-early (firstLine input) (drop (treesPlace input) input) g) e)
-  from-trees all (gathered genes) mode g e = from-genes all genes mode g e
+      (all : Bool) (rooting : Rooting) (g : Gathered) → firstLine (behindLine input) ≡ modeWord all rooting
+      → gather (firstLine input) (drop (treesPlace input) input) ≡ g
+      → onTrees g (firstLine input) (drop (treesPlace input) input) (treesPlace input) all rooting (speciesIn input) ≡ o → Reached input o
+  from-trees all rooting (stopped number place) mode g e = absurd (early late (stopped-early (firstLine input) (drop (treesPlace input) input) g) e)
+  from-trees all rooting (gathered genes) mode g e =
+      from-genes all rooting genes (treePlace (firstLine input) (drop (treesPlace input) input) (treesPlace input)) mode g e
 
-  from-mode :
-      (a b : Bool) → same (firstLine (behindLine input)) allWord ≡ a → same (firstLine (behindLine input)) genesWord ≡ b
-      → onMode a b input ≡ o → Reached input o
-  from-mode false false p q e = absurd (early late (λ k. omega arith) e)
-  from-mode false true p q e =
-      from-trees false (gather (firstLine input) (drop (treesPlace input) input)) (same-is (firstLine (behindLine input)) genesWord q) refl e
-  from-mode true b p q e = from-trees true (gather (firstLine input) (drop (treesPlace input) input)) (same-is (firstLine (behindLine input)) allWord p) refl e
+  from-mode : (mode : Mode) → ModeTold (firstLine (behindLine input)) mode → onMode mode input ≡ o → Reached input o
+  from-mode Another told e = absurd (early late (λ k. omega arith) e)
+  from-mode (Over all rooting) told e = from-trees all rooting (gather (firstLine input) (drop (treesPlace input) input)) told refl e
 
 pub program-reached : (input : List ℕ) {o : Outcome} → Late o → program input ≡ o → Reached input o
 unfolding program
@@ -138,7 +153,7 @@ program-reached input {o} late = text (leb (length input) textMost) refl
     feeds false b p q short good few e = absurd (early late (λ k. omega arith) e)
     feeds true false p q short good few e = absurd (early late (λ k. omega arith) e)
     feeds true true p q short good few e =
-        from-mode input late short good few p q (same (firstLine (behindLine input)) allWord) (same (firstLine (behindLine input)) genesWord) refl refl e
+        from-mode input late short good few p q (modeOf (firstLine (behindLine input))) (mode-told (firstLine (behindLine input))) e
 
     few-species :
         (b : Bool) → leb (speciesIn input) programMost ≡ b → length input ≤ textMost → faulty speciesMost (firstLine input) ≡ false

@@ -9,9 +9,11 @@ use lib.ListN.{length, getD}
 use lib.Dec.{leb, ltb}
 use borrow.Author.Tests.{leb-true, leb-false, le-leb, lt-leb, ltb-true, ltb-false, lt-ltb, le-ltb, not-true, not-false}
 use Rattle.clusters.specs.Sets.{whole}
-use Rattle.trees.specs.Records.{SpeciesValid, GeneValid, BinaryOn}
+use Rattle.trees.specs.Records.{SpeciesValid, GeneValid, AllValid, BinaryOn}
+use Rattle.trees.specs.Unrooted.{mayUnroot}
 use Rattle.trees.specs.Valid.{valid, validGene, binary}
-use Rattle.trees.proofs.Booleans.{unless, never-both}
+use Rattle.trees.proofs.Booleans.{unless, both, never-both}
+use Rattle.trees.proofs.Places.{at-among}
 use Rattle.trees.proofs.Bounds.{whole-below-sixteen}
 use Rattle.trees.proofs.ValidTest.{Tells, denied, valid-decides, binary-decides}
 use Rattle.trees.proofs.GeneRecords.{gene-decides}
@@ -21,20 +23,24 @@ use Rattle.roster.specs.Verdict.{lengthTest}
 use Rattle.roster.proofs.Least.{least-is, least-first}
 use Rattle.roster.proofs.Faults.{first-fault, fault-within}
 use Rattle.writer.specs.Promise.{rosterTest, recordTest}
-use Rattle.lineages.specs.Checks.{speciesTest, countTest, speciesRecordTest, firstBad, recordsTest, clusterTest}
-use Rattle.lineages.proofs.FirstBad.{first-bad-means, first-bad-is}
+use Rattle.weights.specs.declared.Rooting.{Rooting}
+use Rattle.weights.specs.declared.Rooting.the-variants.{Rooted, Unrooted}
+use Rattle.lineages.specs.Checks.{speciesTest, countTest, speciesRecordTest, firstBad, recordsTest, firstUnresolved, isUnrooted, rootingTest, clusterTest}
+use Rattle.lineages.proofs.FirstBad.{failing-means, failing-is, none-bad}
 use Rattle.search.specs.Promise.{firstStrange, allowedTest}
-use Rattle.demands.specs.CallFaults.{RosterFault, SpeciesFault, CountFault, LengthFault, SpeciesRecordFault, RecordsFault, RecordFault, ClusterFault, AllowedFault}
+use Rattle.demands.specs.CallFaults.{RosterFault, SpeciesFault, CountFault, LengthFault, SpeciesRecordFault, RecordsFault, RootingFault, RecordFault, ClusterFault, AllowedFault}
 use Rattle.demands.specs.CallFaults.RosterFault.{roster-faulty}
 use Rattle.demands.specs.CallFaults.SpeciesFault.{not-1-to-16}
 use Rattle.demands.specs.CallFaults.CountFault.{none-or-many}
 use Rattle.demands.specs.CallFaults.LengthFault.{too-short}
 use Rattle.demands.specs.CallFaults.SpeciesRecordFault.{not-valid-or-binary}
 use Rattle.demands.specs.CallFaults.RecordsFault.{first-not-valid}
+use Rattle.demands.specs.CallFaults.RootingFault.{first-unresolved-or-incomplete}
 use Rattle.demands.specs.CallFaults.RecordFault.{not-valid}
 use Rattle.demands.specs.CallFaults.ClusterFault.{no-cluster}
 use Rattle.demands.specs.CallFaults.AllowedFault.{first-not-0-or-1}
 use Rattle.demands.proofs.FirstFaults.{Meets}
+use Rattle.demands.proofs.GeneTrees.{may-enter-exactly}
 
 -- ---- two tests of which one fails
 
@@ -96,7 +102,7 @@ cluster-met n a = record {
     only (no-cluster d) =
         (one-off (leb 1 a) (ltb a (2 ^ n)) (⊎-elim (λ z. inl (lt-leb 1 a (omega arith))) (λ h. inr (le-ltb a (2 ^ n) h)) d), refl, refl)
 
--- ---- 16 and 15: records
+-- ---- 16, 15 and 19: records
 
 -- "16 | species record not valid or not binary | 0"
 pub species-record-met : (n : ℕ) (species : List ℕ) → n ≤ 16 → Meets (speciesRecordTest n species) (SpeciesRecordFault n species)
@@ -143,6 +149,11 @@ record-met line tree few =
     only : {k p : ℕ} → RecordFault line tree k p → (not (validGene (length (names line)) tree) ≡ true) × (k ≡ 15) × (p ≡ 0)
     only (not-valid f) = (ap not (unless (validGene (length (names line)) tree) (λ v. f (is-valid .holds v))), refl, refl)
 
+-- the test of the rooting tells which it is
+pub is-unrooted : (rooting : Rooting) → isUnrooted rooting ≡ true → rooting ≡ Unrooted
+is-unrooted Rooted e = absurd (true≢false (sym e))
+is-unrooted Unrooted e = refl
+
 module _ (n : ℕ) (few : n ≤ 16) where
   is-valid : (g : List ℕ) → Tells (validGene n g) (GeneValid n g)
   is-valid g = gene-decides g few
@@ -154,7 +165,7 @@ module _ (n : ℕ) (few : n ≤ 16) where
     numbered = λ z. omega arith;
     found = λ e.
         let l = ltb-true (firstBad n genes) (length genes) e in
-        let h = first-bad-means n genes in
+        let h = failing-means (λ g. validGene n g) genes in
         first-not-valid l (denied (is-valid (getD genes (firstBad n genes) [])) (h .0 l)) (λ j m. is-valid (getD genes j []) .holds (h .1 j m));
     only = only;
   }
@@ -162,10 +173,44 @@ module _ (n : ℕ) (few : n ≤ 16) where
       only : {k p : ℕ} → RecordsFault n genes k p → (ltb (firstBad n genes) (length genes) ≡ true) × (k ≡ 15) × (p ≡ firstBad n genes)
       only (first-not-valid {i} l bad good) =
           let e =
-          first-bad-is n genes i (omega arith) (λ m. unless (validGene n (getD genes i [])) (λ v. bad (is-valid (getD genes i []) .holds v)))
+          failing-is (λ g. validGene n g) genes i (omega arith) (λ m. unless (validGene n (getD genes i [])) (λ v. bad (is-valid (getD genes i []) .holds v)))
           (λ j m. is-valid (getD genes j []) .told (good j m))
           in
           (lt-ltb (firstBad n genes) (length genes) (omega arith), refl, sym e)
+
+  -- where that fault does not stand, all records are valid
+  pub records-passed : (genes : List (List ℕ)) → recordsTest n genes .fault ≡ false → AllValid n genes
+  unfolding recordsTest
+  records-passed genes e = none-bad n genes few (ltb-false (firstBad n genes) (length genes) e)
+
+  -- "19 for an unresolved or incomplete tree, place the first one's index" (#106)
+  pub rooting-met : (rooting : Rooting) (genes : List (List ℕ)) → AllValid n genes → Meets (rootingTest rooting n genes) (RootingFault rooting n genes)
+  unfolding rootingTest
+  rooting-met rooting genes all = record {
+    numbered = λ z. omega arith;
+    found = λ e.
+        let two = both (isUnrooted rooting) (ltb (firstUnresolved n genes) (length genes)) e in
+        let l = ltb-true (firstUnresolved n genes) (length genes) (two .1) in
+        let h = failing-means (λ g. mayUnroot n g) genes in
+        first-unresolved-or-incomplete (is-unrooted rooting (two .0)) l
+        (λ k. never-both (mayUnroot n (getD genes (firstUnresolved n genes) [])) (may-enter-exactly few .1 k .1) (h .0 l))
+        (λ j m. may-enter-exactly few .0 (valid-at j (omega arith), h .1 j m));
+    only = only;
+  }
+    where
+      valid-at : (j : ℕ) → j < length genes → GeneValid n (getD genes j [])
+      valid-at j l = all (getD genes j []) (at-among genes [] j l)
+
+      only :
+          {k p : ℕ} → RootingFault rooting n genes k p
+          → ((isUnrooted rooting && ltb (firstUnresolved n genes) (length genes)) ≡ true) × (k ≡ 19) × (p ≡ firstUnresolved n genes)
+      only (first-unresolved-or-incomplete {i} is l bad good) =
+          let e =
+          failing-is (λ g. mayUnroot n g) genes i (omega arith)
+          (λ m. unless (mayUnroot n (getD genes i [])) (λ v. bad (may-enter-exactly few .0 (valid-at i l, v))))
+          (λ j m. may-enter-exactly few .1 (good j m) .1)
+          in
+          (rw (is, lt-ltb (firstUnresolved n genes) (length genes) (omega arith)) refl, refl, sym e)
 
 -- ---- 13: the allowed bytes
 

@@ -25,7 +25,8 @@ use Rattle.reader.proofs.Replies.{read-gene-valid}
 use Rattle.reader.proofs.ByThreshold.{higher-drops-more, given-drops}
 use Rattle.weights.specs.Count.{score}
 use Rattle.weights.proofs.Dropped.{score-never-rises}
-use Rattle.lineages.specs.Checks.{speciesTest, recordsTest, scoreTests}
+use Rattle.weights.specs.declared.Rooting.the-variants.{Rooted}
+use Rattle.lineages.specs.Checks.{speciesTest, recordsTest, rootingTest, scoreTests}
 use Rattle.lineages.specs.Promise.{Scores}
 use Rattle.lineages.proofs.FirstBad.{all-valid-none-bad}
 use Rattle.solver.specs.declared.Found.{Found}
@@ -94,12 +95,12 @@ module _ {threshold threshold′ : Threshold} {line : List ℕ} {count : ℕ} {g
 
   module _ (species : List ℕ) where
     -- the checks of both calls say the same
-    scored-alike : verdict (scoreTests (length (names line)) genes count species) ≡ verdict (scoreTests (length (names line)) genes′ count species)
-    unfolding scoreTests speciesTest recordsTest verdict
+    scored-alike : verdict (scoreTests Rooted (length (names line)) genes count species) ≡ verdict (scoreTests Rooted (length (names line)) genes′ count species)
+    unfolding scoreTests speciesTest recordsTest rootingTest verdict
     scored-alike = go (decLe (length (names line)) 16)
       where
         go : Dec (length (names line) ≤ 16)
-            → verdict (scoreTests (length (names line)) genes count species) ≡ verdict (scoreTests (length (names line)) genes′ count species)
+            → verdict (scoreTests Rooted (length (names line)) genes count species) ≡ verdict (scoreTests Rooted (length (names line)) genes′ count species)
         go (yes few) =
             rw (
               both-fit (32 * count) genes genes′ (λ h. valid-fit count genes′ second-valid, λ h. valid-fit count genes first-valid),
@@ -113,19 +114,19 @@ module _ {threshold threshold′ : Threshold} {line : List ℕ} {count : ℕ} {g
     -- "with #101's count no species tree's score rises with the threshold" (#113): of two calls that score one species tree, the second by the gene trees as read
     -- with a higher threshold, both are refused alike or neither is, and the second score is not more
     pub no-score-rises :
-        (r r′ : Reply) → Scores (length (names line)) genes count species r → Scores (length (names line)) genes′ count species r′
+        (r r′ : Reply) → Scores Rooted (length (names line)) genes count species r → Scores Rooted (length (names line)) genes′ count species r′
         → (r′ .number ≡ r .number) × (r′ .place ≡ r .place) × (r′ .value ≤ r .value)
     unfolding Scores
     no-score-rises r r′ p p′ =
-        let said : Verdict = verdict (scoreTests (length (names line)) genes count species) in
-        go (said .number) (said .place) p (p′ ∙ ap (λ (v : Verdict). replyOf v (score (recordsIn count genes′) species)) (sym scored-alike))
+        let said : Verdict = verdict (scoreTests Rooted (length (names line)) genes count species) in
+        go (said .number) (said .place) p (p′ ∙ ap (λ (v : Verdict). replyOf v (score Rooted (recordsIn count genes′) species)) (sym scored-alike))
       where
         go :
-            (k q : ℕ) → r ≡ replyOf (record { number = k; place = q }) (score (recordsIn count genes) species)
-            → r′ ≡ replyOf (record { number = k; place = q }) (score (recordsIn count genes′) species)
+            (k q : ℕ) → r ≡ replyOf (record { number = k; place = q }) (score Rooted (recordsIn count genes) species)
+            → r′ ≡ replyOf (record { number = k; place = q }) (score Rooted (recordsIn count genes′) species)
             → (r′ .number ≡ r .number) × (r′ .place ≡ r .place) × (r′ .value ≤ r .value)
         go zero q e e′ =
-            let h = scored-exactly (length (names line)) genes count species r p .0 (ap (λ (r : Reply). r .number) e) in
+            let h = scored-exactly Rooted (length (names line)) genes count species r p .0 (ap (λ (r : Reply). r .number) e) in
             let less = score-never-rises (h .in-order .shaped .few-species) first-valid second-valid records-thinned species in
             rw (e, e′) (refl, refl, less)
         go (suc k) q e e′ = rw (e, e′) (refl, refl, omega arith)
@@ -136,7 +137,8 @@ module _ {threshold threshold′ : Threshold} {line : List ℕ} {count : ℕ} {g
       {allowed scores splits scores′ splits′ : List ℕ} {r r′ : Found} {s p s′ p′ : List ℕ}
       → (2 ^ length (names line) ≤ length scores) ↔ (2 ^ length (names line) ≤ length scores′)
       → (2 ^ length (names line) ≤ length splits) ↔ (2 ^ length (names line) ≤ length splits′)
-      → Finds (length (names line)) genes count allowed scores splits r s p → Finds (length (names line)) genes′ count allowed scores′ splits′ r′ s′ p′
+      → Finds Rooted (length (names line)) genes count allowed scores splits r s p
+      → Finds Rooted (length (names line)) genes′ count allowed scores′ splits′ r′ s′ p′
       → (r′ .number ≡ r .number) × (r′ .place ≡ r .place) × (r′ .score ≤ r .score)
   no-least-score-rises scores-alike splits-alike f f′ =
       dropped-in-all-cases records-thinned (record { valid = first-valid; valid′ = second-valid; scores-fit = scores-alike; splits-fit = splits-alike }) f f′

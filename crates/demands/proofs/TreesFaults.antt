@@ -32,7 +32,7 @@ use Rattle.demands.proofs.Gathering.{recordsOf, stopped-fault, turns-to
 
 module _ (line txt : List ℕ) where
   -- "its first byte that is no blank" is where the program looks for a tree
-  begins-at : {trees : List Tree} {b : ℕ} (h : MoreBehind line txt trees b) → begun txt (h .at) ≡ b
+  pub begins-at : {trees : List Tree} {b : ℕ} (h : MoreBehind line txt trees b) → begun txt (h .at) ≡ b
   unfolding blanks skip
   begins-at {b = b} h =
       let there : skip (drop (h .at) txt) ≡ drop b txt = blanks-skip (h .gap) (run-off isBlank txt b (h .inside) (h .no-blank)) in

@@ -1,7 +1,6 @@
 -- The two lines in front of the gene trees: an input with two line feeds is two lines and what is behind them, in one way.
 use Prim.Native.Nat.{ℕ, suc, _+_, _<_}
 use mathlib.Core.Path.{_≡_, refl, sym, ap, _∙_}
-use mathlib.Core.Logic.{_⊎_, inl, inr}
 use mathlib.Core.Bool.{Bool, true, false, not}
 use mathlib.Core.List.{List, [], _∷_, _++_}
 use native.Mathlib.Omega.{arith}
@@ -11,12 +10,18 @@ use lib.Dec.{eqb, leb}
 use borrow.Author.Tests.{leb-true, leb-false, le-leb, eqb-true}
 use native.Mathlib.Numerals.{add-one}
 use Rattle.labels.specs.Bytes.{oneMore, run}
-use Rattle.roster.specs.Roster.{faulty, faultAt}
+use Rattle.roster.specs.Roster.{faulty, faultAt, same}
 use Rattle.roster.specs.Judged.{speciesMost}
 use Rattle.trees.proofs.Booleans.{never-both}
 use Rattle.roster.proofs.Faults.{no-fault}
+use Rattle.roster.proofs.Positions.{same-is, same-self}
 use Rattle.roster.proofs.Places.{stray-unprintable, fault-stray}
-use Rattle.report.specs.Input.{lineLength, firstLine, behindLine, endsInFeed, modePlace, treesPlace, allWord, genesWord}
+use Rattle.weights.specs.declared.Rooting.{Rooting}
+use Rattle.weights.specs.declared.Rooting.the-variants.{Rooted, Unrooted}
+use Rattle.report.specs.Input.{lineLength, firstLine, behindLine, endsInFeed, modePlace, treesPlace, modeWord}
+use Rattle.report.specs.Program.{modeBy, modeOf}
+use Rattle.report.specs.declared.modes.Mode.{Mode}
+use Rattle.report.specs.declared.modes.Mode.the-variants.{Another, Over}
 use Rattle.report.proofs.Bytewise.{line-within}
 
 -- ---- where a run ends
@@ -94,10 +99,52 @@ good-line line good = go (leb (length line) (lineLength line)) refl
         let stray = stray-unprintable line p h (rw feed refl) in
         absurd (never-both (faultAt speciesMost line p) (fault-stray line p speciesMost stray) (no-fault speciesMost line good p (omega arith)))
 
-pub mode-line : (mode : List ℕ) → (mode ≡ allWord) ⊎ (mode ≡ genesWord) → OneLine mode
+-- a mode's word has no line feed
+pub mode-line : (all : Bool) (rooting : Rooting) → OneLine (modeWord all rooting)
 unfolding lineLength run
-mode-line mode (inl e) = rw e refl
-mode-line mode (inr e) = rw e refl
+mode-line true Rooted = refl
+mode-line false Rooted = refl
+mode-line true Unrooted = refl
+mode-line false Unrooted = refl
+
+-- ---- the mode that a line asks for
+
+-- what is known of a line by its mode: it is the mode's word, or none of the four
+abbrev pub ModeTold : List ℕ → Mode → Type 0
+ModeTold w (Over all rooting) = w ≡ modeWord all rooting
+ModeTold w Another = (all : Bool) (rooting : Rooting) → w ≡ modeWord all rooting → ⊥
+
+-- a line is known by the mode that it asks for
+pub mode-told : (w : List ℕ) → ModeTold w (modeOf w)
+unfolding modeOf
+mode-told w =
+    go (same w (modeWord true Rooted)) (same w (modeWord false Rooted)) (same w (modeWord true Unrooted)) (same w (modeWord false Unrooted)) refl refl refl refl
+  where
+    other : (v : List ℕ) → same w v ≡ false → w ≡ v → ⊥
+    other v p e = never-both (same v v) (same-self v) (ap (λ (u : List ℕ). same u v) (sym e) ∙ p)
+
+    go :
+        (a b c d : Bool) → same w (modeWord true Rooted) ≡ a → same w (modeWord false Rooted) ≡ b → same w (modeWord true Unrooted) ≡ c
+        → same w (modeWord false Unrooted) ≡ d → ModeTold w (modeBy a b c d)
+    go true b c d p q r s = same-is w (modeWord true Rooted) p
+    go false true c d p q r s = same-is w (modeWord false Rooted) q
+    go false false true d p q r s = same-is w (modeWord true Unrooted) r
+    go false false false true p q r s = same-is w (modeWord false Unrooted) s
+    go false false false false p q r s = none
+      where
+        none : (all : Bool) (rooting : Rooting) → w ≡ modeWord all rooting → ⊥
+        none true Rooted = other (modeWord true Rooted) p
+        none false Rooted = other (modeWord false Rooted) q
+        none true Unrooted = other (modeWord true Unrooted) r
+        none false Unrooted = other (modeWord false Unrooted) s
+
+-- each of the four words asks for its own mode
+pub mode-of-word : (all : Bool) (rooting : Rooting) → modeOf (modeWord all rooting) ≡ Over all rooting
+unfolding modeOf same
+mode-of-word true Rooted = refl
+mode-of-word false Rooted = refl
+mode-of-word true Unrooted = refl
+mode-of-word false Unrooted = refl
 
 -- ---- what is behind both
 

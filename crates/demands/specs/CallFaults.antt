@@ -10,7 +10,10 @@ use Rattle.trees.specs.Records.{SpeciesValid, GeneValid, BinaryOn, recordsIn}
 use Rattle.roster.specs.Roster.{names, faultAt}
 use Rattle.roster.specs.Judged.{speciesMost}
 use Rattle.texts.specs.Writing.{written}
+use Rattle.weights.specs.declared.Rooting.{Rooting}
+use Rattle.weights.specs.declared.Rooting.the-variants.{Unrooted}
 use Rattle.search.specs.Candidates.{Candidate}
+use Rattle.demands.specs.GeneTrees.{MayEnter}
 
 -- an order of faults: one of the first kind; or, where none of these stands, one of the second
 infixr 3 _before_
@@ -48,7 +51,13 @@ pub data RecordsFault (n : ℕ) (genes : List (List ℕ)) : ℕ → ℕ → Type
       {i : ℕ} → i < length genes → (GeneValid n (getD genes i []) → ⊥) → ((j : ℕ) → j < i → GeneValid n (getD genes j []))
       → RecordsFault n genes 15 i
 
--- the same for the writer, which has one record: its index is 0. "the writer takes both" kinds (#104)
+-- "19 for an unresolved or incomplete tree, place the first one's index" (#106), where gene trees are counted without a root
+pub data RootingFault (rooting : Rooting) (n : ℕ) (genes : List (List ℕ)) : ℕ → ℕ → Type 0 where
+  first-unresolved-or-incomplete :
+      {i : ℕ} → rooting ≡ Unrooted → i < length genes → (MayEnter n (getD genes i []) → ⊥) → ((j : ℕ) → j < i → MayEnter n (getD genes j []))
+      → RootingFault rooting n genes 19 i
+
+-- 15 for the writer, which has one record: its index is 0. "the writer takes both" kinds (#104)
 pub data RecordFault (line tree : List ℕ) : ℕ → ℕ → Type 0 where
   not-valid : (GeneValid (length (names line)) tree → ⊥) → RecordFault line tree 15 0
 
@@ -71,28 +80,33 @@ pub data NoTreeFault (n : ℕ) (allowed : List ℕ) : ℕ → ℕ → Type 0 whe
 abbrev pub WriteFault : List ℕ → List ℕ → List ℕ → ℕ → ℕ → Type 0
 WriteFault line tree out = RosterFault line before RecordFault line tree before LengthFault out (length (written (names line) tree))
 
--- "All others: 1, 11, 12, 16, 15, 13, 14, each where it applies": "32 entries for each record counted"
-abbrev pub WeightFault : ℕ → List ℕ → ℕ → ℕ → ℕ → ℕ → Type 0
-WeightFault n genes count a =
-    SpeciesFault n before CountFault count before LengthFault genes (32 * count) before RecordsFault n (recordsIn count genes) before ClusterFault n a
+-- "All others: 1, 11, 12, 16, 15, 13, 14, each where it applies", with 19 "straight after 15" (#106): "32 entries for each record counted"
+abbrev pub WeightFault : Rooting → ℕ → List ℕ → ℕ → ℕ → ℕ → ℕ → Type 0
+WeightFault rooting n genes count a =
+    SpeciesFault n before CountFault count before LengthFault genes (32 * count) before RecordsFault n (recordsIn count genes)
+    before RootingFault rooting n (recordsIn count genes)
+    before ClusterFault n a
 
 -- the same of the score of a species tree
-abbrev pub ScoreFault : ℕ → List ℕ → ℕ → List ℕ → ℕ → ℕ → Type 0
-ScoreFault n genes count species =
+abbrev pub ScoreFault : Rooting → ℕ → List ℕ → ℕ → List ℕ → ℕ → ℕ → Type 0
+ScoreFault rooting n genes count species =
     SpeciesFault n before CountFault count before LengthFault genes (32 * count) before SpeciesRecordFault n species
     before RecordsFault n (recordsIn count genes)
+    before RootingFault rooting n (recordsIn count genes)
 
 -- the same of the call that marks the gene trees' clusters: it "writes 2^n bytes"
-abbrev pub MarkFault : ℕ → List ℕ → ℕ → List ℕ → ℕ → ℕ → Type 0
-MarkFault n genes count out =
+abbrev pub MarkFault : Rooting → ℕ → List ℕ → ℕ → List ℕ → ℕ → ℕ → Type 0
+MarkFault rooting n genes count out =
     SpeciesFault n before CountFault count before LengthFault genes (32 * count) before LengthFault out (2 ^ n)
     before RecordsFault n (recordsIn count genes)
+    before RootingFault rooting n (recordsIn count genes)
 
 -- the same of the search: "fewer than 2^n for an allowed set or a table"
-abbrev pub SearchFault : ℕ → List ℕ → ℕ → List ℕ → List ℕ → List ℕ → ℕ → ℕ → Type 0
-SearchFault n genes count allowed scores splits =
+abbrev pub SearchFault : Rooting → ℕ → List ℕ → ℕ → List ℕ → List ℕ → List ℕ → ℕ → ℕ → Type 0
+SearchFault rooting n genes count allowed scores splits =
     SpeciesFault n before CountFault count before LengthFault genes (32 * count) before LengthFault allowed (2 ^ n) before LengthFault scores (2 ^ n)
     before LengthFault splits (2 ^ n)
     before RecordsFault n (recordsIn count genes)
+    before RootingFault rooting n (recordsIn count genes)
     before AllowedFault n allowed
     before NoTreeFault n allowed

@@ -5,7 +5,6 @@ use mathlib.Core.List.{List, [], _∷_, map}
 use lib.ListN.{length, replicate}
 use lib.Dec.{eqb}
 use Rattle.clusters.specs.Sets.{whole}
-use Rattle.trees.specs.Records.{listed}
 use Rattle.trees.specs.Valid.{among}
 use Rattle.roster.specs.Roster.{names, same}
 use Rattle.trees.specs.Lists.{upTo}
@@ -18,7 +17,8 @@ use Rattle.reader.specs.declared.Kind.{Kind}
 use Rattle.reader.specs.declared.Kind.the-variants.{Species, Gene}
 use Rattle.reader.specs.declared.Reading.{Reading}
 use Rattle.texts.specs.Writing.{written}
-use Rattle.weights.specs.Count.{kOf, score}
+use Rattle.weights.specs.declared.Rooting.{Rooting}
+use Rattle.weights.specs.Count.{kBy, score}
 use Rattle.lineages.specs.Promise.{marks}
 use Rattle.weights.specs.Marks.{flag}
 use Rattle.solver.specs.Best.{bestFor, foundBy}
@@ -30,13 +30,13 @@ pub data Allowed : Type 0 where
   own : Allowed
   only : List ℕ → Allowed
 
--- a row: a text's record, all 32 numbers of it; k of a cluster in a tree; a gene tree scored on a species tree; gene trees searched. The first part is the roster.
+-- a row: a text's record, all 32 numbers of it; k of a cluster in a tree; a gene tree scored on a species tree; gene trees searched. The first part is the roster, behind how the gene trees are counted (#106).
 -- A gene tree read on a roster with a threshold: number, place and record; what a number's bytes are worth (#113)
 pub data Row : Type 0 where
   recorded : List ℕ → List ℕ → List ℕ → Row
-  counted : List ℕ → List ℕ → ℕ → ℕ → Row
-  scored : List ℕ → List ℕ → List ℕ → ℕ → Row
-  searched : List ℕ → List (List ℕ) → Allowed → ℕ → ℕ → List ℕ → Row
+  counted : Rooting → List ℕ → List ℕ → ℕ → ℕ → Row
+  scored : Rooting → List ℕ → List ℕ → List ℕ → ℕ → Row
+  searched : Rooting → List ℕ → List (List ℕ) → Allowed → ℕ → ℕ → List ℕ → Row
   readBelow : List ℕ → List ℕ → ℕ → ℕ → ℕ → List ℕ → Row
   valued : List ℕ → Value → Row
 
@@ -45,10 +45,10 @@ unfoldable pub recordIn : Kind → List ℕ → List ℕ → List ℕ
 recordIn kind line text = readingOf NoThreshold 0 (answerTo kind NoThreshold line text 0) .numbers
 
 -- the allowed set as bytes
-abbrev pub bytesOf : Allowed → ℕ → List (List ℕ) → List ℕ
-bytesOf every n genes = replicate (2 ^ n) 1
-bytesOf own n genes = marks n genes
-bytesOf (only cs) n genes = map (λ a. flag (among a cs)) (upTo (2 ^ n))
+abbrev pub bytesOf : Rooting → Allowed → ℕ → List (List ℕ) → List ℕ
+bytesOf rooting every n genes = replicate (2 ^ n) 1
+bytesOf rooting own n genes = marks rooting n genes
+bytesOf rooting (only cs) n genes = map (λ a. flag (among a cs)) (upTo (2 ^ n))
 
 -- what a search finds: its number, its score and its tree's text, which is empty on a refusal
 abbrev pub textBy : ℕ → List ℕ → List ℕ → List ℕ
@@ -56,9 +56,9 @@ textBy zero line numbers = written (names line) numbers
 textBy (suc number) line numbers = []
 
 -- what a search on the gene records finds
-unfoldable pub foundIn : List ℕ → List (List ℕ) → Allowed → Found
-foundIn line genes allowed =
-    foundBy (bestFor (length (names line)) genes (bytesOf allowed (length (names line)) genes) (whole (length (names line)))) genes
+unfoldable pub foundIn : Rooting → List ℕ → List (List ℕ) → Allowed → Found
+foundIn rooting line genes allowed =
+    foundBy rooting (bestFor rooting (length (names line)) genes (bytesOf rooting allowed (length (names line)) genes) (whole (length (names line)))) genes
 
 -- two values are the same
 abbrev pub sameValue : Value → Value → Bool
@@ -75,14 +75,14 @@ readingBelow amount line text = readingOf (Below amount) 0 (answerTo Gene (Below
 unfoldable pub holds : Row → Bool
 unfolding recordIn foundIn readingBelow
 holds (recorded line text numbers) = same (recordIn Species line text) numbers
-holds (counted line text a k) = eqb (kOf (listed (recordIn Gene line text)) a) k
-holds (scored line gene species s) = eqb (score (recordIn Gene line gene ∷ []) (recordIn Species line species)) s
-holds (searched line genes allowed number s text) =
-    eqb (foundIn line (map (recordIn Gene line) genes) allowed .number) number && eqb (foundIn line (map (recordIn Gene line) genes) allowed .place) 0
-    && eqb (foundIn line (map (recordIn Gene line) genes) allowed .score) s
-    && same (foundIn line (map (recordIn Gene line) genes) allowed .numbers) (recordIn Species line text)
+holds (counted rooting line text a k) = eqb (kBy rooting (recordIn Gene line text) a) k
+holds (scored rooting line gene species s) = eqb (score rooting (recordIn Gene line gene ∷ []) (recordIn Species line species)) s
+holds (searched rooting line genes allowed number s text) =
+    eqb (foundIn rooting line (map (recordIn Gene line) genes) allowed .number) number && eqb (foundIn rooting line (map (recordIn Gene line) genes) allowed .place) 0
+    && eqb (foundIn rooting line (map (recordIn Gene line) genes) allowed .score) s
+    && same (foundIn rooting line (map (recordIn Gene line) genes) allowed .numbers) (recordIn Species line text)
     && same
-    (textBy (foundIn line (map (recordIn Gene line) genes) allowed .number) line (foundIn line (map (recordIn Gene line) genes) allowed .numbers))
+    (textBy (foundIn rooting line (map (recordIn Gene line) genes) allowed .number) line (foundIn rooting line (map (recordIn Gene line) genes) allowed .numbers))
     text
 holds (readBelow line text amount number place numbers) =
     eqb (readingBelow amount line text .number) number && eqb (readingBelow amount line text .place) place

@@ -14,3 +14,4 @@ pub mod Deciding
 pub mod Lots
 pub mod Letters
 pub mod Thresholds
+pub mod Redrawn

@@ -1,8 +1,8 @@
 -- The faults of the program's input, by number and place (01, "The program"): what each is, and which comes first.
 use Prim.Native.Nat.{ℕ, _+_, _<_}
 use mathlib.Core.Path.{_≡_}
-use mathlib.Core.Bool.{false}
-use mathlib.Core.List.{List, [], _∷_, _++_}
+use mathlib.Core.Bool.{Bool, false}
+use mathlib.Core.List.{List, [], _∷_, _++_, List·Memᴰ}
 use lib.ListN.{length, getD, drop}
 use Rattle.labels.specs.Bytes.{isBlank}
 use Rattle.trees.specs.Tree.{Tree}
@@ -12,10 +12,14 @@ use Rattle.nodes.specs.Grammar.{Blanks}
 use Rattle.reader.specs.Promise.{textMost, Reads}
 use Rattle.reader.specs.declared.Kind.the-variants.{Gene}
 use Rattle.reader.specs.declared.Reading.{Reading}
+use Rattle.reader.specs.Accepted.{Draws}
 use Rattle.gather.specs.GeneTrees.{genesMost}
+use Rattle.weights.specs.declared.Rooting.{Rooting}
+use Rattle.weights.specs.declared.Rooting.the-variants.{Unrooted}
 use Rattle.outcomes.specs.Outcome.{programMost}
-use Rattle.report.specs.Input.{firstLine, behindLine, modePlace, treesPlace, allWord, genesWord}
+use Rattle.report.specs.Input.{firstLine, behindLine, modePlace, treesPlace, modeWord}
 use Rattle.demands.specs.CallFaults.{RosterFault, _before_}
+use Rattle.demands.specs.GeneTrees.{Enters}
 use Rattle.demands.specs.Input.{TreesTo}
 use Rattle.demands.specs.Signed.{Unsolvable}
 
@@ -32,10 +36,9 @@ pub data ManySpeciesFault (line : List ℕ) : ℕ → ℕ → Type 0 where
 pub data LineFeedFault (input : List ℕ) : ℕ → ℕ → Type 0 where
   feed-missing : ((line mode text : List ℕ) → input ≡ line ++ (10 ∷ (mode ++ (10 ∷ text))) → ⊥) → LineFeedFault input 10 (length input)
 
--- "Another mode word gives 3 at its first byte"
+-- "Another mode word gives 3 at its first byte": it is none of the four (#106)
 pub data ModeFault (input : List ℕ) : ℕ → ℕ → Type 0 where
-  another-word :
-      (firstLine (behindLine input) ≡ allWord → ⊥) → (firstLine (behindLine input) ≡ genesWord → ⊥) → ModeFault input 3 (modePlace input)
+  another-word : ((all : Bool) (rooting : Rooting) → firstLine (behindLine input) ≡ modeWord all rooting → ⊥) → ModeFault input 3 (modePlace input)
 
 -- "until only blanks remain": behind these trees more stands there, and begins at b, "its first byte that is no blank"
 pub record MoreBehind (line text : List ℕ) (trees : List Tree) (b : ℕ) : Type 0 where
@@ -59,14 +62,22 @@ pub data TreesFault (line text : List ℕ) (shift : ℕ) : ℕ → ℕ → Type 
 pub data NoGeneTreeFault (text : List ℕ) : ℕ → ℕ → Type 0 where
   only-blanks : Blanks text [] → NoGeneTreeFault text 11 0
 
+-- "19 for an unresolved or incomplete tree, .. in the program its first byte" (#106): behind trees that may be counted without a root begins at b one that may not
+pub data UnresolvedFault (line mode text : List ℕ) (shift : ℕ) : ℕ → ℕ → Type 0 where
+  unresolved-or-incomplete :
+      (all : Bool) {trees : List Tree} {t : Tree} {b : ℕ} {rest : List ℕ} → mode ≡ modeWord all Unrooted → MoreBehind line text trees b
+      → ((u : Tree) → List·Memᴰ u trees → Enters (length (names line)) u) → Draws Gene NoThreshold line text b t rest → (Enters (length (names line)) t → ⊥)
+      → UnresolvedFault line mode text shift 19 (shift + b)
+
 -- "14 | no binary tree over the allowed clusters | 0"
 pub data UnsolvableFault (input : List ℕ) : ℕ → ℕ → Type 0 where
   no-tree : Unsolvable input → UnsolvableFault input 14 0
 
--- "Checks: 2, 1, 17, mode, trees, 11, 14", and 10 "after 1 and 17 have been tried and before the mode word is judged"
+-- "Checks: 2, 1, 17, mode, trees, 11, 14", with 19 "after 11" (#106), and 10 "after 1 and 17 have been tried and before the mode word is judged"
 abbrev pub ProgramFault : List ℕ → ℕ → ℕ → Type 0
 ProgramFault input =
     TextLengthFault input before RosterFault (firstLine input) before ManySpeciesFault (firstLine input) before LineFeedFault input before ModeFault input
     before TreesFault (firstLine input) (drop (treesPlace input) input) (treesPlace input)
     before NoGeneTreeFault (drop (treesPlace input) input)
+    before UnresolvedFault (firstLine input) (firstLine (behindLine input)) (drop (treesPlace input) input) (treesPlace input)
     before UnsolvableFault input

@@ -40,8 +40,8 @@ Holds R Q (stopped number place) = Q number place
 pub record Turns (line trees : List ℕ) (P : List (List ℕ) → ℕ → Type 0) (R : List (List ℕ) → Type 0) (Q : ℕ → ℕ → Type 0) : Type 0 where
   pub begins : P [] 0
   pub reads :
-      {genes : List (List ℕ)} {at : ℕ} {t : Tree} {rest : List ℕ} {q : ℕ} → P genes at → answerTo Gene NoThreshold line trees (begun trees at) ≡ parsed t rest q
-      → P (genes ++ (recordOf (clusters t) ∷ [])) q
+      {genes : List (List ℕ)} {at : ℕ} {t : Tree} {rest : List ℕ} {q : ℕ} → P genes at → begun trees at < length trees
+      → answerTo Gene NoThreshold line trees (begun trees at) ≡ parsed t rest q → P (genes ++ (recordOf (clusters t) ∷ [])) q
   pub ends : {genes : List (List ℕ)} {at : ℕ} → P genes at → length genes ≤ genesMost → length trees ≤ begun trees at → R genes
   pub many : {genes : List (List ℕ)} {at : ℕ} → P genes at → length genes ≡ genesMost → begun trees at < length trees → Q 17 (begun trees at)
   pub refuses :
@@ -63,7 +63,7 @@ module _ {line trees : List ℕ} {P : List (List ℕ) → ℕ → Type 0} {R : L
         → Holds R Q (gatherOn (readingOf NoThreshold (begun trees at) a .number) (readingOf NoThreshold (begun trees at) a) genes next .says)
     answered inside room (parsed t rest q) e =
         let l = length-append genes (recordOf (clusters t) ∷ []) in
-        later (genes ++ (recordOf (clusters t) ∷ [])) q (omega arith) (omega arith) (turns .reads now e)
+        later (genes ++ (recordOf (clusters t) ∷ [])) q (omega arith) (omega arith) (turns .reads now inside e)
     answered inside room (refusedAt zero q) e = absurd (omega (arith, refusal-some Gene NoThreshold line trees (begun trees at) e))
     answered inside room (refusedAt (suc number) q) e = turns .refuses now room inside e
 
@@ -132,7 +132,7 @@ module _ (line trees : List ℕ) (good : faulty speciesMost line ≡ false) (sho
       (λ number place. place ≤ length trees)
   turns = record {
     begins = λ g m. absurd (List·Memᴰ·not-nil m);
-    reads = λ {genes} {at} {t} all e. among (length (names line)) genes (recordOf (clusters t)) all (read-valid line trees (begun trees at) e);
+    reads = λ {genes} {at} {t} all inside e. among (length (names line)) genes (recordOf (clusters t)) all (read-valid line trees (begun trees at) e);
     ends = λ all few none. (few, all);
     many = λ all full inside. omega arith;
     refuses = λ {genes} {at} all room inside e. refused-inside line trees good (begun trees at) short inside e .1;
@@ -154,7 +154,7 @@ stopped-never-nine line trees e = stopped-so turns e
     turns : Turns line trees (λ genes at. Unit {0}) (λ genes. Unit {0}) (λ number place. number ≡ 9 → ⊥)
     turns = record {
       begins = tt;
-      reads = λ now e. tt;
+      reads = λ now inside e. tt;
       ends = λ now few none. tt;
       many = λ now full inside nine. omega arith;
       refuses = λ {genes} {at} {number} {place} now room inside e nine. gene-never-nine NoThreshold line trees (begun trees at) (e ∙ ap (λ (m : ℕ). refusedAt m place) nine);

@@ -2,3 +2,4 @@
 pub mod Kept
 pub mod Gathering
 pub mod GeneTrees
+pub mod Beginnings

@@ -68,3 +68,12 @@ walk line trees = gatherTo 514 line trees [] 0
 unfoldable pub gather : List ℕ → List ℕ → Gathered
 unfolding walk
 gather line trees = walk line trees .says
+
+-- where the reading of a tree at p ends, just after its `;`
+abbrev pub endOf : List ℕ → List ℕ → ℕ → ℕ
+endOf line trees p = readingOf NoThreshold p (answerTo Gene NoThreshold line trees p) .next
+
+-- from a place on, where the tree of an index begins, in the program the place of 19, "its first byte" (#106): the first that is no blank
+unfoldable pub beginsAt : ℕ → List ℕ → List ℕ → ℕ → ℕ
+beginsAt zero line trees at = begun trees at
+beginsAt (suc i) line trees at = beginsAt i line trees (endOf line trees (begun trees at))

@@ -3,6 +3,7 @@ ghost use mathlib.Core.Path.{_≡_};
 ghost use Prim.Native.Nat.{_+_, _*_, _≤_};
 ghost use lib.ListN.{length};
 ghost use lib.Seq.{sets};
+ghost use Rattle.gather.specs.GeneTrees.{beginsAt};
 ghost use Rattle.gather.specs.Work.{Gathers};
 use reader::Kind;
 use reader::Threshold;
@@ -54,4 +55,18 @@ pub fn gather(line: &[u8], trees: &[u8], genes: &mut [u16]) -> Trees
         at = blanks(trees, reading.next);
     }
     Trees::Gathered { count }
+}
+
+// Where the tree of an index begins, its first byte that is no blank: the trees before it are read again.
+pub fn place(line: &[u8], trees: &[u8], index: usize) -> usize
+    ensures { λ r. ⌜ r ≡ beginsAt index (now (line .entry)) (now (trees .entry)) 0 ⌝ }
+{
+    let mut at = blanks(trees, 0);
+    let mut i = 0;
+    while i < index {
+        let passed = reader::read(Kind::Gene, Threshold::NoThreshold, line, trees, at);
+        at = blanks(trees, passed.next);
+        i += 1;
+    }
+    at
 }

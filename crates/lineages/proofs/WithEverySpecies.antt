@@ -13,7 +13,7 @@ use Rattle.trees.proofs.ValidTest.{valid-decides}
 use Rattle.trees.proofs.GeneRecords.{gene-decides, gene-of-species, species-of-gene}
 use Rattle.weights.proofs.Joining.{tells-same}
 use Rattle.roster.specs.Verdict.{Test}
-use Rattle.lineages.specs.Checks.{firstBad, recordsTest}
+use Rattle.lineages.specs.Checks.{firstFailing, firstBad, recordsTest}
 
 -- a record whose largest cluster is the roster's whole set is a valid gene record exactly when it was a valid record before
 pub complete-judged-as-before : {n : ℕ} (g : List ℕ) → 1 ≤ n → n ≤ 16 → largest g ≡ whole n → validGene n g ≡ valid (whole n) g
@@ -28,7 +28,7 @@ firstNotValidOnAll n (g ∷ l) = oneMore (valid (whole n) g) (firstNotValidOnAll
 -- where every gene tree has every species, 15 and its place are what they were
 pub complete-refused-as-before :
     {n : ℕ} (genes : List (List ℕ)) → 1 ≤ n → n ≤ 16 → ((g : List ℕ) → List·Memᴰ g genes → largest g ≡ whole n) → firstBad n genes ≡ firstNotValidOnAll n genes
-unfolding firstBad firstNotValidOnAll
+unfolding firstFailing firstNotValidOnAll
 complete-refused-as-before [] some few all = refl
 complete-refused-as-before (g ∷ l) some few all =
     ap₂ oneMore (complete-judged-as-before g some few (all g (here refl))) (complete-refused-as-before l some few (λ h m. all h (there m)))

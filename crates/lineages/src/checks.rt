@@ -6,10 +6,14 @@ ghost use lib.ListN.{length};
 ghost use lib.Dec.{leb, ltb};
 ghost use Rattle.clusters.specs.Sets.{whole};
 ghost use Rattle.trees.specs.Valid.{valid, binary};
-ghost use Rattle.trees.specs.Records.{recordsIn};
+ghost use Rattle.trees.specs.Records.{recordsIn, AllValid};
 ghost use Rattle.roster.specs.Verdict.{verdict};
-ghost use Rattle.lineages.specs.Checks.{firstBad};
-ghost use Rattle.lineages.specs.Work.{shapeTests, said};
+ghost use Rattle.lineages.specs.Checks.{firstBad, firstUnresolved};
+ghost use Rattle.lineages.specs.Work.{shapeTests, said, GenesJudged};
+use roster::Reply;
+use roster::done;
+use roster::refused;
+use weights::Rooting;
 
 // 1, 11 or 12 where n, count or the entries that are lent are at fault, else 0. All are at place 0.
 pub fn shape(n: usize, genes: &[u16], count: usize) -> u32
@@ -33,8 +37,8 @@ pub fn shape(n: usize, genes: &[u16], count: usize) -> u32
     0
 }
 
-// The index of the first record that is not that of a gene tree for n species, and count where all are. `search` calls it too, behind `shape`, which says that the entries are there.
-pub fn first_bad(n: usize, genes: &[u16], count: usize) -> usize
+// The index of the first record that is not that of a gene tree for n species, and count where all are.
+fn first_bad(n: usize, genes: &[u16], count: usize) -> usize
     requires { ⌜ n ≤ 16 ⌝ }
     requires { ⌜ 32 * count ≤ length (now genes) ⌝ }
     ensures { λ r. ⌜ r ≡ firstBad n (recordsIn count (now (genes .entry))) ⌝ }
@@ -50,6 +54,48 @@ pub fn first_bad(n: usize, genes: &[u16], count: usize) -> usize
         }
     }
     i
+}
+
+// The index of the first record whose tree may not be counted without a root, and count where all may.
+fn first_unresolved(n: usize, genes: &[u16], count: usize) -> usize
+    requires { ⌜ n ≤ 16 ⌝ }
+    requires { ⌜ 32 * count ≤ length (now genes) ⌝ }
+    requires { ⌜ AllValid n (recordsIn count (now genes)) ⌝ }
+    ensures { λ r. ⌜ r ≡ firstUnresolved n (recordsIn count (now (genes .entry))) ⌝ }
+{
+    let mut i = 0;
+    while i < count {
+        let start = 32 * i;
+        let end = start + 32;
+        if records::unrootable(&genes[start..end], n) {
+            i += 1;
+        } else {
+            return i;
+        }
+    }
+    i
+}
+
+// 15 or 19 at the index of the first gene record at fault, and else no refusal. `search` calls it too, behind `shape`, which says that the entries are there.
+pub fn judge_genes(rooting: Rooting, n: usize, genes: &[u16], count: usize) -> Reply
+    requires { ⌜ n ≤ 16 ⌝ }
+    requires { ⌜ 32 * count ≤ length (now genes) ⌝ }
+    ensures { λ r. ⌜ GenesJudged rooting n (now (genes .entry)) count r ⌝ }
+{
+    let bad = first_bad(n, genes, count);
+    if bad < count {
+        return refused(15, bad);
+    }
+    match rooting {
+        Rooting::Rooted => done(0),
+        Rooting::Unrooted => {
+            let unresolved = first_unresolved(n, genes, count);
+            if unresolved < count {
+                return refused(19, unresolved);
+            }
+            done(0)
+        }
+    }
 }
 
 // Whether a is the number of a cluster of n species.

@@ -9,6 +9,7 @@ use lib.Pow.{pow-mono}
 use Rattle.clusters.specs.Sets.{whole}
 use Rattle.trees.specs.Records.{SpeciesValid, recordsIn}
 use Rattle.weights.specs.Count.{weight}
+use Rattle.weights.specs.declared.Rooting.{Rooting}
 use Rattle.splits.specs.BinaryTrees.{Binary}
 use Rattle.tables.specs.Allowed.{allowedIn}
 use Rattle.splits.proofs.Recurrence.{best-on}
@@ -28,8 +29,8 @@ use Rattle.outcomes.proofs.Allowed.{genes-in-order}
 pub entries-most : {n : ℕ} → n ≤ 12 → 2 ^ n ≤ 4096
 entries-most h = pow-mono {j = 12} h
 
-module _ {n count : ℕ} {genes allowed scores splits : List ℕ} (g : Genes n count genes) (m : Marked n allowed) where
-  genes-accepted : length scores ≡ 4096 → length splits ≡ 4096 → Accepted n genes count allowed scores splits
+module _ {rooting : Rooting} {n count : ℕ} {genes allowed scores splits : List ℕ} (g : Genes rooting n count genes) (m : Marked n allowed) where
+  genes-accepted : length scores ≡ 4096 → length splits ≡ 4096 → Accepted rooting n genes count allowed scores splits
   genes-accepted e f =
       let room = entries-most (g .few-species) in
       record {
@@ -41,14 +42,15 @@ module _ {n count : ℕ} {genes allowed scores splits : List ℕ} (g : Genes n c
       }
 
   pub found :
-      {r : Found} {scores′ splits′ : List ℕ} → length scores ≡ 4096 → length splits ≡ 4096 → Finds n genes count allowed scores splits r scores′ splits′
-      → r ≡ foundBy (bestFor n (recordsIn count genes) allowed (whole n)) (recordsIn count genes)
-  found e f finds = rw (accepts n genes count allowed scores splits (genes-accepted e f)) at (finds .reply)
+      {r : Found} {scores′ splits′ : List ℕ} → length scores ≡ 4096 → length splits ≡ 4096 → Finds rooting n genes count allowed scores splits r scores′ splits′
+      → r ≡ foundBy rooting (bestFor rooting n (recordsIn count genes) allowed (whole n)) (recordsIn count genes)
+  found e f finds = rw (accepts rooting n genes count allowed scores splits (genes-accepted e f)) at (finds .reply)
 
 -- ---- the outcome
 
-module _ (n : ℕ) (genes : List (List ℕ)) (allowed : List ℕ) {r : Found} (is : r ≡ foundBy (bestFor n genes allowed (whole n)) genes) where
-  pub searched-refused : (r .number ≡ 0 → ⊥) → refused (r .number) (r .place) ≡ searched n genes allowed
+module _ (rooting : Rooting) (n : ℕ) (genes : List (List ℕ)) (allowed : List ℕ) {r : Found}
+    (is : r ≡ foundBy rooting (bestFor rooting n genes allowed (whole n)) genes) where
+  pub searched-refused : (r .number ≡ 0 → ⊥) → refused (r .number) (r .place) ≡ searched rooting n genes allowed
   unfolding searched
   searched-refused number = rw (← is) (go (r .number) refl)
     where
@@ -56,15 +58,15 @@ module _ (n : ℕ) (genes : List (List ℕ)) (allowed : List ℕ) {r : Found} (i
       go zero z = absurd (number z)
       go (suc k) z = refl
 
-  pub searched-solved : {m : ℕ} → m ≡ length genes → r .number ≡ 0 → solved n m (r .score) (r .numbers) ≡ searched n genes allowed
+  pub searched-solved : {m : ℕ} → m ≡ length genes → r .number ≡ 0 → solved n m (r .score) (r .numbers) ≡ searched rooting n genes allowed
   unfolding searched
   searched-solved e z = rw (e, ← is, z)
 
   -- the record of what is found is valid, and has every species
   pub found-valid : n ≤ 16 → r .number ≡ 0 → SpeciesValid n (r .numbers)
   unfolding bestFor
-  found-valid few z = go (bestFor n genes allowed (whole n)) refl is
+  found-valid few z = go (bestFor rooting n genes allowed (whole n)) refl is
     where
-      go : (o : Option Binary) → bestFor n genes allowed (whole n) ≡ o → r ≡ foundBy o genes → SpeciesValid n (r .numbers)
-      go (some t) e h = rw h (tree-valid (best-on (weight genes) (allowedIn n allowed) (whole n) t e) (whole-below-sixteen n few))
+      go : (o : Option Binary) → bestFor rooting n genes allowed (whole n) ≡ o → r ≡ foundBy rooting o genes → SpeciesValid n (r .numbers)
+      go (some t) e h = rw h (tree-valid (best-on (weight rooting genes) (allowedIn n allowed) (whole n) t e) (whole-below-sixteen n few))
       go none e h = absurd (omega (arith, sym z ∙ ap (λ (f : Found). f .number) h))

@@ -4,10 +4,12 @@ use mathlib.Core.Bool.{Bool, true, false}
 use mathlib.Core.List.{List, [], _∷_, _++_}
 use lib.ListN.{length, replicate}
 use Rattle.clusters.specs.Sets.{whole}
+use Rattle.weights.specs.declared.Rooting.{Rooting}
+use Rattle.lineages.specs.Checks.{rootingTest}
 use Rattle.lineages.specs.Promise.{marks}
 use Rattle.solver.specs.Best.{bestFor, foundBy}
 use Rattle.solver.specs.declared.Found.{Found}
-use Rattle.gather.specs.GeneTrees.{Gathered}
+use Rattle.gather.specs.GeneTrees.{Gathered, beginsAt}
 use Rattle.gather.specs.GeneTrees.Gathered.{gathered, stopped}
 use Rattle.printing.specs.Words.{taxaText, genesText, scoreText, newline, decimal}
 use Rattle.printing.specs.Texts.{refusalText}
@@ -28,24 +30,35 @@ outcomeOf zero n m found = solved n m (found .score) (found .numbers)
 outcomeOf (suc number) n m found = refused (suc number) (found .place)
 
 -- the search over these gene trees and this allowed set
-unfoldable pub searched : ℕ → List (List ℕ) → List ℕ → Outcome
-searched n genes allowed =
-    outcomeOf (foundBy (bestFor n genes allowed (whole n)) genes .number) n (length genes) (foundBy (bestFor n genes allowed (whole n)) genes)
+unfoldable pub searched : Rooting → ℕ → List (List ℕ) → List ℕ → Outcome
+searched rooting n genes allowed =
+    outcomeOf (foundBy rooting (bestFor rooting n genes allowed (whole n)) genes .number) n (length genes)
+    (foundBy rooting (bestFor rooting n genes allowed (whole n)) genes)
 
 -- the allowed clusters of a mode: `all` clusters, or those that the gene trees show
-abbrev pub allowedBy : Bool → ℕ → List (List ℕ) → List ℕ
-allowedBy true n genes = replicate (2 ^ n) 1
-allowedBy false n genes = marks n genes
+abbrev pub allowedBy : Bool → Rooting → ℕ → List (List ℕ) → List ℕ
+allowedBy true rooting n genes = replicate (2 ^ n) 1
+allowedBy false rooting n genes = marks rooting n genes
 
--- "11 | gene trees 0": there is none
-abbrev pub withGenes : List (List ℕ) → Bool → ℕ → Outcome
-withGenes [] all n = refused 11 0
-withGenes (g ∷ l) all n = searched n (g ∷ l) (allowedBy all n (g ∷ l))
+-- "Places are offsets in the input, the roster's included": the trees begin at shift, and the one of an index at "its first byte" (#106)
+abbrev pub treePlace : List ℕ → List ℕ → ℕ → ℕ → ℕ
+treePlace line trees shift i = shift + beginsAt i line trees 0
 
--- "Places are offsets in the input, the roster's included": the trees begin at shift
-abbrev pub onTrees : Gathered → ℕ → Bool → ℕ → Outcome
-onTrees (stopped number place) shift all n = refused number (shift + place)
-onTrees (gathered genes) shift all n = withGenes genes all n
+-- "19 for an unresolved or incomplete tree, .. in the program its first byte" (#106)
+abbrev pub onRooting : Bool → ℕ → Outcome → Outcome
+onRooting true place outcome = refused 19 place
+onRooting false place outcome = outcome
+
+-- "11 | gene trees 0": there is none; then 19, "after 11" (#106), where `at` says of an index where its tree begins
+abbrev pub withGenes : List (List ℕ) → (ℕ → ℕ) → Bool → Rooting → ℕ → Outcome
+withGenes [] at all rooting n = refused 11 0
+withGenes (g ∷ l) at all rooting n =
+    onRooting (rootingTest rooting n (g ∷ l) .fault) (at (rootingTest rooting n (g ∷ l) .place)) (searched rooting n (g ∷ l) (allowedBy all rooting n (g ∷ l)))
+
+-- what comes of the text `trees` of gene trees, which begins at shift
+abbrev pub onTrees : Gathered → List ℕ → List ℕ → ℕ → Bool → Rooting → ℕ → Outcome
+onTrees (stopped number place) line trees shift all rooting n = refused number (shift + place)
+onTrees (gathered genes) line trees shift all rooting n = withGenes genes (λ i. treePlace line trees shift i) all rooting n
 
 -- "prints species and gene trees read, the score, and the tree"; "A refusal prints one line .. : the number and the place"
 abbrev pub printed : List (List ℕ) → Outcome → List ℕ

@@ -8,15 +8,20 @@ ghost use Rattle.reader.specs.Promise.{textMost};
 ghost use Rattle.trees.specs.Records.{recordsIn};
 ghost use Rattle.gather.specs.GeneTrees.{gather as GeneTrees·gather};
 ghost use Rattle.solver.specs.Best.{bestFor, foundBy};
-ghost use Rattle.outcomes.specs.Outcome.{searched, allowedBy, onTrees};
+ghost use Rattle.weights.specs.declared.Rooting.the-variants.{Rooted};
+ghost use Rattle.gather.specs.GeneTrees.Gathered.{gathered};
+ghost use Rattle.outcomes.specs.Outcome.{searched, allowedBy, treePlace, withGenes, onTrees};
 ghost use Rattle.outcomes.specs.Work.{told, Roster, Genes, Marked};
 use crate::print::solved;
 use gather::Trees;
 use gather::gather;
+use gather::place;
+use lineages::checks::judge_genes;
 use printing::Report;
 use printing::refusal;
 use search::Found;
 use trees::Record;
+use weights::Rooting;
 
 // Marks every cluster.
 fn fill(out: &mut [u8])
@@ -30,39 +35,39 @@ fn fill(out: &mut [u8])
 }
 
 // Marks the allowed clusters: all of them, or those that the gene trees show.
-fn allow(all: bool, n: usize, genes: &[u16], count: usize, allowed: &mut [u8])
-    requires { ⌜ Genes n count (now genes) ⌝ }
+fn allow(all: bool, rooting: Rooting, n: usize, genes: &[u16], count: usize, allowed: &mut [u8])
+    requires { ⌜ Genes rooting n count (now genes) ⌝ }
     requires { ⌜ length (now allowed) ≡ 2 ^ n ⌝ }
-    ensures { λ _. ⌜ now (allowed .exit) ≡ allowedBy all n (recordsIn count (now (genes .entry))) ⌝ }
+    ensures { λ _. ⌜ now (allowed .exit) ≡ allowedBy all rooting n (recordsIn count (now (genes .entry))) ⌝ }
 {
     if all {
         fill(allowed);
         return;
     }
-    lineages::mark(n, genes, count, allowed);
+    lineages::mark(rooting, n, genes, count, allowed);
 }
 
 // The search, with tables of its own.
-fn find(n: usize, genes: &[u16], count: usize, allowed: &[u8]) -> Found
-    requires { ⌜ Genes n count (now genes) ⌝ }
+fn find(rooting: Rooting, n: usize, genes: &[u16], count: usize, allowed: &[u8]) -> Found
+    requires { ⌜ Genes rooting n count (now genes) ⌝ }
     requires { ⌜ Marked n (now allowed) ⌝ }
-    ensures { λ r. ⌜ r ≡ foundBy (bestFor n (recordsIn count (now (genes .entry))) (now (allowed .entry)) (whole n)) (recordsIn count (now (genes .entry))) ⌝ }
+    ensures { λ r. ⌜ r ≡ foundBy rooting (bestFor rooting n (recordsIn count (now (genes .entry))) (now (allowed .entry)) (whole n)) (recordsIn count (now (genes .entry))) ⌝ }
 {
     let mut scores = [0u32; 4096];
     let mut splits = [0u16; 4096];
-    search::search(n, genes, count, allowed, &mut scores, &mut splits)
+    search::search(rooting, n, genes, count, allowed, &mut scores, &mut splits)
 }
 
 // The least tree over the allowed clusters, or the refusal.
-fn solve(line: &[u8], n: usize, genes: &[u16], count: usize, all: bool) -> Report
+fn solve(line: &[u8], n: usize, genes: &[u16], count: usize, all: bool, rooting: Rooting) -> Report
     requires { ⌜ Roster (now line) n ⌝ }
-    requires { ⌜ Genes n count (now genes) ⌝ }
-    ensures { λ r. ⌜ r ≡ told (names (now (line .entry))) (searched n (recordsIn count (now (genes .entry))) (allowedBy all n (recordsIn count (now (genes .entry))))) ⌝ }
+    requires { ⌜ Genes rooting n count (now genes) ⌝ }
+    ensures { λ r. ⌜ r ≡ told (names (now (line .entry))) (searched rooting n (recordsIn count (now (genes .entry))) (allowedBy all rooting n (recordsIn count (now (genes .entry))))) ⌝ }
 {
     let entries = clusters::single(n) as usize;
     let mut allowed = [0u8; 4096];
-    allow(all, n, genes, count, &mut allowed[..entries]);
-    let found = find(n, genes, count, &allowed[..entries]);
+    allow(all, rooting, n, genes, count, &mut allowed[..entries]);
+    let found = find(rooting, n, genes, count, &allowed[..entries]);
     if found.number != 0 {
         return refusal(found.number, found.place);
     }
@@ -70,11 +75,43 @@ fn solve(line: &[u8], n: usize, genes: &[u16], count: usize, all: bool) -> Repor
     solved(line, n, count, found.score, Record { numbers })
 }
 
-// The trees, which begin at `shift` of the input, and what is found of them. `report` calls it, with the rest of its input behind a good roster line and a mode line.
-pub fn on_trees(line: &[u8], trees: &[u8], shift: usize, all: bool, n: usize) -> Report
+// The gene trees that were read, 1 or more: 19 at the first that may not be counted by the rooting, else what is found of them.
+fn on_genes(
+    line: &[u8],
+    trees: &[u8],
+    shift: usize,
+    genes: &[u16],
+    count: usize,
+    all: bool,
+    rooting: Rooting,
+    n: usize,
+) -> Report
     requires { ⌜ Roster (now line) n ⌝ }
     requires { ⌜ shift + length (now trees) ≤ textMost ⌝ }
-    ensures { λ r. ⌜ r ≡ told (names (now (line .entry))) (onTrees (GeneTrees·gather (now (line .entry)) (now (trees .entry))) shift all n) ⌝ }
+    requires { ⌜ gathered (recordsIn count (now genes)) ≡ GeneTrees·gather (now line) (now trees) ⌝ }
+    requires { ⌜ Genes Rooted n count (now genes) ⌝ }
+    ensures { λ r. ⌜ r ≡ told (names (now (line .entry))) (withGenes (recordsIn count (now (genes .entry))) (λ i. treePlace (now (line .entry)) (now (trees .entry)) shift i) all rooting n) ⌝ }
+{
+    let judged = judge_genes(rooting, n, genes, count);
+    if judged.number != 0 {
+        let at = place(line, trees, judged.place);
+        return refusal(19, shift + at);
+    }
+    solve(line, n, genes, count, all, rooting)
+}
+
+// The trees, which begin at `shift` of the input, and what is found of them. `report` calls it, with the rest of its input behind a good roster line and a mode line.
+pub fn on_trees(
+    line: &[u8],
+    trees: &[u8],
+    shift: usize,
+    all: bool,
+    rooting: Rooting,
+    n: usize,
+) -> Report
+    requires { ⌜ Roster (now line) n ⌝ }
+    requires { ⌜ shift + length (now trees) ≤ textMost ⌝ }
+    ensures { λ r. ⌜ r ≡ told (names (now (line .entry))) (onTrees (GeneTrees·gather (now (line .entry)) (now (trees .entry))) (now (line .entry)) (now (trees .entry)) shift all rooting n) ⌝ }
 {
     let mut genes = [0u16; 16384];
     match gather(line, trees, &mut genes) {
@@ -83,7 +120,7 @@ pub fn on_trees(line: &[u8], trees: &[u8], shift: usize, all: bool, n: usize) ->
             if count == 0 {
                 return refusal(11, 0);
             }
-            solve(line, n, &genes, count, all)
+            on_genes(line, trees, shift, &genes, count, all, rooting, n)
         }
     }
 }

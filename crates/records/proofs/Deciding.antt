@@ -1,6 +1,6 @@
 -- What decides a statement, and what a reply that decides one says.
 use mathlib.Core.Path.{_≡_, refl, sym, subst}
-use mathlib.Core.Bool.{Bool, true, false}
+use mathlib.Core.Bool.{Bool, true, false, not}
 use Rattle.trees.specs.Decides.{Decides}
 
 -- true decides a statement that holds
@@ -20,3 +20,8 @@ decides-by false f g = g refl
 pub decides-also : {P Q : Type 0} (b : Bool) → (P → Q) → (Q → P) → Decides b P → Decides b Q
 decides-also true f g d = f d
 decides-also false f g d = λ q. d (g q)
+
+-- the contrary of what decides a statement decides another that holds exactly when it does not
+pub decides-unless : {P Q : Type 0} (b : Bool) → ((P → ⊥) → Q) → (Q → P → ⊥) → Decides b P → Decides (not b) Q
+decides-unless true f g p = λ q. g q p
+decides-unless false f g n = f n

@@ -8,11 +8,12 @@ use native.Mathlib.Omega.{arith}
 use native.Mathlib.Decide.{decLe}
 use lib.ListN.{length, getD, take, drop}
 use Rattle.clusters.specs.Sets.{Apart, Within, within}
-use Rattle.clusters.proofs.Sets.{within-refl, apart-sym, within-true, within-false}
+use Rattle.clusters.proofs.Sets.{within-refl, within-true, within-false}
 use Rattle.trees.specs.Decides.{Decides}
 use Rattle.trees.specs.Lists.{Among}
 use Rattle.trees.specs.Records.{Nested}
 use Rattle.records.proofs.Deciding.{decides-by}
+use Rattle.trees.proofs.Nodes.{nested-sym}
 use Rattle.trees.proofs.Places.{place-among, among-place}
 
 -- ---- two clusters
@@ -22,9 +23,6 @@ pub last-test : (a b : ℕ) (t : Bool) → (Apart a b → ⊥) → (Within a b �
 last-test a b t f g e =
     decides-by t (λ yes. inr (inr (within-true b a (sym e ∙ yes))))
     (λ no. ⊎-elim f (⊎-elim g (within-false b a (sym e ∙ no))))
-
-nested-sym : (a b : ℕ) → Nested a b → Nested b a
-nested-sym a b = ⊎-elim (λ n. inl (apart-sym a b n)) (⊎-elim (λ w. inr (inr w)) (λ w. inr (inl w)))
 
 -- ---- all pairs
 

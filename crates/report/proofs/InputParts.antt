@@ -1,17 +1,20 @@
 -- The input taken apart by offsets: its two first lines, and the part that holds the trees.
 use Prim.Native.Nat.{ℕ, _+_, _-_, _≤_}
-use mathlib.Core.Path.{_≡_, refl, sym, ap, _∙_}
+use mathlib.Core.Path.{_≡_, sym, ap, _∙_}
 use mathlib.Core.Bool.{Bool, true, false}
 use mathlib.Core.List.{List}
 use native.Mathlib.Omega.{arith}
 use lib.ListN.{length, take, drop, length-drop}
 use lib.Seq.{take-all}
 use borrow.Author.Tests.{le-leb, lt-leb}
-use Rattle.roster.specs.Roster.{names, same}
+use Rattle.roster.specs.Roster.{names}
 use Rattle.printing.specs.declared.Report.{Report}
 use Rattle.gather.specs.GeneTrees.{gather}
-use Rattle.report.specs.Input.{lineLength, firstLine, behindLine, endsInFeed, modePlace, treesPlace, allWord, genesWord}
-use Rattle.report.specs.Program.{onMode, onSpecies}
+use Rattle.weights.specs.declared.Rooting.{Rooting}
+use Rattle.report.specs.Input.{lineLength, firstLine, behindLine, endsInFeed, modePlace, treesPlace}
+use Rattle.report.specs.Program.{modeOf, onMode, onSpecies}
+use Rattle.report.specs.declared.modes.Mode.{Mode}
+use Rattle.report.specs.declared.modes.Mode.the-variants.{Another, Over}
 use Rattle.outcomes.specs.Outcome.{onTrees}
 use Rattle.outcomes.specs.Outcome.Outcome.{refused}
 use Rattle.outcomes.specs.Work.{told}
@@ -72,12 +75,10 @@ module _ (input : List ℕ) {end : ℕ} (first : end ≡ lineLength input) where
       unfolding firstLine
       second-word = rw (← second-line, ← behind-first)
 
-      judged :
-          {all genes : Bool} → same (take size (from (end + 1) input)) allWord ≡ all → same (take size (from (end + 1) input)) genesWord ≡ genes
-          → onSpecies true input ≡ onMode all genes input
-      judged a g =
+      judged : {mode : Mode} → mode ≡ modeOf (take size (from (end + 1) input)) → onSpecies true input ≡ onMode mode input
+      judged is =
           let there : endsInFeed (behindLine input) ≡ true = feed-there (behindLine input) second-line (λ h. feed (h ∙ ap length (sym behind-first))) in
-          rw (feed-there input first more, there, second-word, a, g)
+          rw (feed-there input first more, there, second-word, ← is)
 
       -- "Places are offsets in the input": where the trees begin
       trees-place : end + 1 + size + 1 ≡ treesPlace input
@@ -88,24 +89,17 @@ module _ (input : List ℕ) {end : ℕ} (first : end ≡ lineLength input) where
       trees-part = from-is (end + 1 + size + 1) input ∙ ap (λ (k : ℕ). drop k input) trees-place
 
       -- the report of what the trees give in a mode
-      abbrev treesTold : ℕ → Bool → Report
-      treesTold n all =
-          told (names (take end input)) (onTrees (gather (take end input) (from (end + 1 + size + 1) input)) (end + 1 + size + 1) all n)
-
-      module _ {n : ℕ} (named : n ≡ length (names (firstLine input))) {r : Report} where
-        pub all-mode :
-            same (take size (from (end + 1) input)) allWord ≡ true → r ≡ treesTold n true
-            → r ≡ told (names (firstLine input)) (onSpecies true input)
-        all-mode a is = is ∙ rw (judged a refl, first-line, trees-part, trees-place, named)
-
-        pub genes-mode :
-            same (take size (from (end + 1) input)) allWord ≡ false → same (take size (from (end + 1) input)) genesWord ≡ true → r ≡ treesTold n false
-            → r ≡ told (names (firstLine input)) (onSpecies true input)
-        genes-mode a g is = is ∙ rw (judged a g, first-line, trees-part, trees-place, named)
+      pub trees-mode :
+          {n : ℕ} (all : Bool) (rooting : Rooting) → n ≡ length (names (firstLine input)) → {r : Report} → Over all rooting
+          ≡ modeOf (take size (from (end + 1) input))
+          → r
+          ≡ told (names (take end input))
+          (onTrees (gather (take end input) (from (end + 1 + size + 1) input)) (take end input) (from (end + 1 + size + 1) input)
+          (end + 1 + size + 1) all rooting n)
+          → r ≡ told (names (firstLine input)) (onSpecies true input)
+      trees-mode all rooting named is e = e ∙ rw (judged is, first-line, trees-part, trees-place, named)
 
       -- "Another mode word gives 3 at its first byte"
-      pub other-mode :
-          same (take size (from (end + 1) input)) allWord ≡ false → same (take size (from (end + 1) input)) genesWord ≡ false
-          → refused 3 (end + 1) ≡ onSpecies true input
+      pub other-mode : Another ≡ modeOf (take size (from (end + 1) input)) → refused 3 (end + 1) ≡ onSpecies true input
       unfolding modePlace
-      other-mode a g = rw (judged a g, first)
+      other-mode is = rw (judged is, first)

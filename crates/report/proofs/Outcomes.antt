@@ -7,13 +7,15 @@ use native.Mathlib.Omega.{arith}
 use lib.ListN.{length, take, drop, replicate, length-append}
 use lib.Seq.{take-at}
 use lib.Dec.{leb}
-use Rattle.roster.specs.Roster.{names, faulty, same}
+use Rattle.roster.specs.Roster.{names, faulty}
 use Rattle.roster.specs.Judged.{speciesMost}
 use Rattle.reader.specs.Promise.{textMost}
 use Rattle.printing.specs.Texts.{reportBytes}
 use Rattle.printing.specs.declared.Report.{Report}
-use Rattle.report.specs.Input.{firstLine, behindLine, endsInFeed, treesPlace, allWord, genesWord}
-use Rattle.report.specs.Program.{onMode, onFeeds, onSpecies, onRoster, onText, program}
+use Rattle.report.specs.Input.{firstLine, behindLine, endsInFeed, treesPlace}
+use Rattle.report.specs.declared.modes.Mode.{Mode}
+use Rattle.report.specs.declared.modes.Mode.the-variants.{Another, Over}
+use Rattle.report.specs.Program.{modeOf, onMode, onFeeds, onSpecies, onRoster, onText, program}
 use Rattle.outcomes.specs.Outcome.{Outcome, programMost, printed}
 use Rattle.outcomes.specs.Outcome.Outcome.{refused, solved}
 use Rattle.outcomes.proofs.NeverNine.{other-number, trees-never-nine}
@@ -60,15 +62,15 @@ program-never-nine input {number} {place} = sized (leb (length input) textMost)
     NeverNine : Outcome → Type 0
     NeverNine outcome = outcome ≡ refused number place → number ≡ 9 → ⊥
 
-    moded : (all genes : Bool) → NeverNine (onMode all genes input)
-    moded false false e = other-number (λ k. omega arith) e
-    moded false true e = trees-never-nine (firstLine input) (drop (treesPlace input) input) (treesPlace input) false (length (names (firstLine input))) e
-    moded true genes e = trees-never-nine (firstLine input) (drop (treesPlace input) input) (treesPlace input) true (length (names (firstLine input))) e
+    moded : (mode : Mode) → NeverNine (onMode mode input)
+    moded Another e = other-number (λ k. omega arith) e
+    moded (Over all rooting) e =
+        trees-never-nine (firstLine input) (drop (treesPlace input) input) (treesPlace input) all rooting (length (names (firstLine input))) e
 
     fed : (first second : Bool) → NeverNine (onFeeds first second input)
     fed false second e = other-number (λ k. omega arith) e
     fed true false e = other-number (λ k. omega arith) e
-    fed true true e = moded (same (firstLine (behindLine input)) allWord) (same (firstLine (behindLine input)) genesWord) e
+    fed true true e = moded (modeOf (firstLine (behindLine input))) e
 
     counted : (few : Bool) → NeverNine (onSpecies few input)
     counted false e = other-number (λ k. omega arith) e

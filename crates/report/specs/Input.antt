@@ -1,10 +1,12 @@
--- The program's input taken apart: the roster line, the mode line and its two words, and where the trees begin (01, "The program").
+-- The program's input taken apart: the roster line, the mode line and its words, and where the trees begin (01, "The program", with #106).
 use Prim.Native.Nat.{ℕ, _+_}
-use mathlib.Core.Bool.{Bool, not}
-use mathlib.Core.List.{List, [], _∷_}
+use mathlib.Core.Bool.{Bool, true, false, not}
+use mathlib.Core.List.{List, [], _∷_, _++_}
 use lib.ListN.{length, take, drop}
 use lib.Dec.{eqb, leb}
 use Rattle.labels.specs.Bytes.{run}
+use Rattle.weights.specs.declared.Rooting.{Rooting}
+use Rattle.weights.specs.declared.Rooting.the-variants.{Rooted, Unrooted}
 
 -- how long the line at the front is, without its line feed
 unfoldable pub lineLength : List ℕ → ℕ
@@ -37,3 +39,17 @@ allWord = 97 ∷ 108 ∷ 108 ∷ []
 -- `genes`
 abbrev pub genesWord : List ℕ
 genesWord = 103 ∷ 101 ∷ 110 ∷ 101 ∷ 115 ∷ []
+
+-- ` unrooted`, as it stands behind either of them in "`all unrooted` or `genes unrooted`" (#106)
+abbrev pub unrootedBehind : List ℕ
+unrootedBehind = 32 ∷ 117 ∷ 110 ∷ 114 ∷ 111 ∷ 111 ∷ 116 ∷ 101 ∷ 100 ∷ []
+
+-- `all`, else `genes`
+abbrev pub allowedWord : Bool → List ℕ
+allowedWord true = allWord
+allowedWord false = genesWord
+
+-- the word of a mode: whether all clusters are allowed, and how the gene trees are counted
+abbrev pub modeWord : Bool → Rooting → List ℕ
+modeWord all Rooted = allowedWord all
+modeWord all Unrooted = allowedWord all ++ unrootedBehind

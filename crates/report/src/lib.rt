@@ -1,5 +1,6 @@
 // The program as a function from input bytes to output bytes.
 mod lines;
+mod modes;
 
 pub use printing::Report;
 ghost use mathlib.Core.Path.{_≡_};
@@ -12,8 +13,9 @@ ghost use Rattle.report.specs.Input.{lineLength, firstLine};
 ghost use Rattle.report.specs.Program.{onSpecies};
 ghost use Rattle.report.specs.Promise.{Reports};
 ghost use Rattle.outcomes.specs.Work.{told, Roster};
-use lines::is_word;
 use lines::line_length;
+use modes::Mode;
+use modes::mode_of;
 use outcomes::solve::on_trees;
 use printing::refusal;
 
@@ -36,16 +38,13 @@ fn on_mode(input: &[u8], end: usize, n: usize) -> Report
     let line = &input[..end];
     let trees = mode + length + 1;
     let word = &rest[..length];
-    if is_word(word, b"all") {
-        return on_trees(line, &input[trees..], trees, true, n);
+    match mode_of(word) {
+        Mode::Another => refusal(3, mode),
+        Mode::Over(all, rooting) => on_trees(line, &input[trees..], trees, all, rooting, n),
     }
-    if is_word(word, b"genes") {
-        return on_trees(line, &input[trees..], trees, false, n);
-    }
-    refusal(3, mode)
 }
 
-// "Checks: 2, 1, 17, mode, trees, 11, 14".
+// "Checks: 2, 1, 17, mode, trees, 11, 14", with 19 "after 11" (#106).
 pub fn report(input: &[u8]) -> Report
     ensures { λ r. ⌜ Reports (now (input .entry)) r ⌝ }
 {

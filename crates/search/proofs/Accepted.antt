@@ -10,10 +10,11 @@ use borrow.Author.Tests.{ltb-false, leb-true, le-leb, le-ltb, not-false}
 use Rattle.roster.proofs.Least.{least-first, least-none}
 use Rattle.trees.specs.Records.{recordsIn}
 use Rattle.roster.specs.Verdict.{Test, verdict, verdictBy, lengthTest}
-use Rattle.lineages.specs.Checks.{speciesTest, countTest, firstBad, recordsTest}
-use Rattle.lineages.proofs.FirstBad.{none-bad, all-valid-none-bad}
+use Rattle.lineages.specs.Checks.{speciesTest, countTest, firstBad, recordsTest, rootingTest}
+use Rattle.lineages.proofs.FirstBad.{none-bad, all-valid-none-bad, none-unresolved, all-resolved}
 use Rattle.search.specs.Promise.{firstStrange, allowedTest, searchTests}
 use Rattle.search.specs.Candidates.{Accepted}
+use Rattle.weights.specs.declared.Rooting.{Rooting}
 
 -- ---- a list of tests passes when each does
 
@@ -63,9 +64,9 @@ none-strange n bytes h =
 
 -- ---- accepted input
 
-module _ (n : ℕ) (genes : List ℕ) (count : ℕ) (allowed scores splits : List ℕ) where
-  pub accepted : verdict (searchTests n genes count allowed scores splits) .number ≡ 0 → Accepted n genes count allowed scores splits
-  unfolding searchTests speciesTest countTest lengthTest recordsTest allowedTest
+module _ (rooting : Rooting) (n : ℕ) (genes : List ℕ) (count : ℕ) (allowed scores splits : List ℕ) where
+  pub accepted : verdict (searchTests rooting n genes count allowed scores splits) .number ≡ 0 → Accepted rooting n genes count allowed scores splits
+  unfolding searchTests speciesTest countTest lengthTest recordsTest rootingTest allowedTest
   accepted e =
       let a = verdict-passed _ _ (λ z. omega arith) e in
       let b = verdict-passed _ _ (λ z. omega arith) (a .1) in
@@ -74,7 +75,8 @@ module _ (n : ℕ) (genes : List ℕ) (count : ℕ) (allowed scores splits : Lis
       let f = verdict-passed _ _ (λ z. omega arith) (d .1) in
       let g = verdict-passed _ _ (λ z. omega arith) (f .1) in
       let h = verdict-passed _ _ (λ z. omega arith) (g .1) in
-      let k = verdict-passed _ _ (λ z. omega arith) (h .1) in
+      let u = verdict-passed _ _ (λ z. omega arith) (h .1) in
+      let k = verdict-passed _ _ (λ z. omega arith) (u .1) in
       let species = both (leb 1 n) (leb n 16) (a .0) in
       let trees = both (leb 1 count) (leb count 4096) (b .0) in
       let few = leb-true n 16 (species .1) in
@@ -88,6 +90,7 @@ module _ (n : ℕ) (genes : List ℕ) (count : ℕ) (allowed scores splits : Lis
             fits = ltb-false (length genes) (32 * count) (c .0);
           };
           valid = none-bad n (recordsIn count genes) few (ltb-false (firstBad n (recordsIn count genes)) (length (recordsIn count genes)) (h .0));
+          enter = none-unresolved rooting n (recordsIn count genes) (u .0);
         };
         allowed-fits = ltb-false (length allowed) (2 ^ n) (d .0);
         scores-fit = ltb-false (length scores) (2 ^ n) (f .0);
@@ -95,8 +98,8 @@ module _ (n : ℕ) (genes : List ℕ) (count : ℕ) (allowed scores splits : Lis
         allowed-bytes = strange-none n allowed (ltb-false (firstStrange n allowed) (2 ^ n) (k .0));
       }
 
-  pub accepts : Accepted n genes count allowed scores splits → verdict (searchTests n genes count allowed scores splits) .number ≡ 0
-  unfolding searchTests speciesTest countTest lengthTest recordsTest allowedTest verdict
+  pub accepts : Accepted rooting n genes count allowed scores splits → verdict (searchTests rooting n genes count allowed scores splits) .number ≡ 0
+  unfolding searchTests speciesTest countTest lengthTest recordsTest rootingTest allowedTest verdict
   accepts a =
       let s = a .in-order .shaped in
       rw (
@@ -109,13 +112,22 @@ module _ (n : ℕ) (genes : List ℕ) (count : ℕ) (allowed scores splits : Lis
         le-ltb (length scores) (2 ^ n) (a .scores-fit),
         le-ltb (length splits) (2 ^ n) (a .splits-fit),
         le-ltb (firstBad n (recordsIn count genes)) (length (recordsIn count genes)) (let e = all-valid-none-bad n (recordsIn count genes) (s .few-species) (a .in-order .valid) in omega arith),
+        all-resolved rooting n (recordsIn count genes) (a .in-order .enter),
         le-ltb (firstStrange n allowed) (2 ^ n) (none-strange n allowed (a .allowed-bytes)),
       )
 
   -- 14 is no number of these tests: it comes from the search alone
-  pub no-fourteen : verdict (searchTests n genes count allowed scores splits) .number ≡ 14 → ⊥
-  unfolding searchTests speciesTest countTest lengthTest recordsTest allowedTest NoneGives
+  pub no-fourteen : verdict (searchTests rooting n genes count allowed scores splits) .number ≡ 14 → ⊥
+  unfolding searchTests speciesTest countTest lengthTest recordsTest rootingTest allowedTest NoneGives
   no-fourteen e =
-      verdict-never 14 (searchTests n genes count allowed scores splits) (λ z. omega arith)
-      (λ z. omega arith, (λ z. omega arith, (λ z. omega arith, (λ z. omega arith, (λ z. omega arith, (λ z. omega arith, (λ z. omega arith, (λ z. omega arith, tt))))))))
+      verdict-never 14 (searchTests rooting n genes count allowed scores splits) (λ z. omega arith) (
+        λ z. omega arith,
+        (
+          λ z. omega arith,
+          (
+            λ z. omega arith,
+            (λ z. omega arith, (λ z. omega arith, (λ z. omega arith, (λ z. omega arith, (λ z. omega arith, (λ z. omega arith, tt)))))),
+          ),
+        ),
+      )
       e

@@ -14,7 +14,7 @@ use Rattle.trees.specs.Lists.{pieces}
 use Rattle.trees.specs.Thinned.{AllThinned}
 use Rattle.trees.proofs.Lent.{length-recordsIn}
 use Rattle.roster.specs.Verdict.{Test, Verdict, verdict}
-use Rattle.lineages.specs.Checks.{speciesTest, recordsTest}
+use Rattle.lineages.specs.Checks.{speciesTest, recordsTest, rootingTest}
 use Rattle.weights.proofs.Dropped.{score-never-rises}
 use Rattle.solver.specs.declared.Found.{Found}
 use Rattle.search.specs.Promise.{searchTests, Finds}
@@ -24,44 +24,46 @@ use Rattle.search.proofs.Accepted.{accepted}
 use Rattle.search.proofs.Demand.{Replied, replied, no-score-falls}
 use Rattle.search.proofs.Demand.Replied.{answered, nothing}
 use Rattle.search.proofs.Unread.{both-fit}
+use Rattle.weights.specs.declared.Rooting.the-variants.{Rooted}
 
-module _ {n : ℕ} {genes : List ℕ} {count : ℕ} {allowed scores splits : List ℕ} {r : Found} {s p : List ℕ} (f : Finds n genes count allowed scores splits r s p) where
+module _ {n : ℕ} {genes : List ℕ} {count : ℕ} {allowed scores splits : List ℕ} {r : Found} {s p : List ℕ} (f : Finds Rooted n genes count allowed scores splits r s p) where
   -- an accepted call has place 0
-  accepted-place : Accepted n genes count allowed scores splits → r .place ≡ 0
+  accepted-place : Accepted Rooted n genes count allowed scores splits → r .place ≡ 0
   accepted-place a = go (replied f a)
     where
-      go : Replied n (recordsIn count genes) allowed r → r .place ≡ 0
+      go : Replied Rooted n (recordsIn count genes) allowed r → r .place ≡ 0
       go (answered number place answer) = place
       go (nothing number place score numbers none) = place
 
   -- a refused one has the number and the place of the test that refuses, and score 0
   refused :
-      (k : ℕ) → verdict (searchTests n genes count allowed scores splits) .number ≡ suc k
-      → r ≡ record { number = suc k; place = verdict (searchTests n genes count allowed scores splits) .place; score = 0; numbers = replicate 32 0 }
+      (k : ℕ) → verdict (searchTests Rooted n genes count allowed scores splits) .number ≡ suc k
+      → r ≡ record { number = suc k; place = verdict (searchTests Rooted n genes count allowed scores splits) .place; score = 0; numbers = replicate 32 0 }
   refused k e = rw e at (f .reply)
 
--- ---- two calls, over one allowed set
+-- ---- two calls, over one allowed set, gene trees counted with their roots
 
 module _ {n : ℕ} {genes genes′ : List ℕ} {count : ℕ} {allowed scores splits scores′ splits′ : List ℕ} {r q : Found} {s p s′ p′ : List ℕ}
     (thinned : AllThinned (recordsIn count genes) (recordsIn count genes′))
-    (f : Finds n genes count allowed scores splits r s p) (f′ : Finds n genes′ count allowed scores′ splits′ q s′ p′) where
+    (f : Finds Rooted n genes count allowed scores splits r s p) (f′ : Finds Rooted n genes′ count allowed scores′ splits′ q s′ p′) where
   -- two calls that are accepted: whether there is a tree does not change, and the least score does not rise
-  pub dropped-clusters : Accepted n genes count allowed scores splits → Accepted n genes′ count allowed scores′ splits′ → (q .number ≡ r .number) × (q .score ≤ r .score)
+  pub dropped-clusters : Accepted Rooted n genes count allowed scores splits → Accepted Rooted n genes′ count allowed scores′ splits′
+      → (q .number ≡ r .number) × (q .score ≤ r .score)
   dropped-clusters a a′ = no-score-falls (score-never-rises (a .in-order .shaped .few-species) (a .in-order .valid) (a′ .in-order .valid) thinned) f′ f a′ a
 
   -- two calls of which the tests before the search say the same
   pub dropped-judged-the-same :
-      verdict (searchTests n genes count allowed scores splits) ≡ verdict (searchTests n genes′ count allowed scores′ splits′)
+      verdict (searchTests Rooted n genes count allowed scores splits) ≡ verdict (searchTests Rooted n genes′ count allowed scores′ splits′)
       → (q .number ≡ r .number) × (q .place ≡ r .place) × (q .score ≤ r .score)
-  dropped-judged-the-same same = go (verdict (searchTests n genes count allowed scores splits) .number) refl
+  dropped-judged-the-same same = go (verdict (searchTests Rooted n genes count allowed scores splits) .number) refl
     where
-      number-same : verdict (searchTests n genes count allowed scores splits) .number ≡ verdict (searchTests n genes′ count allowed scores′ splits′) .number
+      number-same : verdict (searchTests Rooted n genes count allowed scores splits) .number ≡ verdict (searchTests Rooted n genes′ count allowed scores′ splits′) .number
       number-same = ap (λ (v : Verdict). v .number) same
 
-      go : (k : ℕ) → verdict (searchTests n genes count allowed scores splits) .number ≡ k → (q .number ≡ r .number) × (q .place ≡ r .place) × (q .score ≤ r .score)
+      go : (k : ℕ) → verdict (searchTests Rooted n genes count allowed scores splits) .number ≡ k → (q .number ≡ r .number) × (q .place ≡ r .place) × (q .score ≤ r .score)
       go zero e =
-          let a = accepted n genes count allowed scores splits e in
-          let a′ = accepted n genes′ count allowed scores′ splits′ (sym number-same ∙ e) in
+          let a = accepted Rooted n genes count allowed scores splits e in
+          let a′ = accepted Rooted n genes′ count allowed scores′ splits′ (sym number-same ∙ e) in
           let both = dropped-clusters a a′ in
           (both .0, accepted-place f′ a′ ∙ sym (accepted-place f a), both .1)
       go (suc k) e =
@@ -109,26 +111,30 @@ pub record JudgedAlike (n count : ℕ) (genes genes′ scores scores′ splits s
   pub splits-fit : (2 ^ n ≤ length splits) ↔ (2 ^ n ≤ length splits′)
 
 module _ (n count : ℕ) (genes genes′ allowed scores scores′ splits splits′ : List ℕ) (alike : JudgedAlike n count genes genes′ scores scores′ splits splits′) where
-  judged-alike : verdict (searchTests n genes count allowed scores splits) ≡ verdict (searchTests n genes′ count allowed scores′ splits′)
+  judged-few : n ≤ 16 → verdict (searchTests Rooted n genes count allowed scores splits) ≡ verdict (searchTests Rooted n genes′ count allowed scores′ splits′)
+  unfolding searchTests verdict rootingTest
+  judged-few few =
+      rw (
+        both-fit (32 * count) genes genes′ (λ h. valid-fit count genes′ (alike .valid′), λ h. valid-fit count genes (alike .valid)),
+        both-fit (2 ^ n) scores scores′ (alike .scores-fit),
+        both-fit (2 ^ n) splits splits′ (alike .splits-fit),
+        valid-test count genes few (alike .valid),
+        valid-test count genes′ few (alike .valid′),
+      )
+
+  judged-alike : verdict (searchTests Rooted n genes count allowed scores splits) ≡ verdict (searchTests Rooted n genes′ count allowed scores′ splits′)
   unfolding searchTests
   judged-alike = go (decLe n 16)
     where
-      go : Dec (n ≤ 16) → verdict (searchTests n genes count allowed scores splits) ≡ verdict (searchTests n genes′ count allowed scores′ splits′)
-      go (yes few) =
-          rw (
-            both-fit (32 * count) genes genes′ (λ h. valid-fit count genes′ (alike .valid′), λ h. valid-fit count genes (alike .valid)),
-            both-fit (2 ^ n) scores scores′ (alike .scores-fit),
-            both-fit (2 ^ n) splits splits′ (alike .splits-fit),
-            valid-test count genes few (alike .valid),
-            valid-test count genes′ few (alike .valid′),
-          )
+      go : Dec (n ≤ 16) → verdict (searchTests Rooted n genes count allowed scores splits) ≡ verdict (searchTests Rooted n genes′ count allowed scores′ splits′)
+      go (yes few) = judged-few few
       go (no many) = verdict-faulty (speciesTest n) _ _ (many-species n (omega arith))
 
 -- two calls with valid gene records, alike in all else that is judged: the same number and place in all cases, and no higher score
 pub dropped-in-all-cases :
     {n : ℕ} {genes genes′ : List ℕ} {count : ℕ} {allowed scores splits scores′ splits′ : List ℕ} {r q : Found} {s p s′ p′ : List ℕ}
     → AllThinned (recordsIn count genes) (recordsIn count genes′) → JudgedAlike n count genes genes′ scores scores′ splits splits′
-    → Finds n genes count allowed scores splits r s p → Finds n genes′ count allowed scores′ splits′ q s′ p′
+    → Finds Rooted n genes count allowed scores splits r s p → Finds Rooted n genes′ count allowed scores′ splits′ q s′ p′
     → (q .number ≡ r .number) × (q .place ≡ r .place) × (q .score ≤ r .score)
 dropped-in-all-cases {n} {genes} {genes′} {count} {allowed} {scores} {splits} {scores′} {splits′} thinned alike f f′ =
     dropped-judged-the-same thinned f f′ (judged-alike n count genes genes′ allowed scores scores′ splits splits′ alike)

@@ -10,12 +10,13 @@ use lib.Dec.{leb}
 use borrow.Author.Tests.{lt-ltb, le-ltb}
 use Rattle.clusters.specs.Sets.{whole}
 use Rattle.roster.specs.Roster.{least}
+use Rattle.roster.specs.declared.Reply.{Reply}
 use Rattle.roster.specs.Verdict.{Test, verdict, lengthTest}
 use Rattle.weights.specs.Count.{weight}
 use Rattle.trees.specs.Records.{recordsIn}
-use Rattle.lineages.specs.Checks.{firstBad, recordsTest}
+use Rattle.lineages.specs.Checks.{recordsTest, rootingTest}
 use Rattle.lineages.specs.InOrder.{Shaped}
-use Rattle.lineages.specs.Work.{shapeTests, said}
+use Rattle.lineages.specs.Work.{shapeTests, said, GenesJudged}
 use Rattle.lineages.proofs.Verdicts.{verdict-first, shape-passed}
 use Rattle.lineages.proofs.FirstBad.{checked-countable}
 use Rattle.splits.specs.Least.{scoreEntry, splitEntry}
@@ -23,22 +24,25 @@ use Rattle.search.specs.Promise.{firstStrange, allowedTest, searchTests,
 use Rattle.solver.specs.Best.{bestFor, foundBy}
 use Rattle.solver.specs.Work.{without, LongEnough, Checked, Solves}
 use Rattle.solver.specs.declared.Found.{Found}
-use Rattle.lineages.proofs.Calls.{record-refused, records-passed}
+use Rattle.lineages.proofs.Calls.{genes-refused, genes-passed}
+use Rattle.weights.specs.declared.Rooting.{Rooting}
 
 -- what is judged after the shape
-searchRest : ℕ → List ℕ → ℕ → List ℕ → List ℕ → List ℕ → List Test
-searchRest n genes count allowed scores splits =
+searchRest : Rooting → ℕ → List ℕ → ℕ → List ℕ → List ℕ → List ℕ → List Test
+searchRest rooting n genes count allowed scores splits =
     lengthTest (length allowed) (2 ^ n) ∷ lengthTest (length scores) (2 ^ n) ∷ lengthTest (length splits) (2 ^ n)
     ∷ recordsTest n (recordsIn count genes)
+    ∷ rootingTest rooting n (recordsIn count genes)
     ∷ allowedTest n allowed
     ∷ []
 
 -- ---- 12
 
-module _ (n : ℕ) (genes : List ℕ) (count : ℕ) (allowed scores splits : List ℕ) where
+module _ (rooting : Rooting) (n : ℕ) (genes : List ℕ) (count : ℕ) (allowed scores splits : List ℕ) where
   long-passed :
       LongEnough (2 ^ n) allowed scores splits
-      → verdict (searchRest n genes count allowed scores splits) ≡ verdict (recordsTest n (recordsIn count genes) ∷ allowedTest n allowed ∷ [])
+      → verdict (searchRest rooting n genes count allowed scores splits)
+      ≡ verdict (recordsTest n (recordsIn count genes) ∷ rootingTest rooting n (recordsIn count genes) ∷ allowedTest n allowed ∷ [])
   unfolding searchRest verdict lengthTest
   long-passed l =
       rw (
@@ -47,19 +51,19 @@ module _ (n : ℕ) (genes : List ℕ) (count : ℕ) (allowed scores splits : Lis
         le-ltb (length splits) (2 ^ n) (l .splits-long),
       )
 
-  short-refused : (LongEnough (2 ^ n) allowed scores splits → ⊥) → verdict (searchRest n genes count allowed scores splits) ≡ said 12 0
+  short-refused : (LongEnough (2 ^ n) allowed scores splits → ⊥) → verdict (searchRest rooting n genes count allowed scores splits) ≡ said 12 0
   unfolding searchRest verdict lengthTest
   short-refused f = go (decLe (2 ^ n) (length allowed)) (decLe (2 ^ n) (length scores)) (decLe (2 ^ n) (length splits))
     where
       go :
           Dec (2 ^ n ≤ length allowed) → Dec (2 ^ n ≤ length scores) → Dec (2 ^ n ≤ length splits)
-          → verdict (searchRest n genes count allowed scores splits) ≡ said 12 0
+          → verdict (searchRest rooting n genes count allowed scores splits) ≡ said 12 0
       go (no a) b c = rw (lt-ltb (length allowed) (2 ^ n) (omega arith))
       go (yes a) (no b) c = rw (le-ltb (length allowed) (2 ^ n) a, lt-ltb (length scores) (2 ^ n) (omega arith))
       go (yes a) (yes b) (no c) = rw (le-ltb (length allowed) (2 ^ n) a, le-ltb (length scores) (2 ^ n) b, lt-ltb (length splits) (2 ^ n) (omega arith))
       go (yes a) (yes b) (yes c) = absurd (f (record { allowed-long = a; scores-long = b; splits-long = c }))
 
--- ---- 15 and 13
+-- ---- 13
 
 module _ (n : ℕ) (allowed : List ℕ) {strange : ℕ} (found : strange ≡ firstStrange n allowed) where
   byte-refused : strange < 2 ^ n → verdict (allowedTest n allowed ∷ []) ≡ said 13 strange
@@ -79,39 +83,40 @@ strange-is n allowed p e = e ∙ ap (least (λ a. not (leb (getD allowed a 0) 1)
 
 -- ---- the checks that were passed
 
-module _ (n : ℕ) (genes : List ℕ) (count : ℕ) (allowed scores splits : List ℕ) (shaped : Shaped n genes count) where
+module _ (rooting : Rooting) (n : ℕ) (genes : List ℕ) (count : ℕ) (allowed scores splits : List ℕ) (shaped : Shaped n genes count) where
   -- behind the shape the rest decides
-  shape-told : verdict (searchTests n genes count allowed scores splits) ≡ verdict (searchRest n genes count allowed scores splits)
+  shape-told : verdict (searchTests rooting n genes count allowed scores splits) ≡ verdict (searchRest rooting n genes count allowed scores splits)
   unfolding searchTests shapeTests searchRest
-  shape-told = shape-passed n genes count (searchRest n genes count allowed scores splits) shaped
+  shape-told = shape-passed n genes count (searchRest rooting n genes count allowed scores splits) shaped
 
   module _ (long : LongEnough (2 ^ n) allowed scores splits) where
     -- behind the lengths the records and the allowed bytes do
-    long-told : verdict (searchTests n genes count allowed scores splits) ≡ verdict (recordsTest n (recordsIn count genes) ∷ allowedTest n allowed ∷ [])
-    long-told = shape-told ∙ long-passed n genes count allowed scores splits long
+    long-told : verdict (searchTests rooting n genes count allowed scores splits)
+        ≡ verdict (recordsTest n (recordsIn count genes) ∷ rootingTest rooting n (recordsIn count genes) ∷ allowedTest n allowed ∷ [])
+    long-told = shape-told ∙ long-passed rooting n genes count allowed scores splits long
 
-    pub checked : {bad : ℕ} → bad ≡ firstBad n (recordsIn count genes) → count ≤ bad → Checked n genes count allowed scores splits
-    checked found l = record {
+    pub checked : {judged : Reply} → GenesJudged rooting n genes count judged → judged .number ≡ 0 → Checked n genes count allowed scores splits
+    checked told none = record {
       some-species = shaped .some-species;
       few-species = shaped .few-species;
       few-genes = shaped .few-genes;
       genes-long = shaped .fits;
-      countable = checked-countable n genes count (shaped .few-species) found l;
+      countable = checked-countable rooting n genes count told none (shaped .few-species);
       long = long;
     }
 
 -- ---- the ways
 
-module _ (n : ℕ) (genes : List ℕ) (count : ℕ) (allowed scores splits : List ℕ) {r : Found} {scoresAfter splitsAfter : List ℕ} where
+module _ (rooting : Rooting) (n : ℕ) (genes : List ℕ) (count : ℕ) (allowed scores splits : List ℕ) {r : Found} {scoresAfter splitsAfter : List ℕ} where
   -- a refusal: no tree, and both tables as they were lent
-  finds-refused : {number place : ℕ} → verdict (searchTests n genes count allowed scores splits) ≡ said number place → (number ≡ 0 → ⊥)
+  finds-refused : {number place : ℕ} → verdict (searchTests rooting n genes count allowed scores splits) ≡ said number place → (number ≡ 0 → ⊥)
       → r ≡ without number place → scoresAfter ≡ scores → splitsAfter ≡ splits
-      → Finds n genes count allowed scores splits r scoresAfter splitsAfter
+      → Finds rooting n genes count allowed scores splits r scoresAfter splitsAfter
   finds-refused {number} {place} e f p q s =
       record {
-        reply = p ∙ rw e (told number f (foundBy (bestFor n (recordsIn count genes) allowed (whole n)) (recordsIn count genes)));
-        scoreTable = q ∙ rw e (kept number f (λ a. scoreEntry (weight (recordsIn count genes)) (bestFor n (recordsIn count genes) allowed a)) scores);
-        splitTable = s ∙ rw e (kept number f (λ a. splitEntry (bestFor n (recordsIn count genes) allowed a)) splits);
+        reply = p ∙ rw e (told number f (foundBy rooting (bestFor rooting n (recordsIn count genes) allowed (whole n)) (recordsIn count genes)));
+        scoreTable = q ∙ rw e (kept number f (λ a. scoreEntry (weight rooting (recordsIn count genes)) (bestFor rooting n (recordsIn count genes) allowed a)) scores);
+        splitTable = s ∙ rw e (kept number f (λ a. splitEntry (bestFor rooting n (recordsIn count genes) allowed a)) splits);
       }
     where
       told : (k : ℕ) → (k ≡ 0 → ⊥) → (found : Found) → without k place ≡ foundOr k place found
@@ -125,42 +130,42 @@ module _ (n : ℕ) (genes : List ℕ) (count : ℕ) (allowed scores splits : Lis
   pub finds-shape :
       {number : ℕ} → verdict (shapeTests n genes count) ≡ said number 0 → (number ≡ 0 → ⊥)
       → r ≡ without number 0 → scoresAfter ≡ scores → splitsAfter ≡ splits
-      → Finds n genes count allowed scores splits r scoresAfter splitsAfter
+      → Finds rooting n genes count allowed scores splits r scoresAfter splitsAfter
   unfolding searchTests shapeTests searchRest
-  finds-shape e f p q s = finds-refused (verdict-first (shapeTests n genes count) (searchRest n genes count allowed scores splits) e f) f p q s
+  finds-shape e f p q s = finds-refused (verdict-first (shapeTests n genes count) (searchRest rooting n genes count allowed scores splits) e f) f p q s
 
   module _ (shaped : Shaped n genes count) where
     pub finds-short : (LongEnough (2 ^ n) allowed scores splits → ⊥) → r ≡ without 12 0 → scoresAfter ≡ scores → splitsAfter ≡ splits
-        → Finds n genes count allowed scores splits r scoresAfter splitsAfter
+        → Finds rooting n genes count allowed scores splits r scoresAfter splitsAfter
     finds-short f p q s =
-        finds-refused (shape-told n genes count allowed scores splits shaped ∙ short-refused n genes count allowed scores splits f) (λ z. omega arith) p q s
+        finds-refused (shape-told rooting n genes count allowed scores splits shaped ∙ short-refused rooting n genes count allowed scores splits f) (λ z. omega arith) p q s
 
-    module _ (long : LongEnough (2 ^ n) allowed scores splits) {bad : ℕ} (found : bad ≡ firstBad n (recordsIn count genes)) where
-      pub finds-bad : bad < count → r ≡ without 15 bad → scoresAfter ≡ scores → splitsAfter ≡ splits
-          → Finds n genes count allowed scores splits r scoresAfter splitsAfter
-      finds-bad l p q s =
+    module _ (long : LongEnough (2 ^ n) allowed scores splits) {judged : Reply} (told : GenesJudged rooting n genes count judged) where
+      pub finds-bad : (judged .number ≡ 0 → ⊥) → r ≡ without (judged .number) (judged .place) → scoresAfter ≡ scores → splitsAfter ≡ splits
+          → Finds rooting n genes count allowed scores splits r scoresAfter splitsAfter
+      finds-bad f p q s =
           finds-refused
-          (long-told n genes count allowed scores splits shaped long ∙ record-refused n genes count (allowedTest n allowed ∷ []) found l)
-          (λ z. omega arith) p q s
+          (long-told rooting n genes count allowed scores splits shaped long ∙ genes-refused rooting n genes count told (allowedTest n allowed ∷ []) f)
+          f p q s
 
       pub finds-strange :
-          {strange : ℕ} → count ≤ bad → strange ≡ firstStrange n allowed → strange < 2 ^ n
+          {strange : ℕ} → judged .number ≡ 0 → strange ≡ firstStrange n allowed → strange < 2 ^ n
           → r ≡ without 13 strange → scoresAfter ≡ scores → splitsAfter ≡ splits
-          → Finds n genes count allowed scores splits r scoresAfter splitsAfter
-      finds-strange l e m p q s =
+          → Finds rooting n genes count allowed scores splits r scoresAfter splitsAfter
+      finds-strange none e m p q s =
           finds-refused
-          (long-told n genes count allowed scores splits shaped long
-          ∙ records-passed n genes count (allowedTest n allowed ∷ []) found l
+          (long-told rooting n genes count allowed scores splits shaped long
+          ∙ genes-passed rooting n genes count told (allowedTest n allowed ∷ []) none
           ∙ byte-refused n allowed e m)
           (λ z. omega arith) p q s
 
-      pub finds-solved : {strange : ℕ} → count ≤ bad → strange ≡ firstStrange n allowed → 2 ^ n ≤ strange
-          → Solves n (recordsIn count genes) allowed scores splits r scoresAfter splitsAfter
-          → Finds n genes count allowed scores splits r scoresAfter splitsAfter
-      finds-solved l e m s =
-          let told =
-          long-told n genes count allowed scores splits shaped long
-          ∙ records-passed n genes count (allowedTest n allowed ∷ []) found l
+      pub finds-solved : {strange : ℕ} → judged .number ≡ 0 → strange ≡ firstStrange n allowed → 2 ^ n ≤ strange
+          → Solves rooting n (recordsIn count genes) allowed scores splits r scoresAfter splitsAfter
+          → Finds rooting n genes count allowed scores splits r scoresAfter splitsAfter
+      finds-solved none e m s =
+          let passed =
+          long-told rooting n genes count allowed scores splits shaped long
+          ∙ genes-passed rooting n genes count told (allowedTest n allowed ∷ []) none
           ∙ bytes-passed n allowed e m
           in
-          record { reply = s .reply ∙ rw told; scoreTable = s .scoreTable ∙ rw told; splitTable = s .splitTable ∙ rw told }
+          record { reply = s .reply ∙ rw passed; scoreTable = s .scoreTable ∙ rw passed; splitTable = s .splitTable ∙ rw passed }

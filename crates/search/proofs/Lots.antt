@@ -18,6 +18,7 @@ use Rattle.search.specs.Candidates.{Candidate, SameAllowed}
 use Rattle.search.specs.LeastAmong.{LeastAmong, LeastNumber}
 use Rattle.search.proofs.Demand.{answer}
 use Rattle.search.proofs.Unread.{same-allowed-in}
+use Rattle.weights.specs.declared.Rooting.{Rooting}
 
 -- ---- what is least, by the least number
 
@@ -110,17 +111,18 @@ module _ {A Lot : Type 0} {Competes : Lot → A → Type 0} {number : Lot → A 
 
 -- the score over lots of gene trees, one after the other, is the sum of their scores
 pub score-of-lots :
-    {Lot : Type 0} (records : Lot → List (List ℕ)) (lots : List Lot) (c : List ℕ) → score (each records lots) c ≡ total (map (λ (l : Lot). score (records l) c) lots)
+    (rooting : Rooting) {Lot : Type 0} (records : Lot → List (List ℕ)) (lots : List Lot) (c : List ℕ)
+    → score rooting (each records lots) c ≡ total (map (λ (l : Lot). score rooting (records l) c) lots)
 unfolding each total
-score-of-lots records [] c = omega (arith, score-append [] [] c)
-score-of-lots records (l ∷ lots) c = omega (arith, score-append (records l) (each records lots) c, score-of-lots records lots c)
+score-of-lots rooting records [] c = omega (arith, score-append rooting [] [] c)
+score-of-lots rooting records (l ∷ lots) c = omega (arith, score-append rooting (records l) (each records lots) c, score-of-lots rooting records lots c)
 
 -- the reply's score is the least score
 pub reply-is-least :
-    {n : ℕ} {genes : List ℕ} {count : ℕ} {allowed scores splits : List ℕ} {r : Found} {scoresAfter splitsAfter : List ℕ}
-    → Finds n genes count allowed scores splits r scoresAfter splitsAfter → r .number ≡ 0
-    → LeastNumber (Candidate n allowed) (score (recordsIn count genes)) (r .score)
-reply-is-least {r = r} f z =
+    {rooting : Rooting} {n : ℕ} {genes : List ℕ} {count : ℕ} {allowed scores splits : List ℕ} {r : Found} {scoresAfter splitsAfter : List ℕ}
+    → Finds rooting n genes count allowed scores splits r scoresAfter splitsAfter → r .number ≡ 0
+    → LeastNumber (Candidate n allowed) (score rooting (recordsIn count genes)) (r .score)
+reply-is-least {rooting} {r = r} f z =
     let a = answer f z in
     record { holder = r .numbers; least = record { competes = a .competes; least = λ d k. let e = a .counted in let p = a .least d k in omega arith }; is = a .counted }
 

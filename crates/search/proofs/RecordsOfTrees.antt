@@ -26,6 +26,7 @@ use Rattle.splits.proofs.LowParts.{low-some, low-part-two}
 use Rattle.splits.proofs.Membership.{tree-clusters, listed-well-formed, well-formed-listed}
 use Rattle.search.proofs.DrawnBinary.{InFork, among-fork, fork-among, tree-inside, tree-once, drawing, drawing-on, drawing-among, among-drawing, lowTree, lowTree-on, lowTree-among, among-lowTree}
 use Rattle.search.proofs.DrawnBinary.InFork.{at-root, in-low, in-other}
+use Rattle.weights.specs.declared.Rooting.{Rooting}
 
 -- ---- the record of a binary tree is valid and binary
 
@@ -162,10 +163,10 @@ unfolding total sorted
 total-sorted w [] = refl
 total-sorted w (x ∷ l) = total-insert w x (sorted l) ∙ ap (λ n. w x + n) (total-sorted w l)
 
-pub score-of-record : (genes : List (List ℕ)) (t : Binary) → score genes (recordOf (clustersIn t)) ≡ scoreOf (weight genes) t
+pub score-of-record : (rooting : Rooting) (genes : List (List ℕ)) (t : Binary) → score rooting genes (recordOf (clustersIn t)) ≡ scoreOf (weight rooting genes) t
 unfolding score scoreOf
-score-of-record genes t =
-    ap (λ l. total (map (λ a. weight genes a) l)) (listed-record (clustersIn t)) ∙ total-sorted (λ a. weight genes a) (clustersIn t)
+score-of-record rooting genes t =
+    ap (λ l. total (map (λ a. weight rooting genes a) l)) (listed-record (clustersIn t)) ∙ total-sorted (λ a. weight rooting genes a) (clustersIn t)
 
 -- ---- the same for n species
 

@@ -29,6 +29,7 @@ use Rattle.search.specs.Candidates.{SameAllowed, SameTable}
 use Rattle.search.proofs.BestTrees.{best-local}
 use Rattle.search.proofs.Accepted.{accepts}
 use Rattle.search.proofs.Demand.{accepted-of}
+use Rattle.weights.specs.declared.Rooting.{Rooting}
 
 -- ---- allowed sets that say the same
 
@@ -105,7 +106,7 @@ filled-same n (suc k) k′ entry entry′ lent after lent′ after′ e e′ z z
 -- ---- two calls that agree on what is read
 
 -- they agree on n, count, the gene entries that are needed, what is allowed, and whether each table is long enough
-module _ (n count : ℕ) (genes genes′ allowed allowed′ scores scores′ splits splits′ : List ℕ)
+module _ (rooting : Rooting) (n count : ℕ) (genes genes′ allowed allowed′ scores scores′ splits splits′ : List ℕ)
     (same-genes : take (32 * count) genes ≡ take (32 * count) genes′) (same-allowed : SameAllowed n allowed allowed′)
     (scores-fit : (2 ^ n ≤ length scores) ↔ (2 ^ n ≤ length scores′)) (splits-fit : (2 ^ n ≤ length splits) ↔ (2 ^ n ≤ length splits′)) where
   same-records : recordsIn count genes ≡ recordsIn count genes′
@@ -124,7 +125,7 @@ module _ (n count : ℕ) (genes genes′ allowed allowed′ scores scores′ spl
       judged zero l = leb-same (getD allowed 0 0) (getD allowed′ 0 0) 1 (same-allowed .byte-0)
       judged (suc a) l = ap (λ b. leb b 1) (same-allowed .clusters (suc a) (omega arith) (omega arith))
 
-  same-verdict : verdict (searchTests n genes count allowed scores splits) ≡ verdict (searchTests n genes′ count allowed′ scores′ splits′)
+  same-verdict : verdict (searchTests rooting n genes count allowed scores splits) ≡ verdict (searchTests rooting n genes′ count allowed′ scores′ splits′)
   unfolding searchTests allowedTest
   same-verdict =
       rw (
@@ -136,23 +137,24 @@ module _ (n count : ℕ) (genes genes′ allowed allowed′ scores scores′ spl
         same-strange,
       )
 
-  same-best : (a : ℕ) → a < 2 ^ n → bestFor n (recordsIn count genes) allowed a ≡ bestFor n (recordsIn count genes′) allowed′ a
+  same-best : (a : ℕ) → a < 2 ^ n → bestFor rooting n (recordsIn count genes) allowed a ≡ bestFor rooting n (recordsIn count genes′) allowed′ a
   unfolding bestFor
   same-best a l =
-      best-local (weight (recordsIn count genes)) (allowedIn n allowed) (allowedIn n allowed′) a (λ x s m. same-allowed-in same-allowed x s (let k = within-le m in omega arith))
-      ∙ ap (λ g. best (weight g) (allowedIn n allowed′) a) same-records
+      best-local (weight rooting (recordsIn count genes)) (allowedIn n allowed) (allowedIn n allowed′) a
+      (λ x s m. same-allowed-in same-allowed x s (let k = within-le m in omega arith))
+      ∙ ap (λ g. best (weight rooting g) (allowedIn n allowed′) a) same-records
 
   -- "byte 0 has no meaning", "Entries beyond the need are not read": their replies are equal, and where the tables are filled so are the entries
   pub same-outcome :
-      {r q : Found} {s p s′ p′ : List ℕ} → Finds n genes count allowed scores splits r s p → Finds n genes′ count allowed′ scores′ splits′ q s′ p′
+      {r q : Found} {s p s′ p′ : List ℕ} → Finds rooting n genes count allowed scores splits r s p → Finds rooting n genes′ count allowed′ scores′ splits′ q s′ p′
       → (r ≡ q) × ((r .number ≡ 0) ⊎ (r .number ≡ 14) → SameTable n scores s scores′ s′ × SameTable n splits p splits′ p′)
   same-outcome {s = s} {p = p} {s′ = s′} {p′ = p′} f f′ = (
     f .reply ∙ rw (same-verdict, same-best (whole n) (whole-below n), same-records) (sym (f′ .reply)),
     λ d.
-        let z = accepts n genes count allowed scores splits (accepted-of f d) in
+        let z = accepts rooting n genes count allowed scores splits (accepted-of f d) in
         let z′ = sym (ap (λ v. v .number) same-verdict) ∙ z in (
           filled-same n _ _ _ _ scores s scores′ s′ (f .scoreTable) (f′ .scoreTable) z z′
-              (λ a l. ap₂ (λ g o. scoreEntry (weight g) o) same-records (same-best a l)),
+              (λ a l. ap₂ (λ g o. scoreEntry (weight rooting g) o) same-records (same-best a l)),
           filled-same n _ _ _ _ splits p splits′ p′ (f .splitTable) (f′ .splitTable) z z′ (λ a l. ap splitEntry (same-best a l)),
         ),
   )
@@ -169,16 +171,16 @@ filled-alike n (suc k) (suc k′) entry entry′ lent after after′ e e′ z sa
 
 -- two allowed sets of zeros and ones that agree on the clusters: the same call otherwise has the same outcome, whatever its tables
 pub only-clusters-matter :
-    (n : ℕ) (genes : List ℕ) (count : ℕ) (allowed other scores splits : List ℕ) → 2 ^ n ≤ length allowed → 2 ^ n ≤ length other
+    (rooting : Rooting) (n : ℕ) (genes : List ℕ) (count : ℕ) (allowed other scores splits : List ℕ) → 2 ^ n ≤ length allowed → 2 ^ n ≤ length other
     → ((a : ℕ) → a < 2 ^ n → getD allowed a 0 ≤ 1) → ((a : ℕ) → a < 2 ^ n → getD other a 0 ≤ 1)
     → ((a : ℕ) → 1 ≤ a → a < 2 ^ n → getD allowed a 0 ≡ getD other a 0)
-    → {r q : Found} {s p s′ p′ : List ℕ} → Finds n genes count allowed scores splits r s p → Finds n genes count other scores splits q s′ p′
+    → {r q : Found} {s p s′ p′ : List ℕ} → Finds rooting n genes count allowed scores splits r s p → Finds rooting n genes count other scores splits q s′ p′
     → (r ≡ q) × (s ≡ s′) × (p ≡ p′)
-only-clusters-matter n genes count allowed other scores splits long long′ bytes bytes′ agree {s = s} {p = p} {s′ = s′} {p′ = p′} f f′ =
+only-clusters-matter rooting n genes count allowed other scores splits long long′ bytes bytes′ agree {s = s} {p = p} {s′ = s′} {p′ = p′} f f′ =
     let same = zeros-and-ones-same n allowed other long long′ bytes bytes′ agree in
-    let verdicts = ap (λ v. v .number) (same-verdict n count genes genes allowed other scores scores splits splits refl same (λ h. h, λ h. h) (λ h. h, λ h. h)) in
-    let bests = same-best n count genes genes allowed other scores scores splits splits refl same (λ h. h, λ h. h) (λ h. h, λ h. h) in (
-      same-outcome n count genes genes allowed other scores scores splits splits refl same (λ h. h, λ h. h) (λ h. h, λ h. h) f f′ .0,
-      filled-alike n _ _ _ _ scores s s′ (f .scoreTable) (f′ .scoreTable) verdicts (λ a l. ap (scoreEntry (weight (recordsIn count genes))) (bests a l)),
+    let verdicts = ap (λ v. v .number) (same-verdict rooting n count genes genes allowed other scores scores splits splits refl same (λ h. h, λ h. h) (λ h. h, λ h. h)) in
+    let bests = same-best rooting n count genes genes allowed other scores scores splits splits refl same (λ h. h, λ h. h) (λ h. h, λ h. h) in (
+      same-outcome rooting n count genes genes allowed other scores scores splits splits refl same (λ h. h, λ h. h) (λ h. h, λ h. h) f f′ .0,
+      filled-alike n _ _ _ _ scores s s′ (f .scoreTable) (f′ .scoreTable) verdicts (λ a l. ap (scoreEntry (weight rooting (recordsIn count genes))) (bests a l)),
       filled-alike n _ _ _ _ splits p p′ (f .splitTable) (f′ .splitTable) verdicts (λ a l. ap splitEntry (bests a l)),
     )

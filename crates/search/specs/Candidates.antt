@@ -15,10 +15,11 @@ use Rattle.splits.specs.Order.{Earlier}
 use Rattle.splits.specs.WellFormed.{TreeOn}
 use Rattle.tables.specs.Allowed.{allowedIn}
 use Rattle.solver.specs.declared.Found.{Found}
+use Rattle.weights.specs.declared.Rooting.{Rooting}
 
 -- no test finds a fault
-pub record Accepted (n : ℕ) (genes : List ℕ) (count : ℕ) (allowed scores splits : List ℕ) : Type 0 where
-  pub in-order : GenesInOrder n genes count
+pub record Accepted (rooting : Rooting) (n : ℕ) (genes : List ℕ) (count : ℕ) (allowed scores splits : List ℕ) : Type 0 where
+  pub in-order : GenesInOrder rooting n genes count
   pub allowed-fits : 2 ^ n ≤ length allowed
   pub scores-fit : 2 ^ n ≤ length scores
   pub splits-fit : 2 ^ n ≤ length splits
@@ -41,11 +42,11 @@ pub record EarlierRecord (n : ℕ) (c d : List ℕ) : Type 0 where
   pub earlier : Earlier tree later
 
 -- "no binary tree over them scores less"; of equals it is the first
-pub record Answer (n : ℕ) (genes : List (List ℕ)) (allowed : List ℕ) (r : Found) : Type 0 where
+pub record Answer (rooting : Rooting) (n : ℕ) (genes : List (List ℕ)) (allowed : List ℕ) (r : Found) : Type 0 where
   pub competes : Candidate n allowed (r .numbers)
-  pub counted : score genes (r .numbers) ≡ r .score
-  pub least : (c : List ℕ) → Candidate n allowed c → r .score ≤ score genes c
-  pub first : (c : List ℕ) → Candidate n allowed c → score genes c ≡ r .score → (r .numbers ≡ c) ⊎ EarlierRecord n (r .numbers) c
+  pub counted : score rooting genes (r .numbers) ≡ r .score
+  pub least : (c : List ℕ) → Candidate n allowed c → r .score ≤ score rooting genes c
+  pub first : (c : List ℕ) → Candidate n allowed c → score rooting genes c ≡ r .score → (r .numbers ≡ c) ⊎ EarlierRecord n (r .numbers) c
 
 -- two allowed sets that say the same for n species: of every cluster, while "byte 0 has no meaning, though it too must be 0 or 1"
 pub record SameAllowed (n : ℕ) (allowed other : List ℕ) : Type 0 where

@@ -4,6 +4,7 @@ use mathlib.Core.Path.{_≡_}
 use mathlib.Core.List.{List}
 use Rattle.weights.specs.Count.{score}
 use Rattle.search.specs.Candidates.{Candidate}
+use Rattle.weights.specs.declared.Rooting.{Rooting}
 
 -- c competes, and none that competes has a smaller number
 pub record LeastAmong {A : Type 0} (Competes : A → Type 0) (number : A → ℕ) (c : A) : Type 0 where
@@ -17,5 +18,5 @@ pub record LeastNumber {A : Type 0} (Competes : A → Type 0) (number : A → �
   pub is : number holder ≡ m
 
 -- a tree least for these gene trees: its record competes, and "no binary tree over them scores less"
-abbrev pub LeastFor : ℕ → List ℕ → List (List ℕ) → List ℕ → Type 0
-LeastFor n allowed genes c = LeastAmong (Candidate n allowed) (score genes) c
+abbrev pub LeastFor : Rooting → ℕ → List ℕ → List (List ℕ) → List ℕ → Type 0
+LeastFor rooting n allowed genes c = LeastAmong (Candidate n allowed) (score rooting genes) c

@@ -10,10 +10,11 @@ use Rattle.trees.specs.Records.{recordsIn}
 use Rattle.roster.specs.Roster.{least}
 use Rattle.weights.specs.Count.{weight}
 use Rattle.roster.specs.Verdict.{Test, verdict, lengthTest}
-use Rattle.lineages.specs.Checks.{speciesTest, countTest, recordsTest}
+use Rattle.lineages.specs.Checks.{speciesTest, countTest, recordsTest, rootingTest}
 use Rattle.splits.specs.Least.{scoreEntry, splitEntry, filled}
 use Rattle.solver.specs.Best.{bestFor, foundBy}
 use Rattle.solver.specs.declared.Found.{Found}
+use Rattle.weights.specs.declared.Rooting.{Rooting}
 
 -- the first of the 2^n bytes that is not 0 or 1; 2^n where there is none
 unfoldable pub firstStrange : ℕ → List ℕ → ℕ
@@ -23,13 +24,14 @@ firstStrange n bytes = least (λ a. not (leb (getD bytes a 0) 1)) 0 (2 ^ n)
 unfoldable pub allowedTest : ℕ → List ℕ → Test
 allowedTest n bytes = record { fault = ltb (firstStrange n bytes) (2 ^ n); number = 13; place = firstStrange n bytes }
 
--- the tests before the search itself: "1, 11, 12, 16, 15, 13, 14, each where it applies"
-unfoldable pub searchTests : ℕ → List ℕ → ℕ → List ℕ → List ℕ → List ℕ → List Test
-searchTests n genes count allowed scores splits =
+-- the tests before the search itself: "1, 11, 12, 16, 15, 13, 14, each where it applies", with 19 "straight after 15" (#106)
+unfoldable pub searchTests : Rooting → ℕ → List ℕ → ℕ → List ℕ → List ℕ → List ℕ → List Test
+searchTests rooting n genes count allowed scores splits =
     speciesTest n ∷ countTest count ∷ lengthTest (length genes) (32 * count) ∷ lengthTest (length allowed) (2 ^ n)
     ∷ lengthTest (length scores) (2 ^ n)
     ∷ lengthTest (length splits) (2 ^ n)
     ∷ recordsTest n (recordsIn count genes)
+    ∷ rootingTest rooting n (recordsIn count genes)
     ∷ allowedTest n allowed
     ∷ []
 
@@ -44,15 +46,15 @@ filledBy zero n entry lent = filled n entry lent
 filledBy (suc number) n entry lent = lent
 
 -- the promise of `search`: its reply, and what stands in both tables then
-pub record Finds (n : ℕ) (genes : List ℕ) (count : ℕ) (allowed scores splits : List ℕ) (r : Found) (scoresAfter splitsAfter : List ℕ) : Type 0 where
+pub record Finds (rooting : Rooting) (n : ℕ) (genes : List ℕ) (count : ℕ) (allowed scores splits : List ℕ) (r : Found) (scoresAfter splitsAfter : List ℕ) : Type 0 where
   pub reply :
-      r ≡ foundOr (verdict (searchTests n genes count allowed scores splits) .number) (verdict (searchTests n genes count allowed scores splits) .place)
-      (foundBy (bestFor n (recordsIn count genes) allowed (whole n)) (recordsIn count genes))
+      r ≡ foundOr (verdict (searchTests rooting n genes count allowed scores splits) .number) (verdict (searchTests rooting n genes count allowed scores splits) .place)
+      (foundBy rooting (bestFor rooting n (recordsIn count genes) allowed (whole n)) (recordsIn count genes))
   pub scoreTable :
-      scoresAfter ≡ filledBy (verdict (searchTests n genes count allowed scores splits) .number) n
-      (λ a. scoreEntry (weight (recordsIn count genes)) (bestFor n (recordsIn count genes) allowed a))
+      scoresAfter ≡ filledBy (verdict (searchTests rooting n genes count allowed scores splits) .number) n
+      (λ a. scoreEntry (weight rooting (recordsIn count genes)) (bestFor rooting n (recordsIn count genes) allowed a))
       scores
   pub splitTable :
-      splitsAfter ≡ filledBy (verdict (searchTests n genes count allowed scores splits) .number) n
-      (λ a. splitEntry (bestFor n (recordsIn count genes) allowed a))
+      splitsAfter ≡ filledBy (verdict (searchTests rooting n genes count allowed scores splits) .number) n
+      (λ a. splitEntry (bestFor rooting n (recordsIn count genes) allowed a))
       splits

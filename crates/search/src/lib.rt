@@ -1,11 +1,12 @@
 // The search: its checks in 01's order, then the best tree over the allowed clusters.
 mod allowing;
 
-use lineages::checks::first_bad;
+use lineages::checks::judge_genes;
 use lineages::checks::shape;
 pub use solver::Found;
 use solver::refused;
 use solver::solve;
+use weights::Rooting;
 ghost use Rattle.trees.specs.Decides.{Decides};
 ghost use Rattle.solver.specs.Work.{LongEnough};
 ghost use Rattle.search.specs.Promise.{Finds};
@@ -28,6 +29,7 @@ fn long_enough(entries: usize, allowed: &[u8], scores: &[u32], splits: &[u16]) -
 
 // The first least-scoring binary tree over the allowed clusters; both tables are filled on the way.
 pub fn search(
+    rooting: Rooting,
     n: usize,
     genes: &[u16],
     count: usize,
@@ -35,7 +37,7 @@ pub fn search(
     scores: &mut [u32],
     splits: &mut [u16],
 ) -> Found
-    ensures { λ r. ⌜ Finds n (now (genes .entry)) count (now (allowed .entry)) (now (scores .entry)) (now (splits .entry)) r (now (scores .exit)) (now (splits .exit)) ⌝ }
+    ensures { λ r. ⌜ Finds rooting n (now (genes .entry)) count (now (allowed .entry)) (now (scores .entry)) (now (splits .entry)) r (now (scores .exit)) (now (splits .exit)) ⌝ }
 {
     let number = shape(n, genes, count);
     if number != 0 {
@@ -45,13 +47,13 @@ pub fn search(
     if !long_enough(entries, allowed, scores, splits) {
         return refused(12, 0);
     }
-    let bad = first_bad(n, genes, count);
-    if bad < count {
-        return refused(15, bad);
+    let judged = judge_genes(rooting, n, genes, count);
+    if judged.number != 0 {
+        return refused(judged.number, judged.place);
     }
     let strange = allowing::first_strange(allowed, entries);
     if strange < entries {
         return refused(13, strange);
     }
-    solve(n, genes, count, allowed, scores, splits)
+    solve(rooting, n, genes, count, allowed, scores, splits)
 }

@@ -30,6 +30,7 @@ use Rattle.tables.proofs.Written.{written, written-length, written-at, written-
 use Rattle.solver.specs.Best.{bestFor, foundBy}
 use Rattle.solver.specs.Work.{without, Checked, Solves}
 use Rattle.solver.specs.declared.Found.{Found}
+use Rattle.weights.specs.declared.Rooting.{Rooting}
 
 -- ---- the split table leads down the best tree
 
@@ -60,19 +61,16 @@ module _ (w : ℕ → ℕ) (ok : ℕ → Bool) (splits : List ℕ) (entries : �
 
 -- ---- both tables, for gene trees that were checked
 
-pub record Tabled (n : ℕ) (genes : List (List ℕ)) (allowed lentScores lentSplits scores splits : List ℕ) : Type 0 where
-  pub light : Light (weight genes)
-  pub scoreTable : scores ≡ filled n (λ a. scoreEntry (weight genes) (bestFor n genes allowed a)) lentScores
-  pub splitTable : splits ≡ filled n (λ a. splitEntry (bestFor n genes allowed a)) lentSplits
+pub record Tabled (rooting : Rooting) (n : ℕ) (genes : List (List ℕ)) (allowed lentScores lentSplits scores splits : List ℕ) : Type 0 where
+  pub light : Light (weight rooting genes)
+  pub scoreTable : scores ≡ filled n (λ a. scoreEntry (weight rooting genes) (bestFor rooting n genes allowed a)) lentScores
+  pub splitTable : splits ≡ filled n (λ a. splitEntry (bestFor rooting n genes allowed a)) lentSplits
 
 whole-entries : (n : ℕ) {all : ℕ} → all ≡ whole n → all + 1 ≡ 2 ^ n
 unfolding whole
 whole-entries n e = omega (arith, pow-pos n)
 
 module _ {n : ℕ} {genes : List ℕ} {count : ℕ} {allowed scores splits : List ℕ} (h : Checked n genes count allowed scores splits) {all : ℕ} (is : all ≡ whole n) where
-  weights-light : Light (weight (recordsIn count genes))
-  weights-light b = omega (arith, weight-small genes b (h .few-genes) (h .countable))
-
   pub all-few : all + 1 ≤ 65536
   all-few = omega (arith, whole-entries n is, entries-few (h .few-species))
 
@@ -82,14 +80,19 @@ module _ {n : ℕ} {genes : List ℕ} {count : ℕ} {allowed scores splits : Lis
   pub all-splits : all + 1 ≤ length splits
   all-splits = omega (arith, whole-entries n is, h .long .splits-long)
 
-  module _ {weights : List ℕ} (e : weights ≡ map (λ a. weight (recordsIn count genes) a) (upTo (all + 1)) ++ drop (all + 1) scores) where
-    is-written : weights ≡ written (λ a. weight (recordsIn count genes) a) (2 ^ n) scores
-    is-written =
-        e ∙ sym (written-entries (λ a. weight (recordsIn count genes) a) (all + 1) scores)
-        ∙ ap (λ k. written (λ a. weight (recordsIn count genes) a) k scores) (whole-entries n is)
+module _ (rooting : Rooting) {n : ℕ} {genes : List ℕ} {count : ℕ} {allowed scores splits : List ℕ}
+    (h : Checked n genes count allowed scores splits) {all : ℕ} (is : all ≡ whole n) where
+  weights-light : Light (weight rooting (recordsIn count genes))
+  weights-light b = omega (arith, weight-small rooting genes b (h .few-genes) (h .countable))
 
-    holds-weights : Weights n (weight (recordsIn count genes)) weights
-    holds-weights b l = ap (λ t. getD t b 0) is-written ∙ written-at (λ a. weight (recordsIn count genes) a) (2 ^ n) scores b l
+  module _ {weights : List ℕ} (e : weights ≡ map (λ a. weight rooting (recordsIn count genes) a) (upTo (all + 1)) ++ drop (all + 1) scores) where
+    is-written : weights ≡ written (λ a. weight rooting (recordsIn count genes) a) (2 ^ n) scores
+    is-written =
+        e ∙ sym (written-entries (λ a. weight rooting (recordsIn count genes) a) (all + 1) scores)
+        ∙ ap (λ k. written (λ a. weight rooting (recordsIn count genes) a) k scores) (whole-entries n is)
+
+    holds-weights : Weights n (weight rooting (recordsIn count genes)) weights
+    holds-weights b l = ap (λ t. getD t b 0) is-written ∙ written-at (λ a. weight rooting (recordsIn count genes) a) (2 ^ n) scores b l
 
     pub weights-fillable : Fillable n allowed weights splits
     weights-fillable =
@@ -98,67 +101,74 @@ module _ {n : ℕ} {genes : List ℕ} {count : ℕ} {allowed scores splits : Lis
           allowed-long = h .long .allowed-long;
           scores-long =
               let l = h .long .scores-long in
-              omega (arith, ap length is-written, written-length (λ a. weight (recordsIn count genes) a) (2 ^ n) scores l);
+              omega (arith, ap length is-written, written-length (λ a. weight rooting (recordsIn count genes) a) (2 ^ n) scores l);
           splits-long = h .long .splits-long;
           light = λ b l. omega (arith, holds-weights b l, weights-light b);
         }
 
     pub tabled :
         {scores′ splits′ : List ℕ} → Fills n allowed weights splits scores′ splits′
-        → Tabled n (recordsIn count genes) allowed scores splits scores′ splits′
+        → Tabled rooting n (recordsIn count genes) allowed scores splits scores′ splits′
     unfolding bestFor
     tabled {scores′} {splits′} fills =
-        let both = fills (weight (recordsIn count genes)) weights-light holds-weights in
+        let both = fills (weight rooting (recordsIn count genes)) weights-light holds-weights in
         record { light = weights-light; scoreTable = both .0 ∙ behind; splitTable = both .1 }
       where
         entry : ℕ → ℕ
-        entry a = scoreEntry (weight (recordsIn count genes)) (best (weight (recordsIn count genes)) (allowedIn n allowed) a)
+        entry a = scoreEntry (weight rooting (recordsIn count genes)) (best (weight rooting (recordsIn count genes)) (allowedIn n allowed) a)
 
         behind : filled n entry weights ≡ filled n entry scores
         behind =
             sym (written-entries entry (2 ^ n) weights) ∙ ap (written entry (2 ^ n)) is-written
-            ∙ written-again entry (λ a. weight (recordsIn count genes) a) (2 ^ n) scores
+            ∙ written-again entry (λ a. weight rooting (recordsIn count genes) a) (2 ^ n) scores
             ∙ written-entries entry (2 ^ n) scores
 
 -- ---- the answer
 
-module _
+module _ (rooting : Rooting)
     {n : ℕ} {genes : List (List ℕ)} {allowed lentScores lentSplits scores splits : List ℕ}
-    (h : Tabled n genes allowed lentScores lentSplits scores splits)
+    (h : Tabled rooting n genes allowed lentScores lentSplits scores splits)
   where
-    score-at : (b : ℕ) → b < 2 ^ n → getD scores b 0 ≡ scoreEntry (weight genes) (best (weight genes) (allowedIn n allowed) b)
+    score-at : (b : ℕ) → b < 2 ^ n → getD scores b 0 ≡ scoreEntry (weight rooting genes) (best (weight rooting genes) (allowedIn n allowed) b)
     unfolding bestFor
     score-at b l =
-        let entry : ℕ → ℕ = λ a. scoreEntry (weight genes) (best (weight genes) (allowedIn n allowed) a) in
+        let entry : ℕ → ℕ = λ a. scoreEntry (weight rooting genes) (best (weight rooting genes) (allowedIn n allowed) a) in
         ap (λ t. getD t b 0) (h .scoreTable ∙ sym (written-entries entry (2 ^ n) lentScores)) ∙ written-at entry (2 ^ n) lentScores b l
 
-    split-at : (b : ℕ) → b < 2 ^ n → getD splits b 0 ≡ splitEntry (best (weight genes) (allowedIn n allowed) b)
+    split-at : (b : ℕ) → b < 2 ^ n → getD splits b 0 ≡ splitEntry (best (weight rooting genes) (allowedIn n allowed) b)
     unfolding bestFor
     split-at b l =
-        let entry : ℕ → ℕ = λ a. splitEntry (best (weight genes) (allowedIn n allowed) a) in
+        let entry : ℕ → ℕ = λ a. splitEntry (best (weight rooting genes) (allowedIn n allowed) a) in
         ap (λ t. getD t b 0) (h .splitTable ∙ sym (written-entries entry (2 ^ n) lentSplits)) ∙ written-at entry (2 ^ n) lentSplits b l
 
     module _ (few : n ≤ 16) {all : ℕ} (is : all ≡ whole n) where
-      score-all : getD scores all 0 ≡ scoreEntry (weight genes) (best (weight genes) (allowedIn n allowed) (whole n))
+      score-all : getD scores all 0 ≡ scoreEntry (weight rooting genes) (best (weight rooting genes) (allowedIn n allowed) (whole n))
       score-all = ap (λ b. getD scores b 0) is ∙ score-at (whole n) (whole-below n)
 
-      not-marked : (t : Binary) → best (weight genes) (allowedIn n allowed) (whole n) ≡ some t → getD scores all 0 ≡ noTree → ⊥
+      not-marked : (t : Binary) → best (weight rooting genes) (allowedIn n allowed) (whole n) ≡ some t → getD scores all 0 ≡ noTree → ⊥
       not-marked t e m =
-          omega (arith, score-all, ap (scoreEntry (weight genes)) e, score-bound (h .light) (best-on (weight genes) (allowedIn n allowed) (whole n) t e), size-whole n)
+          omega (
+            arith,
+            score-all,
+            ap (scoreEntry (weight rooting genes)) e,
+            score-bound (h .light)
+                (best-on (weight rooting genes) (allowedIn n allowed) (whole n) t e),
+            size-whole n,
+          )
 
       -- the mark stands there where there is no tree
-      no-best : getD scores all 0 ≡ noTree → best (weight genes) (allowedIn n allowed) (whole n) ≡ none
-      no-best m = go (best (weight genes) (allowedIn n allowed) (whole n)) refl
+      no-best : getD scores all 0 ≡ noTree → best (weight rooting genes) (allowedIn n allowed) (whole n) ≡ none
+      no-best m = go (best (weight rooting genes) (allowedIn n allowed) (whole n)) refl
         where
-          go : (o : Option Binary) → best (weight genes) (allowedIn n allowed) (whole n) ≡ o → o ≡ none
+          go : (o : Option Binary) → best (weight rooting genes) (allowedIn n allowed) (whole n) ≡ o → o ≡ none
           go none e = refl
           go (some t) e = absurd (not-marked t e m)
 
-      pub solves-none : {r : Found} → getD scores all 0 ≡ noTree → r ≡ without 14 0 → Solves n genes allowed lentScores lentSplits r scores splits
+      pub solves-none : {r : Found} → getD scores all 0 ≡ noTree → r ≡ without 14 0 → Solves rooting n genes allowed lentScores lentSplits r scores splits
       unfolding bestFor
       solves-none m e =
           record {
-            reply = e ∙ sym (ap (λ o. foundBy o genes) (no-best m));
+            reply = e ∙ sym (ap (λ o. foundBy rooting o genes) (no-best m));
             scoreTable = h .scoreTable;
             splitTable = h .splitTable;
           }
@@ -166,19 +176,19 @@ module _
       -- a tree on all species, where there is one
       record Best : Type 0 where
         tree : Binary
-        chosen-best : best (weight genes) (allowedIn n allowed) (whole n) ≡ some tree
+        chosen-best : best (weight rooting genes) (allowedIn n allowed) (whole n) ≡ some tree
 
       a-best : (getD scores all 0 ≡ noTree → ⊥) → Best
-      a-best f = go (best (weight genes) (allowedIn n allowed) (whole n)) refl
+      a-best f = go (best (weight rooting genes) (allowedIn n allowed) (whole n)) refl
         where
-          go : (o : Option Binary) → best (weight genes) (allowedIn n allowed) (whole n) ≡ o → Best
-          go none e = absurd (f (score-all ∙ ap (scoreEntry (weight genes)) e))
+          go : (o : Option Binary) → best (weight rooting genes) (allowedIn n allowed) (whole n) ≡ o → Best
+          go none e = absurd (f (score-all ∙ ap (scoreEntry (weight rooting genes)) e))
           go (some t) e = record { tree = t; chosen-best = e }
 
       led-down : (b : Best) → (root (b .tree) ≡ all) × Chosen splits (b .tree)
       led-down b = (
-        tree-root (best-on (weight genes) (allowedIn n allowed) (whole n) (b .tree) (b .chosen-best)) ∙ sym is,
-        best-chosen (weight genes) (allowedIn n allowed) splits (2 ^ n) split-at (b .tree) (whole n) (whole-below n) (b .chosen-best),
+        tree-root (best-on (weight rooting genes) (allowedIn n allowed) (whole n) (b .tree) (b .chosen-best)) ∙ sym is,
+        best-chosen (weight rooting genes) (allowedIn n allowed) splits (2 ^ n) split-at (b .tree) (whole n) (whole-below n) (b .chosen-best),
       )
 
       pub solves-chooses : (getD scores all 0 ≡ noTree → ⊥) → Chooses splits all 31
@@ -189,22 +199,22 @@ module _
             tree = b .tree;
             rooted = led .0;
             chosen = led .1;
-            fits = omega (arith, tree-clusters (best-on (weight genes) (allowedIn n allowed) (whole n) (b .tree) (b .chosen-best)), size-whole n);
+            fits = omega (arith, tree-clusters (best-on (weight rooting genes) (allowedIn n allowed) (whole n) (b .tree) (b .chosen-best)), size-whole n);
           }
 
       pub solves-found : {r : Found} {score : ℕ} → (getD scores all 0 ≡ noTree → ⊥) → score ≡ getD scores all 0
           → ((t : Binary) → root t ≡ all → Chosen splits t → r ≡ record { number = 0; place = 0; score = score; numbers = recordOf (clustersIn t) })
-          → Solves n genes allowed lentScores lentSplits r scores splits
+          → Solves rooting n genes allowed lentScores lentSplits r scores splits
       unfolding bestFor
       solves-found {r} {score} f e g =
           let b = a-best f in
           let led = led-down b in
-          let points : score ≡ scoreOf (weight genes) (b .tree) = e ∙ score-all ∙ ap (scoreEntry (weight genes)) (b .chosen-best) in
+          let points : score ≡ scoreOf (weight rooting genes) (b .tree) = e ∙ score-all ∙ ap (scoreEntry (weight rooting genes)) (b .chosen-best) in
           record {
             reply =
                 g (b .tree) (led .0) (led .1)
                 ∙ ap (λ k. record { number = 0; place = 0; score = k; numbers = recordOf (clustersIn (b .tree)) }) points
-                ∙ sym (ap (λ o. foundBy o genes) (b .chosen-best));
+                ∙ sym (ap (λ o. foundBy rooting o genes) (b .chosen-best));
             scoreTable = h .scoreTable;
             splitTable = h .splitTable;
           }

@@ -9,12 +9,13 @@ use Rattle.splits.specs.BinaryTrees.{Binary, clustersIn}
 use Rattle.splits.specs.Least.{best, scoreOf}
 use Rattle.tables.specs.Allowed.{allowedIn}
 use Rattle.solver.specs.declared.Found.{Found}
+use Rattle.weights.specs.declared.Rooting.{Rooting}
 
 -- the best tree on a for these gene trees and this allowed set
-unfoldable pub bestFor : ℕ → List (List ℕ) → List ℕ → ℕ → Option Binary
-bestFor n genes allowed a = best (weight genes) (allowedIn n allowed) a
+unfoldable pub bestFor : Rooting → ℕ → List (List ℕ) → List ℕ → ℕ → Option Binary
+bestFor rooting n genes allowed a = best (weight rooting genes) (allowedIn n allowed) a
 
 -- "The search returns the score and the record of its tree"; "14 | no binary tree over the allowed clusters | 0"
-abbrev pub foundBy : Option Binary → List (List ℕ) → Found
-foundBy (some t) genes = record { number = 0; place = 0; score = scoreOf (weight genes) t; numbers = recordOf (clustersIn t) }
-foundBy none genes = record { number = 14; place = 0; score = 0; numbers = replicate 32 0 }
+abbrev pub foundBy : Rooting → Option Binary → List (List ℕ) → Found
+foundBy rooting (some t) genes = record { number = 0; place = 0; score = scoreOf (weight rooting genes) t; numbers = recordOf (clustersIn t) }
+foundBy rooting none genes = record { number = 14; place = 0; score = 0; numbers = replicate 32 0 }

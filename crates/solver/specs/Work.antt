@@ -10,6 +10,7 @@ use Rattle.weights.specs.Work.{AllCountable}
 use Rattle.splits.specs.Least.{scoreEntry, splitEntry, filled}
 use Rattle.solver.specs.Best.{bestFor, foundBy}
 use Rattle.solver.specs.declared.Found.{Found}
+use Rattle.weights.specs.declared.Rooting.{Rooting}
 
 -- an answer without a tree
 abbrev pub without : ℕ → ℕ → Found
@@ -31,7 +32,7 @@ pub record Checked (n : ℕ) (genes : List ℕ) (count : ℕ) (allowed scores sp
   pub long : LongEnough (2 ^ n) allowed scores splits
 
 -- the answer for gene trees, and both tables filled
-pub record Solves (n : ℕ) (genes : List (List ℕ)) (allowed scores splits : List ℕ) (r : Found) (scoresAfter splitsAfter : List ℕ) : Type 0 where
-  pub reply : r ≡ foundBy (bestFor n genes allowed (whole n)) genes
-  pub scoreTable : scoresAfter ≡ filled n (λ a. scoreEntry (weight genes) (bestFor n genes allowed a)) scores
-  pub splitTable : splitsAfter ≡ filled n (λ a. splitEntry (bestFor n genes allowed a)) splits
+pub record Solves (rooting : Rooting) (n : ℕ) (genes : List (List ℕ)) (allowed scores splits : List ℕ) (r : Found) (scoresAfter splitsAfter : List ℕ) : Type 0 where
+  pub reply : r ≡ foundBy rooting (bestFor rooting n genes allowed (whole n)) genes
+  pub scoreTable : scoresAfter ≡ filled n (λ a. scoreEntry (weight rooting genes) (bestFor rooting n genes allowed a)) scores
+  pub splitTable : splitsAfter ≡ filled n (λ a. splitEntry (bestFor rooting n genes allowed a)) splits

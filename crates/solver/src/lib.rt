@@ -2,6 +2,7 @@
 mod tree;
 mod weight_table;
 
+use weights::Rooting;
 ghost use mathlib.Core.Path.{_≡_};
 ghost use Rattle.trees.specs.Records.{recordsIn};
 ghost use Rattle.solver.specs.Work.{without, Checked, Solves};
@@ -30,6 +31,7 @@ pub fn refused(number: u32, place: usize) -> Found
 
 // Fills both tables, and answers the tree that they choose for all species. `search` calls it, behind all its checks.
 pub fn solve(
+    rooting: Rooting,
     n: usize,
     genes: &[u16],
     count: usize,
@@ -38,10 +40,10 @@ pub fn solve(
     splits: &mut [u16],
 ) -> Found
     requires { ⌜ Checked n (now genes) count (now allowed) (now scores) (now splits) ⌝ }
-    ensures { λ r. ⌜ Solves n (recordsIn count (now (genes .entry))) (now (allowed .entry)) (now (scores .entry)) (now (splits .entry)) r (now (scores .exit)) (now (splits .exit)) ⌝ }
+    ensures { λ r. ⌜ Solves rooting n (recordsIn count (now (genes .entry))) (now (allowed .entry)) (now (scores .entry)) (now (splits .entry)) r (now (scores .exit)) (now (splits .exit)) ⌝ }
 {
     let all = clusters::whole(n) as usize;
-    weight_table::fill(genes, count, all + 1, scores);
+    weight_table::fill(rooting, genes, count, all + 1, scores);
     tables::fill(n, allowed, scores, splits);
     let score = scores[all];
     if score == splits::NO_TREE {

@@ -1,5 +1,5 @@
 -- The child of a cluster that holds a species: of the clusters properly within it that hold the species the largest, and the last in the record.
-use Prim.Native.Nat.{ℕ, zero, suc, _+_, _-_, _^_, _≤_, _<_}
+use Prim.Native.Nat.{ℕ, _+_, _^_, _≤_, _<_}
 use mathlib.Core.Path.{_≡_, refl, sym, ap, _∙_, subst}
 use mathlib.Core.Bool.{Bool, true, false, _&&_, not, true≢false, false≢true}
 use mathlib.Core.List.{List}
@@ -17,9 +17,9 @@ use Rattle.trees.specs.Lists.{Among}
 use Rattle.trees.specs.Records.{count, listed}
 use Rattle.trees.specs.Drawn.{properly}
 use Rattle.trees.proofs.Places.{place-among, among-place}
-use Rattle.trees.proofs.Form.{places-of-rising}
 use Rattle.trees.proofs.Present.{has-of-single}
 use Rattle.trees.proofs.Children.{properly-true, true-properly, children-among}
+use Rattle.trees.proofs.GeneRecords.{places-le}
 use Rattle.texts.specs.Work.{Listed, ChildWith}
 
 -- x is listed, lies properly within a, and holds the species i
@@ -53,16 +53,6 @@ pub record Largest (r : List ℕ) (a i x places : ℕ) : Type 0 where
   pub most : (k : ℕ) → 1 ≤ k → k < places → Inner r a i (getD r k 0) → getD r k 0 ≤ x
 
 module _ {r : List ℕ} {a : ℕ} (h : Listed r a) where
-  -- the clusters of a record rise
-  places-rise : (k d : ℕ) → 1 ≤ k → k + d ≤ count r → getD r k 0 ≤ getD r (k + d) 0
-  places-rise k zero one last = let e : k + 0 ≡ k = omega arith in rw e (omega arith)
-  places-rise k (suc d) one last =
-      let f = h .valid .form in
-      let before = places-rise k d one (omega arith) in
-      let less = places-of-rising r (count r) (f .thirty-two) (f .counted) (f .rising) (k + d) (omega arith) (omega arith) in
-      let e : k + suc d ≡ k + d + 1 = omega arith in
-      rw e (omega arith)
-
   module _ (left : ℕ) (some : 1 ≤ left) (part : Within left a) (two : 2 ≤ size a) where
     cluster-sixteen : a < 2 ^ 32
     cluster-sixteen = within-below (h .all) 32 (h .valid .inside a (h .among) .1) (let b = h .sixteen in omega arith)
@@ -132,10 +122,7 @@ module _ {r : List ℕ} {a : ℕ} (h : Listed r a) where
           p = properly-true c a (both (properly c a) t .0)
 
           upto : (k : ℕ) → 1 ≤ k → k ≤ places → getD r k 0 ≤ c
-          upto k first le =
-              let d : k + (places - k) ≡ places = omega arith in
-              let q = rw d at (places-rise k (places - k) first (omega arith)) in
-              omega arith
+          upto k first le = omega (arith, places-le k places (h .valid .form) first le last)
 
       -- the next place holds none
       pub largest-next : {c s : ℕ} → s ≡ single i → c ≡ getD r places 0 → (properly c a && within s c) ≡ false → Largest r a i x (places + 1)

@@ -19,7 +19,7 @@ use Rattle.trees.specs.Valid.{valid, validGene}
 use Rattle.trees.specs.Drawn.{Alike, drawn}
 use Rattle.trees.proofs.Booleans.{both}
 use Rattle.trees.proofs.Order.{rising-below}
-use Rattle.trees.proofs.Places.{at-among, listed-length, listed-place, place-among, Placed, among-place}
+use Rattle.trees.proofs.Places.{at-among, listed-length, listed-place, place-among, among-place}
 use Rattle.trees.proofs.ValidTest.{Tells, valid-decides}
 use Rattle.trees.proofs.Drawing.{drawn-on, drawn-record}
 use Rattle.trees.proofs.Recorded.{valid-of-drawn}
@@ -35,31 +35,48 @@ rising-places (x ∷ l) r i zero p q = absurd (omega arith)
 rising-places (x ∷ l) r zero (suc j) p q = rising-below l r (at-among l 0 j (omega arith))
 rising-places (x ∷ l) r (suc i) (suc j) p q = rising-places l (r .1) i j (omega arith) (omega arith)
 
+-- of two clusters of a record the one at the later place is larger
+pub places-rise : {r : List ℕ} (i j : ℕ) → Form r → 1 ≤ i → i < j → j ≤ count r → getD r i 0 < getD r j 0
+places-rise {r} i j f one less last =
+    let here : i - 1 + 1 ≡ i = omega arith in
+    let later : j - 1 + 1 ≡ j = omega arith in
+    let rise = rising-places (listed r) (f .rising) (i - 1) (j - 1) (omega arith) (omega (arith, listed-length r (count r) (f .thirty-two) (f .counted))) in
+    let low = listed-place r (count r) (f .thirty-two) (f .counted) (i - 1) (omega arith) in
+    let high = listed-place r (count r) (f .thirty-two) (f .counted) (j - 1) (omega arith) in
+    omega (arith, rise, low, high, ap (λ (k : ℕ). getD r k 0) here, ap (λ (k : ℕ). getD r k 0) later)
+
+-- and the one at no later place is no larger
+pub places-le : {r : List ℕ} (i j : ℕ) → Form r → 1 ≤ i → i ≤ j → j ≤ count r → getD r i 0 ≤ getD r j 0
+places-le {r} i j f one le last = go (decLt i j)
+  where
+    go : Dec (i < j) → getD r i 0 ≤ getD r j 0
+    go (yes less) = omega (arith, places-rise i j f one less last)
+    go (no n) = let same : i ≡ j = omega arith in omega (arith, ap (λ (k : ℕ). getD r k 0) same)
+
 -- the largest cluster is listed
 pub largest-among : {r : List ℕ} → Form r → 1 ≤ count r → Among (largest r) (listed r)
 largest-among {r} f some = place-among r (count r) (f .thirty-two) (f .counted) (count r) some (omega arith)
 
 -- and no other is larger
 pub among-le-largest : {r : List ℕ} {x : ℕ} → Form r → Among x (listed r) → (1 ≤ count r) × (x ≤ largest r)
-among-le-largest {r} {x} f m = (omega (arith, p .first, p .last), go (decLt (p .place) (count r)))
-  where
-    p : Placed r (count r) (f .thirty-two) (f .counted) x
-    p = among-place r (count r) (f .thirty-two) (f .counted) x m
+among-le-largest {r} {x} f m =
+    let p = among-place r (count r) (f .thirty-two) (f .counted) x m in
+    (omega (arith, p .first, p .last), omega (arith, places-le (p .place) (count r) f (p .first) (p .last) (omega arith), p .there))
 
-    go : Dec (p .place < count r) → x ≤ largest r
-    go (yes l) =
-        let first = p .first in
-        let here : p .place - 1 + 1 ≡ p .place = omega arith in
-        let end : count r - 1 + 1 ≡ count r = omega arith in
-        let less = rising-places (listed r) (f .rising) (p .place - 1) (count r - 1) (omega arith)
-        (omega (arith, listed-length r (count r) (f .thirty-two) (f .counted))) in
-        let low = listed-place r (count r) (f .thirty-two) (f .counted) (p .place - 1) (omega arith) in
-        let high = listed-place r (count r) (f .thirty-two) (f .counted) (count r - 1) (omega arith) in
-        omega (arith, less, low, high, ap (λ (k : ℕ). getD r k 0) here, ap (λ (k : ℕ). getD r k 0) end, p .there)
-    go (no n) =
-        let last = p .last in
-        let same : p .place ≡ count r = omega arith in
-        omega (arith, ap (λ (k : ℕ). getD r k 0) same, p .there)
+-- the cluster at the place before the largest is smaller than it, and all others are no larger than that one
+pub next-largest :
+    {r : List ℕ} → Form r → 2 ≤ count r
+    → Among (getD r (count r - 1) 0) (listed r) × (getD r (count r - 1) 0 < largest r)
+    × ((x : ℕ) → Among x (listed r) → (x ≡ largest r → ⊥) → x ≤ getD r (count r - 1) 0)
+next-largest {r} f two = (
+  place-among r (count r) (f .thirty-two) (f .counted) (count r - 1) (omega arith) (omega arith),
+  places-rise (count r - 1) (count r) f (omega arith) (omega arith) (omega arith),
+  λ x m n.
+      let p = among-place r (count r) (f .thirty-two) (f .counted) x m in
+      let last = p .last in
+      let not-last : p .place ≡ count r → ⊥ = λ e. n (sym (p .there) ∙ ap (λ (k : ℕ). getD r k 0) e) in
+      omega (arith, places-le (p .place) (count r - 1) f (p .first) (omega (arith, not-last)) (omega arith), p .there),
+)
 
 -- the whole set of a valid record is its largest cluster
 pub largest-of-valid : {s : ℕ} {r : List ℕ} → ValidOn s r → largest r ≡ s

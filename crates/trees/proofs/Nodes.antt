@@ -61,6 +61,12 @@ children-apart t f p =
 abbrev pub Inside : List ℕ → ℕ → Type 0
 Inside l c = (x : ℕ) → Among x l → (1 ≤ x) × Within x c
 
+-- which of the two is named first does not matter
+pub nested-sym : (a b : ℕ) → Nested a b → Nested b a
+nested-sym a b (inl d) = inl (apart-sym a b d)
+nested-sym a b (inr (inl w)) = inr (inr w)
+nested-sym a b (inr (inr w)) = inr (inl w)
+
 -- "any two are disjoint or one holds the other"
 abbrev pub AllNested : List ℕ → Type 0
 AllNested l = (a b : ℕ) → Among a l → Among b l → Nested a b

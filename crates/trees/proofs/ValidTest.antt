@@ -29,17 +29,20 @@ pub record Tells (test : Bool) (P : Type 0) : Type 0 where
 pub denied : {test : Bool} {P : Type 0} → Tells test P → test ≡ false → P → ⊥
 denied d e p = true≢false (sym (d .told p) ∙ e)
 
-tells-also : {test : Bool} {P Q : Type 0} → (P → Q) → (Q → P) → Tells test P → Tells test Q
+-- what tells a statement tells another that holds exactly when it does
+pub tells-also : {test : Bool} {P Q : Type 0} → (P → Q) → (Q → P) → Tells test P → Tells test Q
 tells-also f g d = record { holds = λ e. f (d .holds e); told = λ q. d .told (g q) }
 
-tells-and : {a b : Bool} {P Q : Type 0} → Tells a P → Tells b Q → Tells (a && b) (P × Q)
+-- two tests together tell both statements
+pub tells-and : {a b : Bool} {P Q : Type 0} → Tells a P → Tells b Q → Tells (a && b) (P × Q)
 tells-and {a} {b} {P} {Q} d e = record { holds = λ h. let k = both a b h in (d .holds (k .0), e .holds (k .1)); told = λ h. joined a b (d .told (h .0)) (e .told (h .1)) }
   where
     joined : (a b : Bool) → a ≡ true → b ≡ true → (a && b) ≡ true
     joined true b h k = k
     joined false b h k = h
 
-tells-or : {a b : Bool} {P Q : Type 0} → Tells a P → Tells b Q → Tells (a || b) (P ⊎ Q)
+-- either of two tests tells either statement
+pub tells-or : {a b : Bool} {P Q : Type 0} → Tells a P → Tells b Q → Tells (a || b) (P ⊎ Q)
 tells-or {a} {b} {P} {Q} d e = record { holds = λ h. one a b h (d .holds) (e .holds); told = λ h. told h }
   where
     one : (a b : Bool) → (a || b) ≡ true → (a ≡ true → P) → (b ≡ true → Q) → P ⊎ Q
@@ -61,7 +64,8 @@ tells-if {a} {b} {P} {Q} d e = record { holds = λ h p. e .holds (pass a b h (d 
     back true b p q = q (p refl)
     back false b p q = refl
 
-tells-eqb : (a b : ℕ) → Tells (eqb a b) (a ≡ b)
+-- the test of two numbers tells whether they are equal
+pub tells-eqb : (a b : ℕ) → Tells (eqb a b) (a ≡ b)
 tells-eqb a b = record { holds = eqb-true a b; told = eq-eqb a b }
 
 tells-leb : (a b : ℕ) → Tells (leb a b) (a ≤ b)

@@ -5,3 +5,4 @@ pub mod Drawn
 pub mod Valid
 pub mod Decides
 pub mod Thinned
+pub mod Unrooted

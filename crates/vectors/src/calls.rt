@@ -15,6 +15,7 @@ use cases::room;
 use reader::Kind;
 use reader::Threshold;
 use showing::show;
+use weights::Rooting;
 
 // Runs a case whose first field is a text.
 fn run_with_text(case: &[u8], letter: u8) {
@@ -42,10 +43,14 @@ fn run_with_genes(case: &[u8], letter: u8) {
     let n = numbers(case, 1, false, &mut space);
     let records = &space[..n];
     match letter {
-        b'K' => weighing::run(case, records),
-        b'S' => scoring::run(case, records),
-        b'M' => marking::run(case, records),
-        _ => searching::run(case, records),
+        b'K' => weighing::run(Rooting::Rooted, case, records),
+        b'k' => weighing::run(Rooting::Unrooted, case, records),
+        b'S' => scoring::run(Rooting::Rooted, case, records),
+        b's' => scoring::run(Rooting::Unrooted, case, records),
+        b'M' => marking::run(Rooting::Rooted, case, records),
+        b'm' => marking::run(Rooting::Unrooted, case, records),
+        b'F' => searching::run(Rooting::Rooted, case, records),
+        _ => searching::run(Rooting::Unrooted, case, records),
     }
 }
 
@@ -54,7 +59,7 @@ pub fn run(case: &[u8]) {
     let letter = byte(case, 0);
     match letter {
         b'J' | b'R' | b'G' | b'T' | b'W' | b'P' => run_with_text(case, letter),
-        b'K' | b'S' | b'M' | b'F' => run_with_genes(case, letter),
+        b'K' | b'S' | b'M' | b'F' | b'k' | b's' | b'm' | b'f' => run_with_genes(case, letter),
         _ => show::text(b"no such call\n"),
     }
 }

@@ -1,14 +1,23 @@
 // `F` species | genes | count | allowed | room for scores | room for splits: searches the least tree, and prints the reply, the record
-// and the fingerprints of the two tables.
+// and the fingerprints of the two tables; `f` the same for gene trees without a root.
 use cases::fields::lent_size;
 use cases::fields::number;
 use cases::packed::bytes;
 use cases::room;
 use showing::show;
 use showing::tables;
+use weights::Rooting;
 
-fn search(case: &[u8], records: &[u16], allowed: &[u8], scores: &mut [u32], splits: &mut [u16]) {
+fn search(
+    rooting: Rooting,
+    case: &[u8],
+    records: &[u16],
+    allowed: &[u8],
+    scores: &mut [u32],
+    splits: &mut [u16],
+) {
     let found = search::search(
+        rooting,
         number(case, 0),
         records,
         number(case, 2),
@@ -23,16 +32,23 @@ fn search(case: &[u8], records: &[u16], allowed: &[u8], scores: &mut [u32], spli
 }
 
 // Searches with so many entries in each table.
-fn search_in(case: &[u8], records: &[u16], allowed: &[u8]) {
+fn search_in(rooting: Rooting, case: &[u8], records: &[u16], allowed: &[u8]) {
     let mut scores = room::scores();
     let mut splits = room::numbers();
     let k = lent_size(case, 4);
     let m = lent_size(case, 5);
-    search(case, records, allowed, &mut scores[0..k], &mut splits[0..m]);
+    search(
+        rooting,
+        case,
+        records,
+        allowed,
+        &mut scores[0..k],
+        &mut splits[0..m],
+    );
 }
 
-pub fn run(case: &[u8], records: &[u16]) {
+pub fn run(rooting: Rooting, case: &[u8], records: &[u16]) {
     let mut allowed = room::bytes();
     let n = bytes(case, 3, false, &mut allowed);
-    search_in(case, records, &allowed[..n]);
+    search_in(rooting, case, records, &allowed[..n]);
 }

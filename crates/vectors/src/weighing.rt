@@ -1,7 +1,10 @@
-// `K` species | genes | count | cluster: prints the weight of the cluster.
+// `K` species | genes | count | cluster: prints the weight of the cluster; `k` the same for gene trees without a root.
 use crate::replies;
 use cases::fields::number;
+use weights::Rooting;
 
-pub fn run(case: &[u8], records: &[u16]) {
-    replies::line(lineages::weight(number(case, 0), records, number(case, 2), number(case, 3)));
+pub fn run(rooting: Rooting, case: &[u8], records: &[u16]) {
+    let n = number(case, 0);
+    let count = number(case, 2);
+    replies::line(lineages::weight(rooting, n, records, count, number(case, 3)));
 }

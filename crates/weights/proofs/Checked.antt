@@ -3,28 +3,29 @@ use Prim.Native.Nat.{ℕ, suc, _+_, _-_, _≤_, _<_}
 use mathlib.Core.Path.{_≡_, ap, ap₂, _∙_}
 use mathlib.Core.List.{List, [], _∷_}
 use native.Mathlib.Omega.{arith}
-use lib.ListN.{length, drop, getD, length-take, length-drop, drop-of-length-le}
+use lib.ListN.{length, take, drop, getD, length-take, length-drop, drop-of-length-le}
 use lib.Seq.{drop-cons, getD-take, getD-drop}
 use Rattle.clusters.proofs.Sizes.{size-le}
 use Rattle.trees.specs.Lists.{Among}
 use Rattle.trees.specs.Records.{count, listed, Form}
 use Rattle.trees.proofs.Places.{place-among}
-use Rattle.weights.specs.Count.{extra}
+use Rattle.weights.specs.Count.{kDrawn, extra}
 use Rattle.weights.specs.Work.{Countable}
-use Rattle.weights.proofs.Bounds.{extra-lt-all}
+use Rattle.weights.proofs.Bounds.{drawn-le, extra-lt-all}
+use Rattle.weights.specs.declared.Rooting.{Rooting}
 
 -- ---- where the clusters of a record stand
 
 pub listed-fits : {g : List ℕ} → Form g → count g ≤ length (drop 1 g)
 listed-fits {g} f = let l = f .thirty-two in let k = f .counted in omega (arith, length-drop 1 g)
 
--- the clusters from the i-th on, counted from 1 as they stand in the record
-pub listed-from : {g : List ℕ} (i : ℕ) → Form g → 1 ≤ i → i ≤ count g → drop (i - 1) (listed g) ≡ getD g i 0 ∷ drop (i + 1 - 1) (listed g)
-listed-from {g} i f one last =
-    drop-cons (listed g) (i - 1) 0 inside ∙ ap₂ (λ (x j : ℕ). x ∷ drop j (listed g)) there next
+-- of the first m clusters those from the i-th on, counted from 1 as they stand in the record
+pub first-from : {g : List ℕ} (m i : ℕ) → Form g → m ≤ count g → 1 ≤ i → i ≤ m → drop (i - 1) (take m (drop 1 g)) ≡ getD g i 0 ∷ drop (i + 1 - 1) (take m (drop 1 g))
+first-from {g} m i f fits one last =
+    drop-cons (take m (drop 1 g)) (i - 1) 0 inside ∙ ap₂ (λ (x j : ℕ). x ∷ drop j (take m (drop 1 g))) there next
   where
-    inside : i - 1 < length (listed g)
-    inside = omega (arith, length-take (count g) (drop 1 g), listed-fits f)
+    inside : i - 1 < length (take m (drop 1 g))
+    inside = omega (arith, length-take m (drop 1 g), listed-fits f)
 
     next : suc (i - 1) ≡ i + 1 - 1
     next = omega arith
@@ -32,18 +33,26 @@ listed-from {g} i f one last =
     place : 1 + (i - 1) ≡ i
     place = omega arith
 
-    there : getD (listed g) (i - 1) 0 ≡ getD g i 0
-    there =
-        getD-take (count g) (drop 1 g) (i - 1) 0 (omega arith) ∙ getD-drop 1 g (i - 1) 0 ∙ ap (λ (j : ℕ). getD g j 0) place
+    there : getD (take m (drop 1 g)) (i - 1) 0 ≡ getD g i 0
+    there = getD-take m (drop 1 g) (i - 1) 0 (omega arith) ∙ getD-drop 1 g (i - 1) 0 ∙ ap (λ (j : ℕ). getD g j 0) place
+
+pub first-none : (g : List ℕ) (m i : ℕ) → m < i → drop (i - 1) (take m (drop 1 g)) ≡ []
+first-none g m i past = drop-of-length-le (take m (drop 1 g)) {i = i - 1} (omega (arith, length-take m (drop 1 g)))
+
+-- of all clusters
+pub listed-from : {g : List ℕ} (i : ℕ) → Form g → 1 ≤ i → i ≤ count g → drop (i - 1) (listed g) ≡ getD g i 0 ∷ drop (i + 1 - 1) (listed g)
+listed-from {g} i f one last = first-from (count g) i f (omega arith) one last
 
 pub listed-at : {g : List ℕ} (i : ℕ) → Form g → 1 ≤ i → i ≤ count g → Among (getD g i 0) (listed g)
 listed-at {g} i f one last = place-among g (count g) (f .thirty-two) (f .counted) i one last
 
-pub listed-none : {g : List ℕ} (i : ℕ) → Form g → count g < i → drop (i - 1) (listed g) ≡ []
-listed-none {g} i f past = drop-of-length-le (listed g) {i = i - 1} (omega (arith, length-take (count g) (drop 1 g)))
-
 -- ---- bounds
 
 -- a gene tree has at most 16 species, so at most 15 extra lineages
-pub extra-le : {g : List ℕ} (a : ℕ) → Countable g → extra g a ≤ 15
-extra-le {g} a can = omega (arith, extra-lt-all (can .valid) (can .small) a, size-le 16 (can .small))
+pub extra-le : (rooting : Rooting) {g : List ℕ} (a : ℕ) → Countable g → extra rooting g a ≤ 15
+extra-le rooting {g} a can = omega (arith, extra-lt-all (can .valid) (can .small) rooting a, size-le 16 (can .small))
+
+-- and 01's count is at most 16
+pub drawn-few : {g : List ℕ} → Countable g → (a : ℕ) → kDrawn (listed g) a ≤ 16
+drawn-few {g} can a =
+    omega (arith, drawn-le (can .valid) a (can .species) (λ x t. can .valid .inside x (t .among) .1), size-le 16 (can .small))

@@ -20,6 +20,7 @@ use Rattle.trees.proofs.Children.{Hierarchy, Child, hierarchy-of-valid, among-c
 use Rattle.trees.proofs.ValidTest.{tells-every, tells-within}
 use Rattle.trees.proofs.GeneRecords.{gene-small}
 use Rattle.weights.specs.Count.{holdsMaximal, kOf, extra, weight, score}
+use Rattle.weights.specs.declared.Rooting.the-variants.{Rooted}
 use Rattle.weights.proofs.Joining.{Joins, Clusters, tells-joins, tells-same, joining, k-either}
 use Rattle.weights.proofs.Compared.{le-one-or}
 use Rattle.weights.proofs.Sums.{weight-cons}
@@ -121,19 +122,20 @@ module _ {n : ℕ} {r r′ : List ℕ} (few : n ≤ 16) (v : GeneValid n r) (v�
       (thinned .fewer) a
 
   -- nor do its extra lineages
-  pub extra-never-rises : extra r′ a ≤ extra r a
+  pub extra-never-rises : extra Rooted r′ a ≤ extra Rooted r a
   unfolding extra
   extra-never-rises = omega (arith, k-never-rises)
 
 -- no weight rises
 pub weight-never-rises :
-    {n : ℕ} {genes genes′ : List (List ℕ)} → n ≤ 16 → AllValid n genes → AllValid n genes′ → AllThinned genes genes′ → (a : ℕ) → weight genes′ a ≤ weight genes a
+    {n : ℕ} {genes genes′ : List (List ℕ)} → n ≤ 16 → AllValid n genes → AllValid n genes′ → AllThinned genes genes′ → (a : ℕ)
+    → weight Rooted genes′ a ≤ weight Rooted genes a
 weight-never-rises few v v′ no-records a = omega arith
 weight-never-rises few v v′ (beside {r = r} {r′ = r′} {genes = genes} {genes′ = genes′} t later) a =
     omega (
       arith,
-      weight-cons r genes a,
-      weight-cons r′ genes′ a,
+      weight-cons Rooted r genes a,
+      weight-cons Rooted r′ genes′ a,
       extra-never-rises few (v r (here refl)) (v′ r′ (here refl)) t a,
       weight-never-rises few (λ g m. v g (there m)) (λ g m. v′ g (there m)) later a,
     )
@@ -141,7 +143,7 @@ weight-never-rises few v v′ (beside {r = r} {r′ = r′} {genes = genes} {gen
 -- "no species tree's score rises" (#113)
 pub score-never-rises :
     {n : ℕ} {genes genes′ : List (List ℕ)} → n ≤ 16 → AllValid n genes → AllValid n genes′ → AllThinned genes genes′ → (species : List ℕ)
-    → score genes′ species ≤ score genes species
+    → score Rooted genes′ species ≤ score Rooted genes species
 unfolding score
 score-never-rises {n} {genes} {genes′} few v v′ t species =
-    total-le (λ a. weight genes′ a) (λ a. weight genes a) (listed species) (λ a m. weight-never-rises few v v′ t a)
+    total-le (λ a. weight Rooted genes′ a) (λ a. weight Rooted genes a) (listed species) (λ a m. weight-never-rises few v v′ t a)

@@ -4,12 +4,17 @@ pub mod CountedDrawn
 pub mod Joining
 pub mod CountedDown
 pub mod Compared
+pub mod UnrootedClusters
+pub mod Complements
 pub mod Bounds
+pub mod UnrootedLess
 pub mod Sums
 pub mod Lost
 pub mod Dropped
 pub mod Pass
 pub mod Checked
+pub mod Downward
+pub mod ToMark
 pub mod RunningSums
 pub mod Shown
 pub mod Star

@@ -15,13 +15,13 @@ use Rattle.trees.specs.Lists.{Among, some}
 use Rattle.trees.specs.Records.{listed, largest, GeneValid}
 use Rattle.trees.specs.Valid.{among, every}
 use Rattle.trees.specs.Drawn.{maximal, children}
-use Rattle.trees.proofs.Order.{rising-none-twice}
 use Rattle.trees.proofs.ValidTest.{tells-within}
 use Rattle.trees.proofs.GeneRecords.{gene-small}
 use Rattle.weights.specs.Count.{maximalWithin, holdsMaximal, kOf, oneOr, extra, weight}
+use Rattle.weights.specs.declared.Rooting.the-variants.{Rooted}
 use Rattle.weights.proofs.Joining.{keep-same, tells-same}
 use Rattle.weights.proofs.Compared.{k-never-more, k-some}
-use Rattle.weights.proofs.Bounds.{drawn-le-size}
+use Rattle.weights.proofs.Bounds.{drawn-le}
 use Rattle.weights.proofs.Sums.{weight-cons, weight-anywhere}
 
 -- ---- which clusters lie within A is all that k asks
@@ -67,20 +67,19 @@ module _ {n : ℕ} {g : List ℕ} (few : n ≤ 16) (v : GeneValid n g) (a : ℕ)
   -- then no node is counted
   k-of-none : NoneWithin g a → kOf (listed g) a ≡ 0
   k-of-none none =
-      let most = drawn-le-size (listed g) a 0 (rising-none-twice (listed g) (v .valid .form .rising)) (λ x m. v .valid .inside x m .0) (v .valid .nested)
-      (λ x t. absurd (none x (t .among) (t .inside))) in
+      let most = drawn-le (v .valid) a 0 (λ x t. absurd (none x (t .among) (t .inside))) in
       omega (arith, k-never-more (v .valid) small a, size-zero)
 
   -- "A gene tree with no cluster within A adds nothing to A's weight" (#104)
-  pub none-within-adds-nothing : NoneWithin g a → extra g a ≡ 0
+  pub none-within-adds-nothing : NoneWithin g a → extra Rooted g a ≡ 0
   unfolding extra
   none-within-adds-nothing none = omega (arith, k-of-none none)
 
-  pub apart-adds-nothing : Apart a (largest g) → extra g a ≡ 0
+  pub apart-adds-nothing : Apart a (largest g) → extra Rooted g a ≡ 0
   apart-adds-nothing apart = none-within-adds-nothing (none-within-exactly .1 apart)
 
   -- "Otherwise #101's count less one" (#104): k is at least 1, so this is no less than 0
-  pub met-adds-k-less-one : (Apart a (largest g) → ⊥) → kOf (listed g) a ≡ extra g a + 1
+  pub met-adds-k-less-one : (Apart a (largest g) → ⊥) → kOf (listed g) a ≡ extra Rooted g a + 1
   unfolding Apart extra
   met-adds-k-less-one met =
       let i = some-has (bitAnd a (largest g)) (omega (arith, met)) in
@@ -88,7 +87,7 @@ module _ {n : ℕ} {g : List ℕ} (few : n ≤ 16) (v : GeneValid n g) (a : ℕ)
       let one = k-some (v .valid) small a (i .0) (both .1) (both .0) in
       omega arith
 
-  pub some-within-adds-k-less-one : (x : ℕ) → Among x (listed g) → Within x a → kOf (listed g) a ≡ extra g a + 1
+  pub some-within-adds-k-less-one : (x : ℕ) → Among x (listed g) → Within x a → kOf (listed g) a ≡ extra Rooted g a + 1
   some-within-adds-k-less-one x m w = met-adds-k-less-one (λ apart. none-within-exactly .1 apart x m w)
 
   -- ---- a species that a locus lost can be forgotten
@@ -105,13 +104,13 @@ module _ {n : ℕ} {g : List ℕ} (few : n ≤ 16) (v : GeneValid n g) (a : ℕ)
   k-forgets-lost = k-of-same-within (listed g) a (bitAnd a (largest g)) cut-within
 
   -- and so are its extra lineages
-  pub extra-forgets-lost : extra g a ≡ extra g (bitAnd a (largest g))
+  pub extra-forgets-lost : extra Rooted g a ≡ extra Rooted g (bitAnd a (largest g))
   unfolding extra
   extra-forgets-lost = ap (λ (k : ℕ). k - 1) k-forgets-lost
 
   -- ---- the weight
 
   -- a gene tree without species of A can be left out of the weight of A, wherever it stands
-  pub weight-without-lost : (before behind : List (List ℕ)) → Apart a (largest g) → weight (before ++ (g ∷ behind)) a ≡ weight (before ++ behind) a
+  pub weight-without-lost : (before behind : List (List ℕ)) → Apart a (largest g) → weight Rooted (before ++ (g ∷ behind)) a ≡ weight Rooted (before ++ behind) a
   weight-without-lost before behind apart =
-      omega (arith, weight-anywhere before g behind a, weight-cons g (before ++ behind) a, apart-adds-nothing apart)
+      omega (arith, weight-anywhere Rooted before g behind a, weight-cons Rooted g (before ++ behind) a, apart-adds-nothing apart)

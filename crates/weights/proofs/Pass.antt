@@ -28,7 +28,7 @@ use Rattle.weights.proofs.Checked.{listed-fits, listed-at}
 -- ---- rising lists, cut at a place
 
 -- what stands before a place is smaller, what is smaller stands before it
-rising-before : (x : ℕ) {y : ℕ} (done rest : List ℕ) → Rising (done ++ (x ∷ rest)) → Among y done → y < x
+pub rising-before : (x : ℕ) {y : ℕ} (done rest : List ℕ) → Rising (done ++ (x ∷ rest)) → Among y done → y < x
 unfolding Rising
 rising-before x [] rest r m = absurd (List·Memᴰ·not-nil m)
 rising-before x {y} (z ∷ done) rest r m = go (List·Memᴰ·cases-cons m) (λ h. rising-before x done rest (r .1) h)
@@ -37,7 +37,8 @@ rising-before x {y} (z ∷ done) rest r m = go (List·Memᴰ·cases-cons m) (λ 
     go (inl e) later = let l = rising-below (done ++ (x ∷ rest)) r (Memᴰ·append-right done (here refl)) in omega arith
     go (inr h) later = later h
 
-rising-behind : (x : ℕ) (done rest : List ℕ) → Rising (done ++ (x ∷ rest)) → Rising (x ∷ rest)
+-- from a place on a rising list rises
+pub rising-behind : (x : ℕ) (done rest : List ℕ) → Rising (done ++ (x ∷ rest)) → Rising (x ∷ rest)
 unfolding Rising
 rising-behind x [] rest r = r
 rising-behind x (z ∷ done) rest r = rising-behind x done rest (r .1)

@@ -11,13 +11,15 @@ use lib.Dec.{eqb}
 use borrow.Author.Fill.{fill-more}
 use borrow.Author.Tests.{eq-eqb, ne-eqb}
 use Rattle.trees.specs.Lists.{Among, some}
-use Rattle.trees.specs.Records.{count as countOf, listed, Form, recordsIn}
+use Rattle.trees.specs.Records.{recordsIn}
 use Rattle.trees.specs.Valid.{among}
+use Rattle.weights.specs.Count.{shownBy}
 use Rattle.weights.specs.Marks.{shown, flag}
-use Rattle.weights.specs.Work.{AllMarkable, markedOne, markedAll, marksBelow}
+use Rattle.weights.specs.Work.{AllMarkable, markedOne, toMark, markedAll, marksBelow}
 use Rattle.trees.proofs.Lent.{recordsFrom, records-from-first, records-next, records-from-last}
-use Rattle.weights.proofs.Checked.{listed-from, listed-none}
+use Rattle.weights.proofs.ToMark.{to-mark-below, to-mark-shown}
 use Rattle.trees.proofs.UpTo.{length-map-upTo, map-upTo}
+use Rattle.weights.specs.declared.Rooting.{Rooting}
 
 -- ---- one gene tree after the other
 
@@ -29,23 +31,29 @@ pub marked-cons : (x : ℕ) (l out : List ℕ) → markedOne (x ∷ l) out ≡ m
 unfolding markedOne
 marked-cons x l out = refl
 
-pub all-none : (out : List ℕ) → markedAll [] out ≡ out
-unfolding markedAll
-all-none out = refl
+-- two lists marked one after the other are one
+pub marked-append : (l k out : List ℕ) {first after : List ℕ} → first ≡ markedOne l out → after ≡ markedOne k first → after ≡ markedOne (l ++ k) out
+unfolding markedOne
+marked-append [] k out e d = d ∙ ap (λ (o : List ℕ). markedOne k o) e
+marked-append (x ∷ l) k out e d = marked-append l k (set out x 1) e d
 
-pub all-cons : (g : List ℕ) (l : List (List ℕ)) (out : List ℕ) → markedAll (g ∷ l) out ≡ markedAll l (markedOne (listed g) out)
+pub all-none : (rooting : Rooting) (out : List ℕ) → markedAll rooting [] out ≡ out
 unfolding markedAll
-all-cons g l out = refl
+all-none rooting out = refl
+
+pub all-cons : (rooting : Rooting) (g : List ℕ) (l : List (List ℕ)) (out : List ℕ) → markedAll rooting (g ∷ l) out ≡ markedAll rooting l (markedOne (toMark rooting g) out)
+unfolding markedAll
+all-cons rooting g l out = refl
 
 pub length-marked : (l out : List ℕ) → length (markedOne l out) ≡ length out
 unfolding markedOne
 length-marked [] out = refl
 length-marked (x ∷ l) out = length-marked l (set out x 1) ∙ length-set out x 1
 
-pub length-all : (genes : List (List ℕ)) (out : List ℕ) → length (markedAll genes out) ≡ length out
+pub length-all : (rooting : Rooting) (genes : List (List ℕ)) (out : List ℕ) → length (markedAll rooting genes out) ≡ length out
 unfolding markedAll
-length-all [] out = refl
-length-all (g ∷ l) out = length-all l (markedOne (listed g) out) ∙ length-marked (listed g) out
+length-all rooting [] out = refl
+length-all rooting (g ∷ l) out = length-all rooting l (markedOne (toMark rooting g) out) ∙ length-marked (toMark rooting g) out
 
 -- ---- bytes behind those that are marked stay
 
@@ -56,12 +64,13 @@ marked-front (x ∷ l) xs ys f =
     ap (λ (k : List ℕ). markedOne l k) (set-append-left xs ys x 1 (f x (here refl)))
     ∙ marked-front l (set xs x 1) ys (λ y h. rw length-set (f y (there h)))
 
-all-front : (genes : List (List ℕ)) (xs ys : List ℕ) → AllMarkable (length xs) genes → markedAll genes (xs ++ ys) ≡ markedAll genes xs ++ ys
+all-front : (rooting : Rooting) (genes : List (List ℕ)) (xs ys : List ℕ) → AllMarkable (length xs) genes
+    → markedAll rooting genes (xs ++ ys) ≡ markedAll rooting genes xs ++ ys
 unfolding markedAll
-all-front [] xs ys f = refl
-all-front (g ∷ l) xs ys f =
-    ap (λ (k : List ℕ). markedAll l k) (marked-front (listed g) xs ys (f g (here refl) .below))
-    ∙ all-front l (markedOne (listed g) xs) ys (λ h m. rw length-marked (f h (there m)))
+all-front rooting [] xs ys f = refl
+all-front rooting (g ∷ l) xs ys f =
+    ap (λ (k : List ℕ). markedAll rooting l k) (marked-front (toMark rooting g) xs ys (to-mark-below rooting (f g (here refl))))
+    ∙ all-front rooting l (markedOne (toMark rooting g) xs) ys (λ h m. rw length-marked (f h (there m)))
 
 -- ---- what stands at an index
 
@@ -80,13 +89,16 @@ marked-at (x ∷ l) out a h = marked-at l (set out x 1) a (rw length-set h) ∙ 
     go (no d) true = rw (ne-eqb a x d)
     go (no d) false = rw (ne-eqb a x d) (getD-set-other out x a 1 0 d)
 
-all-at : (genes : List (List ℕ)) (out : List ℕ) (a : ℕ) → a < length out → getD (markedAll genes out) a 0 ≡ markIf (shown genes a) (getD out a 0)
+all-at :
+    (rooting : Rooting) {bytes : ℕ} (genes : List (List ℕ)) (out : List ℕ) (a : ℕ) → AllMarkable bytes genes → a < length out
+    → getD (markedAll rooting genes out) a 0 ≡ markIf (shown rooting genes a) (getD out a 0)
 unfolding markedAll shown markIf
-all-at [] out a h = refl
-all-at (g ∷ l) out a h =
-    all-at l (markedOne (listed g) out) a (rw length-marked h)
-    ∙ ap (λ (v : ℕ). markIf (shown l a) v) (marked-at (listed g) out a h)
-    ∙ go (shown l a) (among a (listed g))
+all-at rooting [] out a f h = refl
+all-at rooting (g ∷ l) out a f h =
+    all-at rooting l (markedOne (toMark rooting g) out) a (λ k m. f k (there m)) (rw length-marked h)
+    ∙ ap (λ (v : ℕ). markIf (shown rooting l a) v) (marked-at (toMark rooting g) out a h
+    ∙ ap (λ (b : Bool). markIf b (getD out a 0)) (to-mark-shown rooting (f g (here refl) .form) a))
+    ∙ go (shown rooting l a) (among a (shownBy rooting g))
   where
     go : (b c : Bool) → markIf b (markIf c (getD out a 0)) ≡ markIf (c || b) (getD out a 0)
     go true true = refl
@@ -96,42 +108,44 @@ all-at (g ∷ l) out a h =
 
 -- ---- the marks
 
-pub length-marks : (entries : ℕ) (genes : List (List ℕ)) → length (marksBelow entries genes) ≡ entries
+pub length-marks : (rooting : Rooting) (entries : ℕ) (genes : List (List ℕ)) → length (marksBelow rooting entries genes) ≡ entries
 unfolding marksBelow
-length-marks entries genes = length-map-upTo (λ a. flag (shown genes a)) entries
+length-marks rooting entries genes = length-map-upTo (λ a. flag (shown rooting genes a)) entries
 
 -- zeros that are marked for all gene trees are the marks
-all-marks : (entries : ℕ) (genes : List (List ℕ)) → markedAll genes (replicate entries 0) ≡ marksBelow entries genes
+all-marks : (rooting : Rooting) (entries : ℕ) (genes : List (List ℕ)) → AllMarkable entries genes
+    → markedAll rooting genes (replicate entries 0) ≡ marksBelow rooting entries genes
 unfolding marksBelow markIf
-all-marks entries genes = ext-getD 0 (markedAll genes (replicate entries 0)) (marksBelow entries genes) (size ∙ sym long) each
+all-marks rooting entries genes f = ext-getD 0 (markedAll rooting genes (replicate entries 0)) (marksBelow rooting entries genes) (size ∙ sym long) each
   where
-    size : length (markedAll genes (replicate entries 0)) ≡ entries
-    size = length-all genes (replicate entries 0) ∙ length-replicate entries 0
+    size : length (markedAll rooting genes (replicate entries 0)) ≡ entries
+    size = length-all rooting genes (replicate entries 0) ∙ length-replicate entries 0
 
-    long : length (marksBelow entries genes) ≡ entries
-    long = length-marks entries genes
+    long : length (marksBelow rooting entries genes) ≡ entries
+    long = length-marks rooting entries genes
 
     flagged : (b : Bool) → markIf b 0 ≡ flag b
     flagged true = refl
     flagged false = refl
 
-    each : (a : ℕ) → a < length (markedAll genes (replicate entries 0)) → getD (markedAll genes (replicate entries 0)) a 0 ≡ getD (marksBelow entries genes) a 0
+    each : (a : ℕ) → a < length (markedAll rooting genes (replicate entries 0))
+        → getD (markedAll rooting genes (replicate entries 0)) a 0 ≡ getD (marksBelow rooting entries genes) a 0
     each a h =
         let k : a < entries = omega (arith, size) in
-        all-at genes (replicate entries 0) a (rw length-replicate k)
-        ∙ ap (λ (v : ℕ). markIf (shown genes a) v) (getD-replicate entries a 0 0 k)
-        ∙ flagged (shown genes a)
-        ∙ sym (map-upTo (λ a. flag (shown genes a)) entries a k)
+        all-at rooting genes (replicate entries 0) a f (rw length-replicate k)
+        ∙ ap (λ (v : ℕ). markIf (shown rooting genes a) v) (getD-replicate entries a 0 0 k)
+        ∙ flagged (shown rooting genes a)
+        ∙ sym (map-upTo (λ a. flag (shown rooting genes a)) entries a k)
 
 -- cleared bytes that are marked are the marks, and behind them what was there
 pub cleared-marked :
-    (entries : ℕ) (genes : List (List ℕ)) (out : List ℕ) {clear after : List ℕ} → AllMarkable entries genes
-    → clear ≡ replicate entries 0 ++ drop entries out → after ≡ markedAll genes clear → after ≡ marksBelow entries genes ++ drop entries out
-cleared-marked entries genes out f zeros marked =
+    (rooting : Rooting) (entries : ℕ) (genes : List (List ℕ)) (out : List ℕ) {clear after : List ℕ} → AllMarkable entries genes
+    → clear ≡ replicate entries 0 ++ drop entries out → after ≡ markedAll rooting genes clear → after ≡ marksBelow rooting entries genes ++ drop entries out
+cleared-marked rooting entries genes out f zeros marked =
     marked
-    ∙ ap (λ (k : List ℕ). markedAll genes k) zeros
-    ∙ all-front genes (replicate entries 0) (drop entries out) (λ g m. rw length-replicate (f g m))
-    ∙ ap (λ (l : List ℕ). l ++ drop entries out) (all-marks entries genes)
+    ∙ ap (λ (k : List ℕ). markedAll rooting genes k) zeros
+    ∙ all-front rooting genes (replicate entries 0) (drop entries out) (λ g m. rw length-replicate (f g m))
+    ∙ ap (λ (l : List ℕ). l ++ drop entries out) (all-marks rooting entries genes f)
 
 -- ---- the loops
 
@@ -170,50 +184,50 @@ cleared-size out entries {clear} e fits = cleared-length cleared fits
 pub markable-more : {m k : ℕ} (genes : List (List ℕ)) → m ≤ k → AllMarkable m genes → AllMarkable k genes
 markable-more genes l f g h = let p = f g h in record { form = p .form; below = λ x a. let b = p .below x a in omega arith }
 
--- the bytes when the clusters before the i-th, counted from 1, are marked: what is left to mark gives all
-pub record MarkedTo (g out₀ out : List ℕ) (i : ℕ) : Type 0 where
+-- the bytes when some clusters of a list are marked: the rest, left to mark, gives all; i is where the rest begins, counted from 1
+pub record MarkedTo (l out₀ rest out : List ℕ) (i : ℕ) : Type 0 where
   pub first : 1 ≤ i
   pub same : length out ≡ length out₀
-  pub left : markedOne (drop (i - 1) (listed g)) out ≡ markedOne (listed g) out₀
+  pub left : markedOne rest out ≡ markedOne l out₀
 
-pub marked-start : (g out : List ℕ) → MarkedTo g out out 1
-marked-start g out = record { first = omega arith; same = refl; left = refl }
+pub marked-start : (l out : List ℕ) → MarkedTo l out l out 1
+marked-start l out = record { first = omega arith; same = refl; left = refl }
 
-module _ {g out₀ out : List ℕ} {i : ℕ} (now : MarkedTo g out₀ out i) (form : Form g) where
-  pub marked-next : i ≤ countOf g → MarkedTo g out₀ (set out (getD g i 0) 1) (i + 1)
-  marked-next l = record {
+module _ {l out₀ rest out : List ℕ} {i : ℕ} (now : MarkedTo l out₀ rest out i) where
+  pub marked-next : {x : ℕ} {rest′ : List ℕ} → rest ≡ x ∷ rest′ → MarkedTo l out₀ rest′ (set out x 1) (i + 1)
+  marked-next {x} {rest′} e = record {
     first = omega arith;
-    same = length-set out (getD g i 0) 1 ∙ now .same;
-    left = sym (marked-cons (getD g i 0) (drop (i + 1 - 1) (listed g)) out) ∙ ap (λ (k : List ℕ). markedOne k out) (sym (listed-from i form (now .first) l)) ∙ now .left;
+    same = length-set out x 1 ∙ now .same;
+    left = sym (marked-cons x rest′ out) ∙ ap (λ (k : List ℕ). markedOne k out) (sym e) ∙ now .left;
   }
 
-  pub marked-end : countOf g < i → out ≡ markedOne (listed g) out₀
-  marked-end l = sym (marked-none out) ∙ ap (λ (k : List ℕ). markedOne k out) (sym (listed-none i form l)) ∙ now .left
+  pub marked-end : rest ≡ [] → out ≡ markedOne l out₀
+  marked-end e = sym (marked-none out) ∙ ap (λ (k : List ℕ). markedOne k out) (sym e) ∙ now .left
 
 -- the bytes when the gene trees before the i-th are marked
-pub record AllMarkedTo (genes : List ℕ) (count : ℕ) (out₀ out : List ℕ) (i : ℕ) : Type 0 where
+pub record AllMarkedTo (rooting : Rooting) (genes : List ℕ) (count : ℕ) (out₀ out : List ℕ) (i : ℕ) : Type 0 where
   pub place : i ≤ count
   pub same : length out ≡ length out₀
-  pub left : markedAll (recordsFrom i count genes) out ≡ markedAll (recordsIn count genes) out₀
+  pub left : markedAll rooting (recordsFrom i count genes) out ≡ markedAll rooting (recordsIn count genes) out₀
 
-pub all-start : (genes : List ℕ) (count : ℕ) (out : List ℕ) → AllMarkedTo genes count out out 0
-all-start genes count out = record { place = omega arith; same = refl; left = ap (λ (l : List (List ℕ)). markedAll l out) (records-from-first count genes) }
+pub all-start : (rooting : Rooting) (genes : List ℕ) (count : ℕ) (out : List ℕ) → AllMarkedTo rooting genes count out out 0
+all-start rooting genes count out = record { place = omega arith; same = refl; left = ap (λ (l : List (List ℕ)). markedAll rooting l out) (records-from-first count genes) }
 
-module _ {genes : List ℕ} {count : ℕ} {out₀ out : List ℕ} {i : ℕ} (now : AllMarkedTo genes count out₀ out i) where
-  pub all-next : {after : List ℕ} → i < count → after ≡ markedOne (listed (take 32 (drop (32 * i) genes))) out → AllMarkedTo genes count out₀ after (i + 1)
+module _ (rooting : Rooting) {genes : List ℕ} {count : ℕ} {out₀ out : List ℕ} {i : ℕ} (now : AllMarkedTo rooting genes count out₀ out i) where
+  pub all-next : {after : List ℕ} → i < count → after ≡ markedOne (toMark rooting (take 32 (drop (32 * i) genes))) out → AllMarkedTo rooting genes count out₀ after (i + 1)
   all-next {after} l e = record {
     place = omega arith;
-    same = ap length e ∙ length-marked (listed (take 32 (drop (32 * i) genes))) out ∙ now .same;
+    same = ap length e ∙ length-marked (toMark rooting (take 32 (drop (32 * i) genes))) out ∙ now .same;
     left =
-        ap (λ (k : List ℕ). markedAll (recordsFrom (i + 1) count genes) k) e
-        ∙ sym (all-cons (take 32 (drop (32 * i) genes)) (recordsFrom (i + 1) count genes) out)
-        ∙ ap (λ (k : List (List ℕ)). markedAll k out) (sym (records-next i count genes l))
+        ap (λ (k : List ℕ). markedAll rooting (recordsFrom (i + 1) count genes) k) e
+        ∙ sym (all-cons rooting (take 32 (drop (32 * i) genes)) (recordsFrom (i + 1) count genes) out)
+        ∙ ap (λ (k : List (List ℕ)). markedAll rooting k out) (sym (records-next i count genes l))
         ∙ now .left;
   }
 
-  pub all-end : count ≤ i → out ≡ markedAll (recordsIn count genes) out₀
+  pub all-end : count ≤ i → out ≡ markedAll rooting (recordsIn count genes) out₀
   all-end l =
       let all : i ≡ count = omega (arith, now .place) in
-      sym (all-none out)
-      ∙ ap (λ (k : List (List ℕ)). markedAll k out) (sym (ap (λ (j : ℕ). recordsFrom j count genes) all ∙ records-from-last count genes))
+      sym (all-none rooting out)
+      ∙ ap (λ (k : List (List ℕ)). markedAll rooting k out) (sym (ap (λ (j : ℕ). recordsFrom j count genes) all ∙ records-from-last count genes))
       ∙ now .left

@@ -4,11 +4,12 @@ use mathlib.Core.Bool.{Bool, true, false, _||_}
 use mathlib.Core.List.{List, [], _∷_}
 use Rattle.trees.specs.Valid.{among}
 use Rattle.weights.specs.Count.{shownBy}
+use Rattle.weights.specs.declared.Rooting.{Rooting}
 
 -- cluster a is shown by some gene tree
-unfoldable pub shown : List (List ℕ) → ℕ → Bool
-shown [] a = false
-shown (g ∷ l) a = among a (shownBy g) || shown l a
+unfoldable pub shown : Rooting → List (List ℕ) → ℕ → Bool
+shown rooting [] a = false
+shown rooting (g ∷ l) a = among a (shownBy rooting g) || shown rooting l a
 
 -- "1 for each cluster shown by some gene tree, else 0"
 abbrev pub flag : Bool → ℕ

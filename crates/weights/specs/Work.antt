@@ -1,10 +1,14 @@
 -- What counting and marking ask of gene records, and the bytes while they are marked.
-use Prim.Native.Nat.{ℕ, _^_, _<_}
-use mathlib.Core.List.{List, [], _∷_, map, List·Memᴰ}
-use lib.ListN.{set}
+use Prim.Native.Nat.{ℕ, _-_, _^_, _≤_, _<_}
+use mathlib.Core.List.{List, [], _∷_, _++_, map, List·Memᴰ}
+use lib.ListN.{set, take, drop}
+use Rattle.clusters.specs.Sets.{Within}
 use Rattle.trees.specs.Lists.{Among, upTo}
-use Rattle.trees.specs.Records.{listed, Form, ValidOn}
+use Rattle.trees.specs.Records.{count, listed, largest, Form, ValidOn}
+use Rattle.weights.specs.Count.{complement}
 use Rattle.weights.specs.Marks.{shown, flag}
+use Rattle.weights.specs.declared.Rooting.{Rooting}
+use Rattle.weights.specs.declared.Rooting.the-variants.{Rooted, Unrooted}
 
 -- a gene record that can be counted: the valid record of a tree on some set of species
 pub record Countable (g : List ℕ) : Type 0 where
@@ -15,6 +19,12 @@ pub record Countable (g : List ℕ) : Type 0 where
 -- every gene record can be counted
 abbrev pub AllCountable : List (List ℕ) → Type 0
 AllCountable genes = (g : List ℕ) → List·Memᴰ g genes → Countable g
+
+-- y is the smallest cluster of a gene record that holds all of b
+pub record SmallestHolder (g : List ℕ) (b y : ℕ) : Type 0 where
+  pub among : Among y (listed g)
+  pub holds : Within b y
+  pub least : (z : ℕ) → Among z (listed g) → Within b z → y ≤ z
 
 -- a gene record whose clusters are all below a number of bytes
 pub record Markable (bytes : ℕ) (g : List ℕ) : Type 0 where
@@ -30,12 +40,21 @@ unfoldable pub markedOne : List ℕ → List ℕ → List ℕ
 markedOne [] out = out
 markedOne (x ∷ l) out = markedOne l (set out x 1)
 
--- and at each cluster of each gene record
-unfoldable pub markedAll : List (List ℕ) → List ℕ → List ℕ
+-- the complement of each cluster of a record before its last, which is the whole
+unfoldable pub complements : List ℕ → List ℕ
+complements g = map (λ x. complement (largest g) x) (take (count g - 1) (drop 1 g))
+
+-- the clusters to be marked for a gene record, one after the other
+abbrev pub toMark : Rooting → List ℕ → List ℕ
+toMark Rooted g = listed g
+toMark Unrooted g = listed g ++ complements g
+
+-- bytes with a one at each of these of each gene record
+unfoldable pub markedAll : Rooting → List (List ℕ) → List ℕ → List ℕ
 unfolding markedOne
-markedAll [] out = out
-markedAll (g ∷ l) out = markedAll l (markedOne (listed g) out)
+markedAll rooting [] out = out
+markedAll rooting (g ∷ l) out = markedAll rooting l (markedOne (toMark rooting g) out)
 
 -- a byte for each number below a bound: 1 for each cluster shown by some gene tree, else 0
-unfoldable pub marksBelow : ℕ → List (List ℕ) → List ℕ
-marksBelow entries genes = map (λ a. flag (shown genes a)) (upTo entries)
+unfoldable pub marksBelow : Rooting → ℕ → List (List ℕ) → List ℕ
+marksBelow rooting entries genes = map (λ a. flag (shown rooting genes a)) (upTo entries)

@@ -2,3 +2,9 @@
 pub mod adding;
 pub mod count;
 pub mod marking;
+
+// How gene trees are counted: with their roots as drawn, or as trees without a root.
+pub enum Rooting {
+    Rooted,
+    Unrooted,
+}

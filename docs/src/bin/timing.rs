@@ -1,5 +1,6 @@
 //! Times this version's search at 16 species and 2,000 gene trees with all clusters allowed, and writes the gene records to the
 //! file that its argument names, as sixteen-bit numbers, for docs/src/timing.c to time the proved one on the same input.
+use reference::lineages::Rooting;
 use reference::seeded::Seeded;
 use std::time::Instant;
 
@@ -31,6 +32,6 @@ fn main() {
     let allowed = vec![1u8; 1 << SPECIES];
     let (mut scores, mut splits) = (vec![0u32; 1 << SPECIES], vec![0u16; 1 << SPECIES]);
     let begin = Instant::now();
-    let (score, _) = reference::search::search(SPECIES, &genes, TREES, &allowed, &mut scores, &mut splits).unwrap();
+    let (score, _) = reference::search::search(Rooting::Rooted, SPECIES, &genes, TREES, &allowed, &mut scores, &mut splits).unwrap();
     println!("score {score}, {} ms", begin.elapsed().as_millis());
 }

@@ -1,11 +1,13 @@
 //! What this version does in two ways comes out alike, on random inputs from fixed seeds.
 use reference::label;
-use reference::lineages::{extra, extra_by_pass, k, k_by_pass, score, weight_of};
+use reference::lineages::Rooting::{self, Rooted, Unrooted};
+use reference::lineages::{extra, extra_by_pass, k, k_by_pass, mark, records, score, shown, weight_of};
 use reference::reader::{read, Kind};
+use reference::report::report;
 use reference::roster::{joined, names};
 use reference::search::{brute, search, tables, weights};
-use reference::seeded::Seeded;
-use reference::trees::{binary, clusters, largest, record, valid, valid_gene, whole, Record};
+use reference::seeded::{Seeded, Tree};
+use reference::trees::{binary, clusters, largest, may_unroot, record, valid, valid_gene, whole, Record};
 use reference::writer::write;
 use reference::{Refusal, NAME, SPECIES};
 
@@ -29,6 +31,15 @@ fn genes(s: &mut Seeded, n: usize) -> Vec<Record> {
     (0..1 + s.below(5)).map(|_| gene(s, n)).collect()
 }
 
+/// Gene trees and how they are taken.
+fn genes_by_rooting(s: &mut Seeded, n: usize) -> (Rooting, Vec<Record>) {
+    if s.one_in(2) {
+        (Rooted, genes(s, n))
+    } else {
+        (Unrooted, (0..1 + s.below(5)).map(|_| s.unrooted(n).record()).collect())
+    }
+}
+
 fn cluster(s: &mut Seeded, n: usize) -> u16 {
     1 + s.below(whole(n) as usize) as u16
 }
@@ -44,7 +55,8 @@ fn all_trees_and_the_dynamic_program_fill_the_same_tables() {
             let most = 1 + s.below(5);
             (0..1 << n).map(|_| s.below(most) as u32).collect()
         } else {
-            weights(n, &genes(&mut s, n))
+            let (rooting, genes) = genes_by_rooting(&mut s, n);
+            weights(rooting, n, &genes)
         };
         assert_eq!(brute(n, &weights, &allowed), tables(n, &weights, &allowed), "n {n}, weights {weights:?}, allowed {allowed:?}");
     }
@@ -55,11 +67,11 @@ fn k_by_its_definition_and_by_the_pass() {
     let mut s = Seeded::new(2);
     for _ in 0..5000 {
         let n = 1 + s.below(16);
-        let gene = gene(&mut s, n);
+        let (rooting, gene) = if s.one_in(2) { (Rooted, gene(&mut s, n)) } else { (Unrooted, s.unrooted(n).record()) };
         for _ in 0..20 {
             let a = cluster(&mut s, n);
-            assert_eq!(k(&gene, a), k_by_pass(&gene, a), "gene tree {gene:?}, cluster {a}");
-            assert_eq!(extra(&gene, a), extra_by_pass(&gene, a), "gene tree {gene:?}, cluster {a}");
+            assert_eq!(k(rooting, &gene, a), k_by_pass(rooting, &gene, a), "{rooting:?} gene tree {gene:?}, cluster {a}");
+            assert_eq!(extra(rooting, &gene, a), extra_by_pass(rooting, &gene, a), "{rooting:?} gene tree {gene:?}, cluster {a}");
         }
     }
 }
@@ -82,8 +94,8 @@ fn lost_species_can_be_left_off_the_roster() {
         for _ in 0..20 {
             let a = cluster(&mut s, n);
             let here = renumbered(a & kept, kept);
-            let expected = if here == 0 { 0 } else { k(&alone, here) - 1 };
-            assert_eq!(extra(&gene, a), expected, "gene tree {gene:?}, cluster {a}");
+            let expected = if here == 0 { 0 } else { k(Rooted, &alone, here) - 1 };
+            assert_eq!(extra(Rooted, &gene, a), expected, "gene tree {gene:?}, cluster {a}");
         }
     }
 }
@@ -95,7 +107,7 @@ fn a_gene_tree_without_species_of_a_cluster_changes_no_weight() {
         let n = 2 + s.below(15);
         let (some, a) = (genes(&mut s, n), cluster(&mut s, n));
         let kept: Vec<Record> = some.iter().copied().filter(|gene| largest(gene) & a != 0).collect();
-        assert_eq!(weight_of(&some, a), weight_of(&kept, a), "gene trees {some:?}, cluster {a}");
+        assert_eq!(weight_of(Rooted, &some, a), weight_of(Rooted, &kept, a), "gene trees {some:?}, cluster {a}");
     }
 }
 
@@ -183,15 +195,15 @@ fn the_tree_found_has_the_score_found() {
     let mut trees = 0;
     for _ in 0..2000 {
         let n = 1 + s.below(8);
-        let genes = genes(&mut s, n);
+        let (rooting, genes) = genes_by_rooting(&mut s, n);
         let (flat, count) = (genes.concat(), genes.len());
         let allowed = allowed(&mut s, n);
         let (mut scores, mut splits) = (vec![0; 1 << n], vec![0; 1 << n]);
-        let Ok((found, tree)) = search(n, &flat, count, &allowed, &mut scores, &mut splits) else {
+        let Ok((found, tree)) = search(rooting, n, &flat, count, &allowed, &mut scores, &mut splits) else {
             continue;
         };
         assert!(valid(n, &tree) && binary(n, &tree));
-        assert_eq!(score(n, &flat, count, &tree), Ok(found));
+        assert_eq!(score(rooting, n, &flat, count, &tree), Ok(found));
         trees += 1;
     }
     assert!(trees > 500, "only {trees} of 2,000 searches found a tree");
@@ -607,14 +619,148 @@ fn k_and_scores_never_rise_with_the_threshold() {
         };
         for _ in 0..10 {
             let a = cluster(&mut s, n);
-            assert!(k(&high, a) <= k(&low, a) && k(&low, a) <= k(&zero, a), "{zero:?}, {low:?}, {high:?}, cluster {a}");
-            assert!(extra(&high, a) <= extra(&low, a) && extra(&low, a) <= extra(&zero, a), "{zero:?}, {low:?}, {high:?}, cluster {a}");
-            smaller += (k(&high, a) < k(&zero, a)) as usize;
+            assert!(k(Rooted, &high, a) <= k(Rooted, &low, a) && k(Rooted, &low, a) <= k(Rooted, &zero, a), "{zero:?}, {low:?}, {high:?}, cluster {a}");
+            assert!(extra(Rooted, &high, a) <= extra(Rooted, &low, a) && extra(Rooted, &low, a) <= extra(Rooted, &zero, a), "{zero:?}, {low:?}, {high:?}, cluster {a}");
+            smaller += (k(Rooted, &high, a) < k(Rooted, &zero, a)) as usize;
         }
         let species = s.gene(n, true);
-        let [zero, low, high] = [zero, low, high].map(|gene| score(n, &gene, 1, &species).unwrap());
+        let [zero, low, high] = [zero, low, high].map(|gene| score(Rooted, n, &gene, 1, &species).unwrap());
         assert!(high <= low && low <= zero, "scores {zero}, {low}, {high}");
         less += (high < zero) as usize;
     }
     assert!(smaller > 1000 && less > 300, "{smaller} counts and {less} scores came out smaller");
+}
+
+/// The drawings of a binary tree with its root on the branch above a part of it or on one below, the rest hanging at that branch's other end.
+fn drawings(part: &Tree, rest: &Tree, found: &mut Vec<Tree>) {
+    found.push(Tree::Node(vec![part.clone(), rest.clone()]));
+    if let Tree::Node(children) = part {
+        for (i, child) in children.iter().enumerate() {
+            drawings(child, &Tree::Node(vec![children[1 - i].clone(), rest.clone()]), found);
+        }
+    }
+}
+
+/// The records of a binary tree on n species with its root drawn on each of its 2n - 3 branches, the one that it is drawn on first.
+fn rootings(tree: &Tree) -> Vec<Record> {
+    let Tree::Node(children) = tree else {
+        return vec![tree.record()];
+    };
+    let mut found = Vec::new();
+    drawings(&children[0], &children[1], &mut found);
+    drawings(&children[1], &children[0], &mut found);
+    let mut records: Vec<Record> = Vec::new();
+    for record in found.iter().map(Tree::record) {
+        if !records.contains(&record) {
+            records.push(record);
+        }
+    }
+    records
+}
+
+#[test]
+fn where_the_root_was_drawn_changes_nothing_without_a_root() {
+    let mut s = Seeded::new(19);
+    let (mut drawn_elsewhere, mut rooted_differ) = (0, 0);
+    for _ in 0..2000 {
+        let n = 1 + s.below(16);
+        let (mut here, mut there) = (Vec::new(), Vec::new());
+        for _ in 0..1 + s.below(3) {
+            let tree = s.unrooted(n);
+            here.push(tree.record());
+            there.push(s.redrawn(tree).record());
+            assert!(here.iter().chain(&there).all(|r| valid(n, r) && may_unroot(n, r)));
+        }
+        drawn_elsewhere += (here != there) as usize;
+        assert!(here.iter().zip(&there).all(|(x, y)| shown(Unrooted, x) == shown(Unrooted, y)));
+        for _ in 0..20 {
+            let a = cluster(&mut s, n);
+            assert_eq!(weight_of(Unrooted, &here, a), weight_of(Unrooted, &there, a), "gene trees {here:?} and {there:?}, cluster {a}");
+            rooted_differ += (weight_of(Rooted, &here, a) != weight_of(Rooted, &there, a)) as usize;
+        }
+        if n <= 7 {
+            let searched = |genes: &[Record]| {
+                let (mut marks, mut scores, mut splits) = (vec![9; 1 << n], vec![0; 1 << n], vec![0; 1 << n]);
+                mark(Unrooted, n, &genes.concat(), genes.len(), &mut marks).unwrap();
+                let found = search(Unrooted, n, &genes.concat(), genes.len(), &marks, &mut scores, &mut splits).unwrap();
+                (marks, scores, splits, found)
+            };
+            assert_eq!(searched(&here), searched(&there));
+        }
+    }
+    assert!(drawn_elsewhere > 1000 && rooted_differ > 5000, "{drawn_elsewhere} trees drawn elsewhere, {rooted_differ} weights that differ with roots");
+}
+
+#[test]
+fn without_a_root_and_over_all_branches_that_may_hold_it() {
+    let mut s = Seeded::new(20);
+    let mut less = 0;
+    for _ in 0..2000 {
+        let n = 1 + s.below(16);
+        let tree = s.tree((0..n).collect(), true);
+        let rooted = rootings(&tree);
+        assert_eq!(rooted.len(), if n < 3 { 1 } else { 2 * n - 3 });
+        let redrawn = s.redrawn(tree).record();
+        for _ in 0..20 {
+            let a = cluster(&mut s, n);
+            let counts: Vec<usize> = rooted.iter().map(|r| k(Rooted, r, a)).collect();
+            assert_eq!(k(Unrooted, &redrawn, a), *counts.iter().min().unwrap(), "gene tree {redrawn:?}, cluster {a}");
+            less += (counts[0] > k(Unrooted, &redrawn, a)) as usize;
+            // the count with the root above a species that the cluster lacks
+            for i in (0..n).filter(|i| n > 2 && a >> i & 1 == 0) {
+                let outgroup = rooted.iter().position(|r| clusters(r).contains(&(whole(n) - (1 << i)))).unwrap();
+                assert_eq!(counts[outgroup], k(Unrooted, &redrawn, a), "gene tree {redrawn:?}, cluster {a}, root above {i}");
+            }
+        }
+        // one branch is the best for all clusters of a species tree at once
+        let species = s.gene(n, true);
+        let best = rooted.iter().map(|r| score(Rooted, n, r, 1, &species).unwrap()).min();
+        assert_eq!(score(Unrooted, n, &redrawn, 1, &species).ok(), best, "gene tree {redrawn:?}, species tree {species:?}");
+    }
+    assert!(less > 2000, "{less} counts are less without a root");
+}
+
+/// That a valid gene record may be taken without its root, by its number of clusters: a binary tree has 2n - 1. With one less a single node has three children, and
+/// it is the root where what the largest child leaves of the whole is no cluster.
+fn may_unroot_by_count(n: usize, r: &Record) -> bool {
+    let m = r[0] as usize;
+    let left = || whole(n) - r[m - 1];
+    largest(r) == whole(n) && (m + 1 == 2 * n || m + 2 == 2 * n && !clusters(r).contains(&left()))
+}
+
+#[test]
+fn what_enters_without_a_root_by_its_children_and_by_its_count() {
+    let mut s = Seeded::new(21);
+    let mut both = [0; 2];
+    for _ in 0..20_000 {
+        let n = 1 + s.below(8);
+        let some: Vec<Record> = (0..1 + s.below(3)).map(|_| if s.one_in(2) { s.unrooted(n).record() } else { gene(&mut s, n) }).collect();
+        let refused = some.iter().position(|r| !may_unroot_by_count(n, r));
+        let answer = records(Unrooted, n, &some.concat(), some.len());
+        assert_eq!(answer, refused.map_or(Ok(some.clone()), |index| Err((19, index))), "gene trees {some:?}");
+        assert_eq!(records(Rooted, n, &some.concat(), some.len()), Ok(some));
+        both[answer.is_ok() as usize] += 1;
+    }
+    assert!(both[0] > 5000 && both[1] > 3000);
+}
+
+#[test]
+fn the_program_prints_the_same_wherever_the_roots_were_drawn() {
+    let mut s = Seeded::new(22);
+    for _ in 0..1000 {
+        let n = 1 + s.below(7);
+        let names = s.printables(n);
+        let labels = s.labels(&names);
+        let mode = [&b"\nall unrooted\n"[..], b"\ngenes unrooted\n"][s.below(2)];
+        let mut inputs = [0; 2].map(|_| [&labels.join(&b' ')[..], mode].concat());
+        for _ in 0..1 + s.below(4) {
+            let tree = s.unrooted(n);
+            let redrawn = s.redrawn(tree.clone());
+            inputs[0].extend(s.text_of(&tree, &labels));
+            inputs[1].extend(s.text_of(&redrawn, &labels));
+        }
+        let [here, there] = inputs.map(|input| String::from_utf8(report(&input)).unwrap());
+        assert!(here.starts_with("taxa"), "{here}");
+        assert_eq!(here, there);
+    }
 }

@@ -23,7 +23,7 @@ unfolding single
 entries-power c = c .single .ensures
 
 returns : tie.Need-returns
-returns c = marks-shape _ _ _ _ (c .before .before .shape .ensures) (λ z. omega arith) (c .refused .ensures) refl
+returns c = marks-shape _ _ _ _ _ (c .before .before .shape .ensures) (λ z. omega arith) (c .refused .ensures) refl
 
 single-requires : tie.Need-single-requires
 single-requires c κs = let s = passed c in omega (arith, s .few-species)
@@ -31,33 +31,33 @@ single-requires c κs = let s = passed c in omega (arith, s .few-species)
 returns-2 : tie.Need-returns-2
 returns-2 c =
     let power = entries-power (c .before .before) in
-    marks-short _ _ _ _ (passed (c .before .before .before)) (omega arith) (c .refused2 .ensures) refl
+    marks-short _ _ _ _ _ (passed (c .before .before .before)) (omega arith) (c .refused2 .ensures) refl
 
-first-bad-requires : tie.Need-first-bad-requires
-first-bad-requires c κs = let s = passed (c .before .before) in (s .few-species, s .fits)
+judge-genes-requires : tie.Need-judge-genes-requires
+judge-genes-requires c κs = let s = passed (c .before .before) in (s .few-species, s .fits)
 
 returns-3 : tie.Need-returns-3
 returns-3 c =
     let power = entries-power (c .before .before .before .before) in
-    marks-bad _ _ _ _ (passed (c .before .before .before .before .before)) (omega arith)
-    (c .before .before .first-bad .ensures) (search needs) (c .refused3 .ensures) refl
+    marks-bad _ _ _ _ _ (passed (c .before .before .before .before .before)) (omega arith) (c .before .before .judge-genes .ensures) (c .if3 .taken) refl refl
 
 mark-shown-requires : tie.Need-mark-shown-requires
 mark-shown-requires c κs =
-    let s = passed (c .before .before .before .before .before) in
-    let one = c .before .before .before .before in (
+    let s = passed (c .before .before .before .before .before .before) in
+    let one = c .before .before .before .before .before in (
       s .fits,
       (
         search needs,
-        rw (entries-power one) (checked-markable _ _ _ (s .few-species) (c .before .before .first-bad .ensures) (search needs)),
+        rw (entries-power one) (checked-markable _ _ _ _ (c .before .before .before .judge-genes .ensures) (c .before .if3 .left) (s .few-species)),
       ),
     )
 
 returns-4 : tie.Need-returns-4
 returns-4 c =
-    let s = passed (c .before .before .before .before .before .before .before .before .before) in
-    let power = entries-power (c .before .before .before .before .before .before .before .before) in
-    marks-done _ _ _ _ s (omega arith) (c .before .before .before .before .before .before .first-bad .ensures) (search needs)
+    let s = passed (c .before .before .before .before .before .before .before .before .before .before) in
+    let power = entries-power (c .before .before .before .before .before .before .before .before .before) in
+    marks-done _ _ _ _ _ s (omega arith) (c .before .before .before .before .before .before .before .judge-genes .ensures)
+    (c .before .before .before .before .before .if3 .left)
     (rw (← power) (c .before .before .before .mark-shown .ensures)) (c .done .ensures)
 
 pub mark-spec : {M : Type 1} → statement M
@@ -71,8 +71,7 @@ mark-spec =
     (λ c. search needs)
     (λ c κs. search needs)
     returns-2
-    first-bad-requires
-    (λ c κs. search needs)
+    judge-genes-requires
     returns-3
     mark-shown-requires
     (λ c κs. search needs)

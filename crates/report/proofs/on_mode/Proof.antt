@@ -8,7 +8,7 @@ use Rattle.roster.specs.Roster.{names}
 use Rattle.report.specs.Input.{firstLine}
 use Rattle.outcomes.specs.Work.{Roster}
 use Rattle.outcomes.proofs.Telling.{retold}
-use Rattle.report.proofs.InputParts.{from, from-length, first-line, first-within, second-within, trees-within, no-first-feed, no-second-feed, all-mode, genes-mode, other-mode}
+use Rattle.report.proofs.InputParts.{from, from-length, first-line, first-within, second-within, trees-within, no-first-feed, no-second-feed, trees-mode, other-mode}
 use borrow.Author.Needs.{needs}
 use Rattle.report.proofs.on_mode.Statement.{statement}
 use Rattle.report.proofs.on_mode.Tie as tie
@@ -94,79 +94,53 @@ slice-aggregate-word c =
     let within = second-within (start .args .input .now) (start .pre .1 .0) (read .before .before .if1 .left) (read .line-length .ensures) in
     sym (length-take-le (read .line-length .result) rest (omega (arith, within, from-length (start .args .end + 1) (start .args .input .now))))
 
-slice-aggregate-is-word : tie.Need-slice-aggregate-is-word
-slice-aggregate-is-word c = search needs
+mode-of-requires : tie.Need-mode-of-requires
+mode-of-requires c κs = search needs
 
-is-word-requires : tie.Need-is-word-requires
-is-word-requires c κs = search needs
+enum-told : tie.Need-enum-told
+enum-told c = search needs
+
+refusal-requires-3 : tie.Need-refusal-requires-3
+refusal-requires-3 c κs = search needs
+
+enum-known-all : tie.Need-enum-known-all
+enum-known-all c = search needs
 
 sub-on-trees : tie.Need-sub-on-trees
-sub-on-trees c = trees-fit (c .before .before .before .before .before)
+sub-on-trees c = trees-fit (c .before .before .before .before .before .before)
 
 part-on-trees-start : tie.Need-part-on-trees-start
-part-on-trees-start c = trees-fit (c .before .before .before .before .before)
+part-on-trees-start c = trees-fit (c .before .before .before .before .before .before)
 
 part-on-trees-end : tie.Need-part-on-trees-end
 part-on-trees-end c = search needs
 
 on-trees-requires : tie.Need-on-trees-requires
-on-trees-requires c κs = asked (c .before .before .before .before .before .before)
+on-trees-requires c κs = asked (c .before .before .before .before .before .before .before)
 
 returns-3 : tie.Need-returns-3
 returns-3 c =
-    let trees = c .before .before .before .before .before .before .before in
-    let read = trees .before in
-    let start = read .before .before .before .before in
-    all-mode (start .args .input .now) (start .pre .1 .0) (read .before .before .if1 .left) (read .line-length .ensures) (trees .if2 .left)
-    (start .pre .1 .1 .named)
-    (sym (c .before .before .before .is-word .ensures) ∙ c .before .before .if3 .taken)
-    (c .on-trees .ensures)
-
-slice-aggregate-is-word-2 : tie.Need-slice-aggregate-is-word-2
-slice-aggregate-is-word-2 c = search needs
-
-is-word-requires-2 : tie.Need-is-word-requires-2
-is-word-requires-2 c κs = search needs
-
-sub-on-trees-2 : tie.Need-sub-on-trees-2
-sub-on-trees-2 c = trees-fit (c .before .before .before .before .before .before .before .before)
-
-part-on-trees-start-2 : tie.Need-part-on-trees-start-2
-part-on-trees-start-2 c = trees-fit (c .before .before .before .before .before .before .before .before)
-
-part-on-trees-end-2 : tie.Need-part-on-trees-end-2
-part-on-trees-end-2 c = search needs
-
-on-trees-requires-2 : tie.Need-on-trees-requires-2
-on-trees-requires-2 c κs = asked (c .before .before .before .before .before .before .before .before .before)
-
-returns-4 : tie.Need-returns-4
-returns-4 c =
-    let all = c .before .before .before .before .before in
-    let trees = all .before .before .before .before .before in
-    let read = trees .before in
-    let start = read .before .before .before .before in
-    genes-mode (start .args .input .now) (start .pre .1 .0) (read .before .before .if1 .left) (read .line-length .ensures) (trees .if2 .left)
-    (start .pre .1 .1 .named)
-    (sym (all .before .is-word .ensures) ∙ all .if3 .left)
-    (sym (c .before .before .before .is-word2 .ensures) ∙ c .before .before .if4 .taken)
-    (c .on-trees2 .ensures)
-
-refusal-requires-3 : tie.Need-refusal-requires-3
-refusal-requires-3 c κs = search needs
-
-returns-5 : tie.Need-returns-5
-returns-5 c =
-    let all = c .before .before .before .before in
-    let trees = all .before .before .before .before .before in
+    let mode = c .before .before .before in
+    let trees = mode .before .before .before in
     let read = trees .before in
     let start = read .before .before .before .before in
     let ns = names (firstLine (start .args .input .now)) in
     retold ns
     (other-mode (start .args .input .now) (start .pre .1 .0) (read .before .before .if1 .left) (read .line-length .ensures) (trees .if2 .left)
-    (sym (all .before .is-word .ensures) ∙ all .if3 .left)
-    (sym (c .before .before .is-word2 .ensures) ∙ c .before .if4 .left))
+    (sym (c .before .enum-told .given .1) ∙ mode .mode-of .ensures))
     (c .refusal3 .ensures)
+
+returns-4 : tie.Need-returns-4
+returns-4 c =
+    let asked = c .before .before .before in
+    let mode = asked .before .before in
+    let trees = mode .before .before .before in
+    let read = trees .before in
+    let start = read .before .before .before .before in
+    trees-mode (start .args .input .now) (start .pre .1 .0) (read .before .before .if1 .left) (read .line-length .ensures) (trees .if2 .left)
+    (asked .all .given .0 .0) (asked .all .given .0 .1 .0) (start .pre .1 .1 .named)
+    (sym (asked .all .given .1) ∙ mode .mode-of .ensures)
+    (c .on-trees .ensures)
 
 pub on-mode-spec : {M : Type 1} → statement M
 on-mode-spec =
@@ -185,19 +159,13 @@ on-mode-spec =
     add-trees
     add-trees-2
     slice-aggregate-word
-    slice-aggregate-is-word
-    is-word-requires
+    mode-of-requires
+    enum-told
+    refusal-requires-3
+    enum-known-all
     sub-on-trees
     part-on-trees-start
     part-on-trees-end
     on-trees-requires
     returns-3
-    slice-aggregate-is-word-2
-    is-word-requires-2
-    sub-on-trees-2
-    part-on-trees-start-2
-    part-on-trees-end-2
-    on-trees-requires-2
-    returns-4
-    refusal-requires-3
-    returns-5)
+    returns-4)

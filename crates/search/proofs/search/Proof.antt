@@ -41,48 +41,53 @@ short c =
 
 returns : tie.Need-returns
 returns c =
-    finds-shape _ _ _ _ _ _ (c .before .before .shape .ensures) (λ z. omega arith) (c .refused .ensures) refl refl
+    finds-shape _ _ _ _ _ _ _ (c .before .before .shape .ensures) (λ z. omega arith) (c .refused .ensures) refl refl
 
 single-requires : tie.Need-single-requires
 single-requires c κs = let few = passed c .few-species in omega arith
 
 returns-2 : tie.Need-returns-2
 returns-2 c =
-    finds-short _ _ _ _ _ _ (passed (c .before .before .before .before .before .before)) (short (c .before)) (c .refused2 .ensures) refl refl
+    finds-short _ _ _ _ _ _ _ (passed (c .before .before .before .before .before .before)) (short (c .before)) (c .refused2 .ensures) refl refl
 
-first-bad-requires : tie.Need-first-bad-requires
-first-bad-requires c κs = let s = passed (c .before .before .before .before .before) in (s .few-species, s .fits)
+judge-genes-requires : tie.Need-judge-genes-requires
+judge-genes-requires c κs = let s = passed (c .before .before .before .before .before) in (s .few-species, s .fits)
 
 returns-3 : tie.Need-returns-3
 returns-3 c =
-    let tables = c .before .before .before in
-    finds-bad _ _ _ _ _ _ (passed (tables .before .before .before .before .before)) (long tables) (c .before .before .first-bad .ensures) (search needs)
+    let tables = c .before .before .before .before in
+    finds-bad _ _ _ _ _ _ _ (passed (tables .before .before .before .before .before)) (long tables) (c .before .before .before .judge-genes .ensures)
+    (c .before .if3 .taken)
     (c .refused3 .ensures) refl refl
 
 first-strange-requires : tie.Need-first-strange-requires
 first-strange-requires c κs =
-    let enough = long (c .before .before) .allowed-long in
-    omega (arith, power (c .before .before .before .before .before .before))
+    let tables = c .before .before .before in
+    let enough = long tables .allowed-long in
+    omega (arith, power (tables .before .before .before .before))
 
 returns-4 : tie.Need-returns-4
 returns-4 c =
-    let tables = c .before .before .before .before .before in
+    let tables = c .before .before .before .before .before .before in
     let entries = power (tables .before .before .before .before) in
-    finds-strange _ _ _ _ _ _ (passed (tables .before .before .before .before .before)) (long tables) (c .before .before .before .before .first-bad .ensures) (search needs)
+    finds-strange _ _ _ _ _ _ _ (passed (tables .before .before .before .before .before)) (long tables)
+    (c .before .before .before .before .before .judge-genes .ensures) (c .before .before .before .if3 .left)
     (strange-is _ _ entries (c .before .before .first-strange .ensures)) (omega arith)
     (c .refused4 .ensures) refl refl
 
 solve-requires : tie.Need-solve-requires
 solve-requires c κs =
-    let tables = c .before .before .before .before .before .before in
-    checked _ _ _ _ _ _ (passed (tables .before .before .before .before .before)) (long tables) (c .before .before .before .before .before .first-bad .ensures) (search needs)
+    let tables = c .before .before .before .before .before .before .before in
+    checked _ _ _ _ _ _ _ (passed (tables .before .before .before .before .before)) (long tables)
+    (c .before .before .before .before .before .before .judge-genes .ensures) (c .before .before .before .before .if3 .left)
 
 returns-5 : tie.Need-returns-5
 returns-5 c =
     let strange = c .before .before .before .before .before .before .before .before in
-    let tables = strange .before .before .before in
+    let tables = strange .before .before .before .before in
     let entries = power (tables .before .before .before .before) in
-    finds-solved _ _ _ _ _ _ (passed (tables .before .before .before .before .before)) (long tables) (strange .before .before .first-bad .ensures) (search needs)
+    finds-solved _ _ _ _ _ _ _ (passed (tables .before .before .before .before .before)) (long tables)
+    (strange .before .before .before .judge-genes .ensures) (strange .before .if3 .left)
     (strange-is _ _ entries (strange .first-strange .ensures)) (omega arith)
     (c .before .before .before .before .solve .ensures)
 
@@ -100,7 +105,7 @@ search-spec =
     (λ c. search needs)
     (λ c. search needs)
     returns-2
-    first-bad-requires
+    judge-genes-requires
     (λ c κs. search needs)
     (λ c. search needs)
     (λ c. search needs)

@@ -12,18 +12,18 @@ use Rattle.solver.proofs.solve.Tie as tie
 both-tables :
     (c : tie.After-fill2)
     → let args = c .before .before .before .before .before .before .before .before .before .before .before .before .args in
-    Tabled (args .n) (recordsIn (args .count) (args .genes .now)) (args .allowed .now) (args .scores .now) (args .splits .now)
+    Tabled (args .rooting) (args .n) (recordsIn (args .count) (args .genes .now)) (args .allowed .now) (args .scores .now) (args .splits .now)
     (c .fill2 .last .1 .1 .0)
     (c .fill2 .last .1 .1 .1 .0)
 both-tables c =
     let all = c .before .before .before .before .before .before .before in
-    tabled (all .before .before .before .before .before .pre) (all .whole .ensures) (c .before .before .before .before .before .fill .ensures) (c .fill2 .ensures)
+    tabled _ (all .before .before .before .before .before .pre) (all .whole .ensures) (c .before .before .before .before .before .fill .ensures) (c .fill2 .ensures)
 
 -- and as long as they were
 same-scores :
     (c : tie.After-fill2)
     → length (c .fill2 .last .1 .1 .0) ≡ length (c .before .before .before .before .before .before .before .before .before .before .before .before .args .scores .now)
-same-scores c = c .fill2 .kept .1 .1 .0 ∙ c .before .before .before .before .before .fill .kept .1 .1 .1 .0
+same-scores c = c .fill2 .kept .1 .1 .0 ∙ c .before .before .before .before .before .fill .kept .1 .1 .1 .1 .0
 
 whole-requires : tie.Need-whole-requires
 whole-requires c κs = let few = c .before .before .before .before .pre .few-species in omega arith
@@ -37,7 +37,7 @@ fill-requires c κs =
 fill-requires-2 : tie.Need-fill-requires-2
 fill-requires-2 c κs =
     let all = c .before .before .before .before .before .before in
-    weights-fillable (all .before .before .before .before .before .pre) (all .whole .ensures) (c .before .before .before .before .fill .ensures)
+    weights-fillable _ (all .before .before .before .before .before .pre) (all .whole .ensures) (c .before .before .before .before .fill .ensures)
 
 slice-read-score : tie.Need-slice-read-score
 slice-read-score c =
@@ -56,7 +56,7 @@ returns : tie.Need-returns
 returns c =
     let tables = c .before .before .before .before .before .before .before in
     let all = tables .before .before .before .before .before .before .before in
-    solves-none (both-tables tables) (all .before .before .before .before .before .pre .few-species) (all .whole .ensures) (omega arith) (c .refused .ensures)
+    solves-none _ (both-tables tables) (all .before .before .before .before .before .pre .few-species) (all .whole .ensures) (omega arith) (c .refused .ensures)
 
 found-requires : tie.Need-found-requires
 found-requires c κs =
@@ -66,7 +66,7 @@ found-requires c κs =
     let few = all-few h (all .whole .ensures) in
     let long = all-splits h (all .whole .ensures) in
     let same = tables .fill2 .kept .1 .1 .1 .0 in
-    (omega arith, (omega arith, solves-chooses (both-tables tables) (h .few-species) (all .whole .ensures) (c .before .if1 .left)))
+    (omega arith, (omega arith, solves-chooses _ (both-tables tables) (h .few-species) (all .whole .ensures) (c .before .if1 .left)))
 
 same-length-3 : tie.Need-same-length-3
 same-length-3 c = same-scores (c .before .before .before .before .before .before .before .before)
@@ -78,7 +78,7 @@ returns-2 : tie.Need-returns-2
 returns-2 c =
     let tables = c .before .before .before .before .before .before .before .before in
     let all = tables .before .before .before .before .before .before .before in
-    solves-found (both-tables tables) (all .before .before .before .before .before .pre .few-species) (all .whole .ensures) (c .before .before .if1 .left) refl
+    solves-found _ (both-tables tables) (all .before .before .before .before .before .pre .few-species) (all .whole .ensures) (c .before .before .if1 .left) refl
     (c .found .ensures)
 
 pub solve-spec : {M : Type 1} → statement M

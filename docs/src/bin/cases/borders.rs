@@ -12,6 +12,7 @@ pub fn borders(c: &mut Cases) {
     writer_borders(c);
     count_borders(c);
     search_borders(c);
+    full_searches(c);
     program_borders(c);
     unresolved_borders(c);
 }
@@ -131,7 +132,7 @@ fn example_records() -> [[u16; 32]; 4] {
     [record(&[1, 2, 3, 4, 8, 12, 15]), record(&[1, 2, 3, 4, 7, 8, 15]), record(&[1, 2, 4, 5, 8, 10, 15]), record(&[1, 2, 4, 8, 15])]
 }
 
-fn count_borders(c: &mut Cases) {
+pub fn count_borders(c: &mut Cases) {
     let [balanced, comb, crossed, star] = example_records();
     for gene in [balanced, star] {
         for species in [balanced, comb, crossed] {
@@ -184,7 +185,7 @@ fn unresolved_borders(c: &mut Cases) {
     }
 }
 
-fn search_borders(c: &mut Cases) {
+pub fn search_borders(c: &mut Cases) {
     let [balanced, _, crossed, _] = example_records();
     let three = |xs: &[[u16; 32]]| xs.concat();
     let (ab, ac, bc) = (record(&[1, 2, 3, 4, 7]), record(&[1, 2, 4, 5, 7]), record(&[1, 2, 4, 6, 7]));
@@ -214,7 +215,12 @@ fn search_borders(c: &mut Cases) {
         c.search(4, &balanced[..31], 1, &vec![1; allowed], scores, splits);
         c.search(4, &bad, 1, &vec![1; allowed], scores, splits);
     }
-    let many = [[crossed, balanced].concat(), vec![]].concat().repeat(2048);
+}
+
+/// As many gene trees as there may be, and one more.
+fn full_searches(c: &mut Cases) {
+    let [balanced, _, crossed, _] = example_records();
+    let many = [crossed, balanced].concat().repeat(2048);
     c.search(4, &many, 4096, &[1; 16], 16, 16);
     c.search(4, &many, 4097, &[1; 16], 16, 16);
 }

@@ -1,9 +1,12 @@
 //! The lines of the case file: a call with its fields, packed as README.md says.
+use reference::lineages::Rooting;
 use reference::reader::Kind;
 
 #[derive(Default)]
 pub struct Cases {
     pub lines: Vec<Vec<u8>>,
+    /// How the calls that count take the gene trees, from here on.
+    pub rooting: Rooting,
 }
 
 impl Cases {
@@ -11,6 +14,11 @@ impl Cases {
         let mut line = vec![call];
         line.extend(fields.join(&b'|'));
         self.lines.push(line);
+    }
+
+    fn add_count(&mut self, call: u8, fields: &[Vec<u8>]) {
+        let call = if self.rooting == Rooting::Rooted { call } else { call.to_ascii_lowercase() };
+        self.add(call, fields);
     }
 
     pub fn judge(&mut self, line: &[u8]) {
@@ -31,19 +39,19 @@ impl Cases {
     }
 
     pub fn weight(&mut self, n: usize, genes: &[u16], count: usize, cluster: usize) {
-        self.add(b'K', &[decimal(n), numbers(genes), decimal(count), decimal(cluster)]);
+        self.add_count(b'K', &[decimal(n), numbers(genes), decimal(count), decimal(cluster)]);
     }
 
     pub fn score(&mut self, n: usize, genes: &[u16], count: usize, species: &[u16; 32]) {
-        self.add(b'S', &[decimal(n), numbers(genes), decimal(count), numbers(species)]);
+        self.add_count(b'S', &[decimal(n), numbers(genes), decimal(count), numbers(species)]);
     }
 
     pub fn mark(&mut self, n: usize, genes: &[u16], count: usize, out: usize) {
-        self.add(b'M', &[decimal(n), numbers(genes), decimal(count), decimal(out)]);
+        self.add_count(b'M', &[decimal(n), numbers(genes), decimal(count), decimal(out)]);
     }
 
     pub fn search(&mut self, n: usize, genes: &[u16], count: usize, allowed: &[u16], scores: usize, splits: usize) {
-        self.add(b'F', &[decimal(n), numbers(genes), decimal(count), numbers(allowed), decimal(scores), decimal(splits)]);
+        self.add_count(b'F', &[decimal(n), numbers(genes), decimal(count), numbers(allowed), decimal(scores), decimal(splits)]);
     }
 
     pub fn report(&mut self, input: &[u8]) {

@@ -1,7 +1,7 @@
 //! Loci that some species lost (#104): the borders by hand, then cases from a seed.
 use crate::borders::{limit_borders, text_borders};
 use crate::lines::Cases;
-use reference::lineages::mark;
+use reference::lineages::{mark, Rooting};
 use reference::reader::Kind;
 use reference::roster::joined;
 use reference::seeded::Seeded;
@@ -61,7 +61,7 @@ fn incomplete_texts(c: &mut Cases) {
 }
 
 /// A record with these numbers in front, whether it is a tree's or not.
-fn raw(front: &[u16]) -> Record {
+pub fn raw(front: &[u16]) -> Record {
     let mut r = [0; 32];
     r[..front.len()].copy_from_slice(front);
     r
@@ -150,7 +150,7 @@ fn searched_records(c: &mut Cases) {
         let (flat, count) = (genes.concat(), genes.len());
         c.search(4, &flat, count, &[1; 16], 17, 18);
         let mut shown = [0; 16];
-        mark(4, &flat, count, &mut shown).unwrap();
+        mark(Rooting::Rooted, 4, &flat, count, &mut shown).unwrap();
         c.search(4, &flat, count, &shown.map(u16::from), 16, 16);
     }
     for n in [1, 2, 3, 5] {
@@ -228,7 +228,7 @@ fn search(c: &mut Cases, s: &mut Seeded) {
     match s.below(4) {
         0 => (),
         1 => allowed.iter_mut().for_each(|byte| *byte = !s.one_in(4) as u8),
-        _ => mark(n, &genes, count, &mut allowed).unwrap(),
+        _ => mark(Rooting::Rooted, n, &genes, count, &mut allowed).unwrap(),
     }
     let allowed: Vec<u16> = allowed.into_iter().map(u16::from).collect();
     c.search(n, &genes, count, &allowed, (1 << n) + 2, (1 << n) + 1);

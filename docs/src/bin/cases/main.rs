@@ -5,6 +5,7 @@ mod lines;
 mod lost;
 mod quotes;
 mod supports;
+mod unrooted;
 
 use std::io::Write;
 
@@ -16,6 +17,7 @@ fn main() {
     lost::lost(&mut cases, seeded);
     quotes::quotes(&mut cases, seeded);
     supports::supports(&mut cases, seeded);
+    unrooted::unrooted(&mut cases, seeded);
     let mut out = std::io::stdout().lock();
     for line in &cases.lines {
         out.write_all(line).unwrap();

@@ -3,6 +3,7 @@ use Prim.Native.Nat.{_-_}
 use mathlib.Core.Path.{sym, _∙_}
 use borrow.Author.Needs.{needs}
 use native.Mathlib.Omega.{arith}
+use Rattle.trees.specs.Valid.{validGene}
 use Rattle.trees.proofs.Lent.{part-record, part-length}
 use Rattle.lineages.proofs.FirstBad.{PassedTo, passed-start, passed-next, passed-found, passed-all}
 use Rattle.lineages.proofs.Told.{gene-told}
@@ -10,7 +11,7 @@ use Rattle.lineages.proofs.checks.first_bad.Statement.{statement}
 use Rattle.lineages.proofs.checks.first_bad.Tie as tie
 
 abbrev Inv-loop : tie.InvT-loop
-Inv-loop n genes count i₀ i = PassedTo n genes count i
+Inv-loop n genes count i₀ i = PassedTo (λ g. validGene n g) genes count i
 
 abbrev μ-loop : tie.MeasureT-loop
 μ-loop n genes count i₀ i = count - i

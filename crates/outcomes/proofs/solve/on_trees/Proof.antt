@@ -8,9 +8,9 @@ use Rattle.gather.specs.GeneTrees.Gathered.{gathered, stopped}
 use Rattle.gather.specs.Work.{gatheredIn}
 use Rattle.gather.specs.declared.Trees.{Trees}
 use Rattle.gather.proofs.GeneTrees.{stopped-inside}
-use Rattle.outcomes.specs.Outcome.{onTrees}
+use Rattle.outcomes.specs.Outcome.{treePlace, onTrees}
 use Rattle.outcomes.proofs.Telling.{retold}
-use Rattle.outcomes.proofs.GeneTrees.{gathered-genes, without-genes, with-some-genes}
+use Rattle.outcomes.proofs.GeneTrees.{gathered-genes, without-genes}
 use borrow.Author.Needs.{needs}
 use Rattle.outcomes.proofs.solve.on_trees.Statement.{statement}
 use Rattle.outcomes.proofs.solve.on_trees.Tie as tie
@@ -64,37 +64,42 @@ returns c =
     let ns = names (args .line .now) in
     let genes = counted .before .before .before .gather .last .1 .1 .0 in
     retold ns
-    (without-genes genes (args .all) (args .n) (c .before .if1 .taken)
-    ∙ ap (λ (g : Gathered). onTrees g (args .shift) (args .all) (args .n)) (was-gathered counted))
+    (without-genes genes (treePlace (args .line .now) (args .trees .now) (args .shift)) (args .all) (args .rooting) (args .n) (c .before .if1 .taken)
+    ∙ ap (λ (g : Gathered). onTrees g (args .line .now) (args .trees .now) (args .shift) (args .all) (args .rooting) (args .n)) (was-gathered counted))
     (c .refusal2 .ensures)
 
-slice-aggregate-solve : tie.Need-slice-aggregate-solve
-slice-aggregate-solve c = search needs
+slice-aggregate-on-genes : tie.Need-slice-aggregate-on-genes
+slice-aggregate-on-genes c = search needs
 
-solve-requires : tie.Need-solve-requires
-solve-requires c κs =
+on-genes-requires : tie.Need-on-genes-requires
+on-genes-requires c κs =
     let counted = c .before .before .before in
     let start = counted .before .before .before .before .before .before .before in (
       start .pre .0,
-      gathered-genes (start .args .trees .now) (start .pre .0) (omega arith) (counted .before .before .genes2 .given) (was-gathered counted)
-          (c .before .if1 .left),
+      (
+        start .pre .1,
+        (
+          was-gathered counted,
+          gathered-genes (start .args .trees .now) (start .pre .0) (omega arith) (counted .before .before .genes2 .given) (was-gathered counted)
+              (c .before .if1 .left),
+        ),
+      ),
     )
 
 returns-2 : tie.Need-returns-2
 returns-2 c =
     let args = c .before .before .before .before .before .before .before .before .before .args in
     let ns = names (args .line .now) in
-    retold ns (ap (λ (g : Gathered). onTrees g (args .shift) (args .all) (args .n)) (was-stopped (c .before .before))) (c .refusal .ensures)
+    retold ns (ap (λ (g : Gathered). onTrees g (args .line .now) (args .trees .now) (args .shift) (args .all) (args .rooting) (args .n))
+    (was-stopped (c .before .before))) (c .refusal .ensures)
 
 returns-3 : tie.Need-returns-3
 returns-3 c =
     let counted = c .before .before .before .before in
     let args = counted .before .before .before .before .before .before .before .args in
-    let genes = counted .before .before .before .gather .last .1 .1 .0 in
     retold (names (args .line .now))
-    (with-some-genes genes (args .all) (args .n) (counted .count .given .0 .0) (c .before .before .if1 .left)
-    ∙ ap (λ (g : Gathered). onTrees g (args .shift) (args .all) (args .n)) (was-gathered counted))
-    (c .solve .ensures)
+    (ap (λ (g : Gathered). onTrees g (args .line .now) (args .trees .now) (args .shift) (args .all) (args .rooting) (args .n)) (was-gathered counted))
+    (c .on-genes .ensures)
 
 pub on-trees-spec : {M : Type 1} → statement M
 on-trees-spec =
@@ -108,7 +113,7 @@ on-trees-spec =
     enum-known-count
     refusal-requires-2
     returns
-    slice-aggregate-solve
-    solve-requires
+    slice-aggregate-on-genes
+    on-genes-requires
     returns-2
     returns-3)

@@ -28,7 +28,8 @@ entries-fit c = rw (entries c) (entries-most (c .before .before .before .pre .1 
 
 -- the allowed clusters, and what is left of the array behind them
 abbrev allowed : (c : tie.After-allow) → List ℕ
-allowed c = let args = c .before .before .before .before .before .args in allowedBy (args .all) (args .n) (recordsIn (args .count) (args .genes .now))
+allowed c =
+    let args = c .before .before .before .before .before .args in allowedBy (args .all) (args .rooting) (args .n) (recordsIn (args .count) (args .genes .now))
 
 abbrev behind : (c : tie.After-allow) → List ℕ
 behind c = drop (c .before .before .single .result) (replicate 4096 0)
@@ -36,22 +37,22 @@ behind c = drop (c .before .before .single .result) (replicate 4096 0)
 allowed-exact : (c : tie.After-allow) → length (allowed c) ≡ c .before .before .single .result
 allowed-exact c =
     let args = c .before .before .before .before .before .args in
-    allowed-marked (args .all) (args .n) (recordsIn (args .count) (args .genes .now)) .exact ∙ sym (entries (c .before .before))
+    allowed-marked (args .all) (args .rooting) (args .n) (recordsIn (args .count) (args .genes .now)) .exact ∙ sym (entries (c .before .before))
 
-allowed-entries : (c : tie.After-allow) → length (c .allow .last .1 .1 .1 .1 .0) ≡ c .before .before .single .result
+allowed-entries : (c : tie.After-allow) → length (c .allow .last .1 .1 .1 .1 .1 .0) ≡ c .before .before .single .result
 allowed-entries c = ap length (c .allow .ensures) ∙ allowed-exact c
 
 -- what is handed on is those bytes
-handed : (c : tie.After-allow) → take (c .before .before .single .result) (c .allow .last .1 .1 .1 .1 .0 ++ behind c) ≡ allowed c
+handed : (c : tie.After-allow) → take (c .before .before .single .result) (c .allow .last .1 .1 .1 .1 .1 .0 ++ behind c) ≡ allowed c
 handed c =
-    take-at (c .allow .last .1 .1 .1 .1 .0) (behind c) (c .before .before .single .result) (allowed-entries c) ∙ c .allow .ensures
+    take-at (c .allow .last .1 .1 .1 .1 .1 .0) (behind c) (c .before .before .single .result) (allowed-entries c) ∙ c .allow .ensures
 
 -- what the search finds over some clusters
 abbrev over : (c : tie.After-find) → List ℕ → Found
 over c l =
     let args = c .before .before .before .before .before .before .before .before .args in
     let gs = recordsIn (args .count) (args .genes .now) in
-    foundBy (bestFor (args .n) gs l (whole (args .n))) gs
+    foundBy (args .rooting) (bestFor (args .rooting) (args .n) gs l (whole (args .n))) gs
 
 found-by : (c : tie.After-find) → c .find .result ≡ over c (allowed (c .before .before .before))
 found-by c = subst (λ (l : List ℕ). c .find .result ≡ over c l) (handed (c .before .before .before)) (c .find .ensures)
@@ -75,7 +76,7 @@ allow-requires c κs = (
 )
 
 array-share-prefix-allowed : tie.Need-array-share-prefix-allowed
-array-share-prefix-allowed c = front-fits (c .before .allow .last .1 .1 .1 .1 .0) (behind (c .before)) (allowed-entries (c .before))
+array-share-prefix-allowed c = front-fits (c .before .allow .last .1 .1 .1 .1 .1 .0) (behind (c .before)) (allowed-entries (c .before))
 
 slice-aggregate-find : tie.Need-slice-aggregate-find
 slice-aggregate-find c = sym (ap length (handed (c .before .before)) ∙ allowed-exact (c .before .before))
@@ -84,7 +85,7 @@ find-requires : tie.Need-find-requires
 find-requires c κs =
     let start = c .before .before .before .before .before .before .before in
     let gs = recordsIn (start .args .count) (start .args .genes .now) in
-    (start .pre .1, rw (handed (c .before .before)) (allowed-marked (start .args .all) (start .args .n) gs))
+    (start .pre .1, rw (handed (c .before .before)) (allowed-marked (start .args .all) (start .args .rooting) (start .args .n) gs))
 
 refusal-requires : tie.Need-refusal-requires
 refusal-requires c κs = search needs
@@ -96,7 +97,7 @@ returns c =
     let gs = recordsIn (args .count) (args .genes .now) in
     let ns = names (args .line .now) in
     retold ns
-    (searched-refused (args .n) gs (allowed (find .before .before .before)) (found-by find) (c .before .if1 .taken))
+    (searched-refused (args .rooting) (args .n) gs (allowed (find .before .before .before)) (found-by find) (c .before .if1 .taken))
     (c .refusal .ensures)
 
 solved-requires : tie.Need-solved-requires
@@ -106,7 +107,7 @@ solved-requires c κs =
     let args = start .args in
     let gs = recordsIn (args .count) (args .genes .now) in
     let few : args .n ≤ 16 = omega (arith, start .pre .0 .few) in
-    (start .pre .0, found-valid (args .n) gs (allowed (find .before .before .before)) (found-by find) few (c .before .if1 .left))
+    (start .pre .0, found-valid (args .rooting) (args .n) gs (allowed (find .before .before .before)) (found-by find) few (c .before .if1 .left))
 
 returns-2 : tie.Need-returns-2
 returns-2 c =
@@ -115,7 +116,7 @@ returns-2 c =
     let gs = recordsIn (args .count) (args .genes .now) in
     let ns = names (args .line .now) in
     retold ns
-    (searched-solved (args .n) gs (allowed (find .before .before .before)) (found-by find)
+    (searched-solved (args .rooting) (args .n) gs (allowed (find .before .before .before)) (found-by find)
     (sym (length-recordsIn (args .count) (args .genes .now)))
     (c .before .before .if1 .left))
     (c .solved .ensures)

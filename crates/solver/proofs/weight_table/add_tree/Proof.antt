@@ -8,42 +8,45 @@ use Rattle.solver.proofs.weight_table.add_tree.Statement.{statement}
 use Rattle.solver.proofs.weight_table.add_tree.Tie as tie
 
 abbrev Inv-loop : tie.InvT-loop
-Inv-loop g entries weights₀ a₀ weights a = Added g entries weights₀ weights a
+Inv-loop rooting g entries weights₀ a₀ weights a = Added rooting g entries weights₀ weights a
 
 abbrev μ-loop : tie.MeasureT-loop
-μ-loop g entries weights₀ a₀ weights a = entries - a
+μ-loop rooting g entries weights₀ a₀ weights a = entries - a
 
 cast-more : tie.Need-cast-more Inv-loop μ-loop
-cast-more c = let small = extra-le (c .before .before .loop .a) (c .before .before .before .before .before .pre .0) in let told = c .extra .ensures in omega arith
+cast-more c = let small = extra-le (c .before .before .before .before .before .args .rooting) (c .before .before .loop .a)
+    (c .before .before .before .before .before .pre .0) in let told = c .extra .ensures in omega arith
 
 mul-weights : tie.Need-mul-weights Inv-loop μ-loop
-mul-weights c = let same = added-length (c .before .before .loop .inv) (c .before .before .before .before .before .pre .1 .1 .0) in search needs
+mul-weights c = let same = added-length _ (c .before .before .loop .inv) (c .before .before .before .before .before .pre .1 .1 .0) in search needs
 
 slice-read-weights : tie.Need-slice-read-weights Inv-loop μ-loop
-slice-read-weights c = let same = added-length (c .before .before .before .loop .inv) (c .before .before .before .before .before .before .pre .1 .1 .0) in search needs
+slice-read-weights c = let same = added-length _ (c .before .before .before .loop .inv) (c .before .before .before .before .before .before .pre .1 .1 .0) in search needs
 
 add-weights : tie.Need-add-weights Inv-loop μ-loop
 add-weights c =
-    let small = extra-le (c .before .before .before .loop .a) (c .before .before .before .before .before .before .pre .0) in
+    let small = extra-le (c .before .before .before .before .before .before .args .rooting) (c .before .before .before .loop .a)
+    (c .before .before .before .before .before .before .pre .0) in
     let told = c .before .extra .ensures in
-    let own = added-own (c .before .before .before .loop .inv) in
+    let own = added-own _ (c .before .before .before .loop .inv) in
     let light = c .before .before .before .before .before .before .pre .1 .1 .1 (c .before .before .before .loop .a) (search needs) in
     omega arith
 
 mul-weights-2 : tie.Need-mul-weights-2 Inv-loop μ-loop
-mul-weights-2 c = let same = added-length (c .before .before .before .loop .inv) (c .before .before .before .before .before .before .pre .1 .1 .0) in search needs
+mul-weights-2 c = let same = added-length _ (c .before .before .before .loop .inv) (c .before .before .before .before .before .before .pre .1 .1 .0) in search needs
 
 slice-write-weights : tie.Need-slice-write-weights Inv-loop μ-loop
-slice-write-weights c = let same = added-length (c .before .before .before .loop .inv) (c .before .before .before .before .before .before .pre .1 .1 .0) in search needs
+slice-write-weights c = let same = added-length _ (c .before .before .before .loop .inv) (c .before .before .before .before .before .before .pre .1 .1 .0) in search needs
 
 loop-again : tie.Need-loop-again Inv-loop μ-loop
-loop-again c = added-next (c .before .before .before .loop .inv) (search needs) (c .before .before .before .before .before .before .pre .1 .1 .0) (c .before .extra .ensures)
+loop-again c = added-next _ (c .before .before .before .loop .inv) (search needs) (c .before .before .before .before .before .before .pre .1 .1 .0)
+    (c .before .extra .ensures)
 
 same-length : tie.Need-same-length Inv-loop μ-loop
-same-length c = added-length (c .before .loop .inv) (c .before .before .before .before .pre .1 .1 .0)
+same-length c = added-length _ (c .before .loop .inv) (c .before .before .before .before .pre .1 .1 .0)
 
 returns : tie.Need-returns Inv-loop μ-loop
-returns c = added-end (c .before .loop .inv) (search needs)
+returns c = added-end _ (c .before .loop .inv) (search needs)
 
 pub add-tree-spec : {M : Type 1} → statement M
 add-tree-spec =
@@ -51,7 +54,7 @@ add-tree-spec =
     (tie.spec
     Inv-loop
     μ-loop
-    (λ c. added-start _ _ _)
+    (λ c. added-start _ _ _ _)
     (λ c. search needs)
     (λ c κs. search needs)
     cast-more

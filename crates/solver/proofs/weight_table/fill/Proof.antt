@@ -9,15 +9,15 @@ use Rattle.solver.proofs.weight_table.fill.Statement.{statement}
 use Rattle.solver.proofs.weight_table.fill.Tie as tie
 
 abbrev Inv-loop : tie.InvT-loop
-Inv-loop genes count entries weights₀ i₀ weights i = WeighedBy genes count entries weights₀ weights i
+Inv-loop rooting genes count entries weights₀ i₀ weights i = WeighedBy rooting genes count entries weights₀ weights i
 
 abbrev μ-loop : tie.MeasureT-loop
-μ-loop genes count entries weights₀ i₀ weights i = count - i
+μ-loop rooting genes count entries weights₀ i₀ weights i = count - i
 
 loop-holds : tie.Need-loop-holds Inv-loop μ-loop
 loop-holds c =
     let start = c .before .before .before .before .before .before .args in
-    weighed-start (start .genes .now) (start .count) (start .entries) (start .weights .now) (c .before .before .clear .ensures)
+    weighed-start (start .rooting) (start .genes .now) (start .count) (start .entries) (start .weights .now) (c .before .before .clear .ensures)
 
 add-tree-requires : tie.Need-add-tree-requires Inv-loop μ-loop
 add-tree-requires c κs =
@@ -25,29 +25,29 @@ add-tree-requires c κs =
     let weighed = c .before .before .before .loop .inv in
     let long = c .before .before .before .before .before .before .clear .kept .0 in
     let cleared = start .pre .1 .1 .1 .1 in
-    let same = weighed-length weighed (omega arith) in
+    let same = weighed-length _ weighed (omega arith) in
     let place = weighed .place in
     let few = start .pre .0 in
     let can = start .pre .1 .1 .0 _ (record-among (c .before .before .before .loop .i) (start .args .count) (start .args .genes .now) (search needs)) in
-    (rw part-record can, (start .pre .1 .1 .1 .0, (omega arith, weighed-light weighed (omega arith))))
+    (rw part-record can, (start .pre .1 .1 .1 .0, (omega arith, weighed-light _ weighed (omega arith))))
 
 loop-again : tie.Need-loop-again Inv-loop μ-loop
 loop-again c =
     let at-loop = c .before .before .before .before .before .before in
     let start = at-loop .before .before .before .before .before .before .before in
     let can = start .pre .1 .1 .0 _ (record-among (at-loop .loop .i) (start .args .count) (start .args .genes .now) (search needs)) in
-    weighed-next (at-loop .loop .inv) (search needs) can (rw part-record at (c .before .before .add-tree .ensures))
+    weighed-next _ (at-loop .loop .inv) (search needs) can (rw part-record at (c .before .before .add-tree .ensures))
 
 same-length : tie.Need-same-length Inv-loop μ-loop
 same-length c =
     let long = c .before .before .before .before .clear .kept .0 in
     let cleared = c .before .before .before .before .before .before .before .before .pre .1 .1 .1 .1 in
-    weighed-length (c .before .loop .inv) (omega arith) ∙ long
+    weighed-length _ (c .before .loop .inv) (omega arith) ∙ long
 
 returns : tie.Need-returns Inv-loop μ-loop
 returns c =
     let cleared = c .before .before .before .before in
-    weighed-end (c .before .loop .inv) (cleared .before .before .before .before .args .weights .now) (search needs) (cleared .clear .ensures)
+    weighed-end _ (c .before .loop .inv) (cleared .before .before .before .before .args .weights .now) (search needs) (cleared .clear .ensures)
 
 pub fill-spec : {M : Type 1} → statement M
 fill-spec =

@@ -11,10 +11,10 @@ use Rattle.weights.proofs.adding.weigh.Statement.{statement}
 use Rattle.weights.proofs.adding.weigh.Tie as tie
 
 abbrev Inv-loop : tie.InvT-loop
-Inv-loop genes count a sum₀ i₀ sum i = WeighedTo genes count a sum i
+Inv-loop rooting genes count a sum₀ i₀ sum i = WeighedTo rooting genes count a sum i
 
 abbrev μ-loop : tie.MeasureT-loop
-μ-loop genes count a sum₀ i₀ sum i = count + 1 - i
+μ-loop rooting genes count a sum₀ i₀ sum i = count + 1 - i
 
 extra-requires : tie.Need-extra-requires Inv-loop μ-loop
 extra-requires c κs =
@@ -27,7 +27,7 @@ extra-requires c κs =
 counted :
     (c : tie.After-extra Inv-loop μ-loop)
     → let start = c .before .before .before .before .before in
-    c .extra .result ≡ extra (take 32 (drop (32 * (c .before .before .before .loop .i - 1)) (start .args .genes .now))) (start .args .a)
+    c .extra .result ≡ extra (start .args .rooting) (take 32 (drop (32 * (c .before .before .before .loop .i - 1)) (start .args .genes .now))) (start .args .a)
 counted c =
     let start = c .before .before .before .before .before in
     let turn = c .before .before .before .loop in
@@ -36,14 +36,14 @@ counted c =
 add-sum : tie.Need-add-sum Inv-loop μ-loop
 add-sum c =
     let start = c .before .before .before .before .before in
-    let small = weighed-fits (c .before .before .before .loop .inv) (start .pre .0) (start .pre .1 .1) (search needs) (counted c) in
+    let small = weighed-fits _ (c .before .before .before .loop .inv) (start .pre .0) (start .pre .1 .1) (search needs) (counted c) in
     omega arith
 
 loop-again : tie.Need-loop-again Inv-loop μ-loop
-loop-again c = weighed-next (c .before .before .before .loop .inv) (search needs) (counted c)
+loop-again c = weighed-next _ (c .before .before .before .loop .inv) (search needs) (counted c)
 
 returns : tie.Need-returns Inv-loop μ-loop
-returns c = weighed-end (c .before .loop .inv) (omega arith)
+returns c = weighed-end _ (c .before .loop .inv) (omega arith)
 
 pub weigh-spec : {M : Type 1} → statement M
 weigh-spec =
@@ -51,7 +51,7 @@ weigh-spec =
     (tie.spec
     Inv-loop
     μ-loop
-    (λ c. weighed-start _ _ _)
+    (λ c. weighed-start _ _ _ _)
     (λ c. search needs)
     (λ c. search needs)
     (λ c. search needs)

@@ -10,11 +10,11 @@ some-counted c = omega arith
 
 returns : tie.Need-returns
 unfolding extra
-returns c = omega (arith, c .before .lineages-within .ensures)
+returns c = omega (arith, c .before .lineages-by .ensures)
 
 returns-2 : tie.Need-returns-2
 unfolding extra
-returns-2 c = omega (arith, c .before .lineages-within .ensures)
+returns-2 c = omega (arith, c .before .lineages-by .ensures)
 
 pub extra-spec : {M : Type 1} → statement M
 extra-spec = tie.close (tie.spec (λ c κs. search needs) some-counted returns returns-2)

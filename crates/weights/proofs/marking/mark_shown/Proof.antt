@@ -14,7 +14,7 @@ mark-trees-requires c κs =
 returns : tie.Need-returns
 returns c =
     let start = c .before .before .before .before .before .before .before .before .before .before in
-    cleared-marked (start .args .entries) _ (start .args .out .now) (start .pre .1 .1)
+    cleared-marked _ (start .args .entries) _ (start .args .out .now) (start .pre .1 .1)
     (c .before .before .before .before .before .before .clear .ensures) (c .before .before .mark-trees .ensures)
 
 pub mark-shown-spec : {M : Type 1} → statement M

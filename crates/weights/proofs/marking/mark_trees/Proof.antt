@@ -8,10 +8,10 @@ use Rattle.weights.proofs.marking.mark_trees.Statement.{statement}
 use Rattle.weights.proofs.marking.mark_trees.Tie as tie
 
 abbrev Inv-loop : tie.InvT-loop
-Inv-loop genes count out₀ tree₀ out tree = AllMarkedTo genes count out₀ out tree
+Inv-loop rooting genes count out₀ tree₀ out tree = AllMarkedTo rooting genes count out₀ out tree
 
 abbrev μ-loop : tie.MeasureT-loop
-μ-loop genes count out₀ tree₀ out tree = count - tree
+μ-loop rooting genes count out₀ tree₀ out tree = count - tree
 
 mark-tree-requires : tie.Need-mark-tree-requires Inv-loop μ-loop
 mark-tree-requires c κs =
@@ -22,7 +22,7 @@ mark-tree-requires c κs =
 
 loop-again : tie.Need-loop-again Inv-loop μ-loop
 loop-again c =
-    all-next (c .before .before .before .before .before .before .loop .inv) (search needs)
+    all-next _ (c .before .before .before .before .before .before .loop .inv) (search needs)
     (rw part-record at (c .before .before .mark-tree .ensures))
 
 pub mark-trees-spec : {M : Type 1} → statement M
@@ -31,7 +31,7 @@ mark-trees-spec =
     (tie.spec
     Inv-loop
     μ-loop
-    (λ c. all-start _ _ _)
+    (λ c. all-start _ _ _ _)
     (λ c. search needs)
     (λ c. search needs)
     (λ c. search needs)
@@ -43,4 +43,4 @@ mark-trees-spec =
     (λ c. search needs)
     loop-again
     (λ c. c .before .loop .inv .same)
-    (λ c. all-end (c .before .loop .inv) (omega arith)))
+    (λ c. all-end _ (c .before .loop .inv) (omega arith)))
