@@ -3,6 +3,7 @@ mod layout;
 mod nesting;
 mod presence;
 
+pub use presence::among;
 ghost use mathlib.Core.Path.{_≡_};
 ghost use Prim.Native.Nat.{_<_, _≤_};
 ghost use lib.ListN.{length};

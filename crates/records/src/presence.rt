@@ -27,8 +27,8 @@ pub(crate) fn inside(r: &[u16], m: usize, s: u32) -> bool
     true
 }
 
-// Whether a is one of the m clusters.
-pub(crate) fn among(r: &[u16], m: usize, a: u32) -> bool
+// Whether a is one of the m clusters. `sums` asks it too, of records that were checked.
+pub fn among(r: &[u16], m: usize, a: u32) -> bool
     requires { ⌜ length (now r) ≡ 32 ⌝ }
     requires { ⌜ m ≤ 31 ⌝ }
     ensures { λ result. ⌜ Decides result (Among a (take m (drop 1 (now (r .entry))))) ⌝ }

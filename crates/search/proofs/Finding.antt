@@ -18,7 +18,7 @@ use Rattle.lineages.specs.Checks.{recordsTest, rootingTest}
 use Rattle.lineages.specs.InOrder.{Shaped}
 use Rattle.lineages.specs.Work.{shapeTests, said, GenesJudged}
 use Rattle.lineages.proofs.Verdicts.{verdict-first, shape-passed}
-use Rattle.lineages.proofs.FirstBad.{checked-countable}
+use Rattle.lineages.proofs.FirstBad.{checked-in-order}
 use Rattle.splits.specs.Least.{scoreEntry, splitEntry}
 use Rattle.search.specs.Promise.{firstStrange, allowedTest, searchTests, foundOr, filledBy, Finds}
 use Rattle.solver.specs.Best.{bestFor, foundBy}
@@ -95,15 +95,20 @@ module _ (rooting : Rooting) (n : ℕ) (genes : List ℕ) (count : ℕ) (allowed
         ≡ verdict (recordsTest n (recordsIn count genes) ∷ rootingTest rooting n (recordsIn count genes) ∷ allowedTest n allowed ∷ [])
     long-told = shape-told ∙ long-passed rooting n genes count allowed scores splits long
 
-    pub checked : {judged : Reply} → GenesJudged rooting n genes count judged → judged .number ≡ 0 → Checked n genes count allowed scores splits
-    checked told none = record {
-      some-species = shaped .some-species;
-      few-species = shaped .few-species;
-      few-genes = shaped .few-genes;
-      genes-long = shaped .fits;
-      countable = checked-countable rooting n genes count told none (shaped .few-species);
-      long = long;
-    }
+    pub checked : {judged : Reply} → GenesJudged rooting n genes count judged → judged .number ≡ 0 → Checked rooting n genes count allowed scores splits
+    checked told none =
+        let ordered = checked-in-order rooting n genes count told none (shaped .few-species) shaped in
+        record {
+          some-species = shaped .some-species;
+          weighable = record {
+            few-species = shaped .few-species;
+            few-genes = shaped .few-genes;
+            genes-long = shaped .fits;
+            valid = ordered .valid;
+            enter = ordered .enter;
+          };
+          long = long;
+        }
 
 -- ---- the ways
 

@@ -1,2 +1,1 @@
-pub mod Weighing
 pub mod Solving

@@ -5,7 +5,8 @@ use mathlib.Core.Bool.{Bool}
 use mathlib.Core.Option.{Option, some, none}
 use mathlib.Core.List.{List, _++_, map}
 use native.Mathlib.Omega.{arith}
-use lib.ListN.{length, getD, drop}
+use lib.ListN.{length, getD, take, drop, length-take, length-drop, length-append}
+use lib.Seq.{drop-at}
 use lib.Pow.{pow-pos}
 use Rattle.clusters.specs.Sets.{whole, size}
 use Rattle.clusters.proofs.Sets.{whole-below}
@@ -14,6 +15,7 @@ use Rattle.trees.specs.Records.{recordOf, recordsIn}
 use Rattle.trees.specs.Lists.{upTo}
 use Rattle.weights.specs.Count.{weight}
 use Rattle.weights.proofs.RunningSums.{weight-small}
+use Rattle.weights.proofs.Sums.{valid-countable}
 use Rattle.splits.specs.BinaryTrees.{Binary, root, clustersIn}
 use Rattle.splits.specs.BinaryTrees.Binary.{tip, fork}
 use Rattle.splits.specs.WellFormed.{TreeOn}
@@ -70,9 +72,34 @@ whole-entries : (n : ℕ) {all : ℕ} → all ≡ whole n → all + 1 ≡ 2 ^ n
 unfolding whole
 whole-entries n e = omega (arith, pow-pos n)
 
-module _ {n : ℕ} {genes : List ℕ} {count : ℕ} {allowed scores splits : List ℕ} (h : Checked n genes count allowed scores splits) {all : ℕ} (is : all ≡ whole n) where
+-- the first entries of a table, lent by themselves
+abbrev pub lentPart : ℕ → List ℕ → List ℕ
+lentPart entries l = take (entries - 0) (drop 0 l)
+
+-- and the table with others in their place
+abbrev pub backIn : ℕ → List ℕ → List ℕ → List ℕ
+backIn entries part l = take 0 l ++ (part ++ drop (entries - 0) (drop 0 l))
+
+module _ (n : ℕ) {all : ℕ} (is : all ≡ whole n) where
+  part-entries : all + 1 - 0 ≡ 2 ^ n
+  part-entries = omega (arith, whole-entries n is)
+
+  -- they are as many as there are sets of n species
+  pub part-sized : (l : List ℕ) → 2 ^ n ≤ length l → length (lentPart (all + 1) l) ≡ 2 ^ n
+  part-sized l long = omega (arith, length-take (all + 1 - 0) l, part-entries)
+
+  back-is : (part l : List ℕ) → backIn (all + 1) part l ≡ part ++ drop (2 ^ n) l
+  back-is part l = ap (λ (k : ℕ). part ++ drop k l) part-entries
+
+  -- which leaves its length
+  pub back-length : (part l : List ℕ) → 2 ^ n ≤ length l → length part ≡ 2 ^ n → length (backIn (all + 1) part l) ≡ length l
+  back-length part l long sized = omega (arith, ap length (back-is part l), length-append part (drop (2 ^ n) l), length-drop (2 ^ n) l)
+
+module _ {rooting : Rooting} {n : ℕ} {genes : List ℕ} {count : ℕ} {allowed scores splits : List ℕ} (h : Checked rooting n genes count allowed scores splits)
+    {all : ℕ} (is : all ≡ whole n) where
+  -- there are at most 65,536 sets, and an entry for each in both tables
   pub all-few : all + 1 ≤ 65536
-  all-few = omega (arith, whole-entries n is, entries-few (h .few-species))
+  all-few = omega (arith, whole-entries n is, entries-few (h .weighable .few-species))
 
   pub all-fits : all + 1 ≤ length scores
   all-fits = omega (arith, whole-entries n is, h .long .scores-long)
@@ -80,46 +107,53 @@ module _ {n : ℕ} {genes : List ℕ} {count : ℕ} {allowed scores splits : Lis
   pub all-splits : all + 1 ≤ length splits
   all-splits = omega (arith, whole-entries n is, h .long .splits-long)
 
-module _ (rooting : Rooting) {n : ℕ} {genes : List ℕ} {count : ℕ} {allowed scores splits : List ℕ}
-    (h : Checked n genes count allowed scores splits) {all : ℕ} (is : all ≡ whole n) where
   weights-light : Light (weight rooting (recordsIn count genes))
-  weights-light b = omega (arith, weight-small rooting genes b (h .few-genes) (h .countable))
+  weights-light b =
+      omega (arith, weight-small rooting genes b (h .weighable .few-genes) (valid-countable (h .weighable .few-species) (h .weighable .valid)))
 
-  module _ {weights : List ℕ} (e : weights ≡ map (λ a. weight rooting (recordsIn count genes) a) (upTo (all + 1)) ++ drop (all + 1) scores) where
-    is-written : weights ≡ written (λ a. weight rooting (recordsIn count genes) a) (2 ^ n) scores
+  module _ {made : List ℕ} (work : List ℕ) (e : made ≡ map (λ a. weight rooting (recordsIn count genes) a) (upTo (2 ^ n))) (sized : length work ≡ 2 ^ n) where
+    is-written : backIn (all + 1) made scores ≡ written (λ a. weight rooting (recordsIn count genes) a) (2 ^ n) scores
     is-written =
-        e ∙ sym (written-entries (λ a. weight rooting (recordsIn count genes) a) (all + 1) scores)
-        ∙ ap (λ k. written (λ a. weight rooting (recordsIn count genes) a) k scores) (whole-entries n is)
+        back-is n is made scores ∙ ap (λ (l : List ℕ). l ++ drop (2 ^ n) scores) e
+        ∙ sym (written-entries (λ a. weight rooting (recordsIn count genes) a) (2 ^ n) scores)
 
-    holds-weights : Weights n (weight rooting (recordsIn count genes)) weights
+    holds-weights : Weights n (weight rooting (recordsIn count genes)) (backIn (all + 1) made scores)
     holds-weights b l = ap (λ t. getD t b 0) is-written ∙ written-at (λ a. weight rooting (recordsIn count genes) a) (2 ^ n) scores b l
 
-    pub weights-fillable : Fillable n allowed weights splits
+    -- the tables can be filled from the weights
+    pub weights-fillable : Fillable n allowed (backIn (all + 1) made scores) (backIn (all + 1) work splits)
     weights-fillable =
         record {
-          few = h .few-species;
+          few = h .weighable .few-species;
           allowed-long = h .long .allowed-long;
           scores-long =
               let l = h .long .scores-long in
               omega (arith, ap length is-written, written-length (λ a. weight rooting (recordsIn count genes) a) (2 ^ n) scores l);
-          splits-long = h .long .splits-long;
+          splits-long = let l = h .long .splits-long in omega (arith, back-length n is work splits l sized);
           light = λ b l. omega (arith, holds-weights b l, weights-light b);
         }
 
+    -- and what stood in the split table is not seen
     pub tabled :
-        {scores′ splits′ : List ℕ} → Fills n allowed weights splits scores′ splits′
+        {scores′ splits′ : List ℕ} → Fills n allowed (backIn (all + 1) made scores) (backIn (all + 1) work splits) scores′ splits′
         → Tabled rooting n (recordsIn count genes) allowed scores splits scores′ splits′
     unfolding bestFor
     tabled {scores′} {splits′} fills =
         let both = fills (weight rooting (recordsIn count genes)) weights-light holds-weights in
-        record { light = weights-light; scoreTable = both .0 ∙ behind; splitTable = both .1 }
+        record { light = weights-light; scoreTable = both .0 ∙ behind; splitTable = both .1 ∙ ap (λ (l : List ℕ). map other (upTo (2 ^ n)) ++ l) rest }
       where
         entry : ℕ → ℕ
         entry a = scoreEntry (weight rooting (recordsIn count genes)) (best (weight rooting (recordsIn count genes)) (allowedIn n allowed) a)
 
-        behind : filled n entry weights ≡ filled n entry scores
+        other : ℕ → ℕ
+        other a = splitEntry (best (weight rooting (recordsIn count genes)) (allowedIn n allowed) a)
+
+        rest : drop (2 ^ n) (backIn (all + 1) work splits) ≡ drop (2 ^ n) splits
+        rest = ap (drop (2 ^ n)) (back-is n is work splits) ∙ drop-at work (drop (2 ^ n) splits) (2 ^ n) sized
+
+        behind : filled n entry (backIn (all + 1) made scores) ≡ filled n entry scores
         behind =
-            sym (written-entries entry (2 ^ n) weights) ∙ ap (written entry (2 ^ n)) is-written
+            sym (written-entries entry (2 ^ n) (backIn (all + 1) made scores)) ∙ ap (written entry (2 ^ n)) is-written
             ∙ written-again entry (λ a. weight rooting (recordsIn count genes) a) (2 ^ n) scores
             ∙ written-entries entry (2 ^ n) scores
 
@@ -147,14 +181,7 @@ module _ (rooting : Rooting)
 
       not-marked : (t : Binary) → best (weight rooting genes) (allowedIn n allowed) (whole n) ≡ some t → getD scores all 0 ≡ noTree → ⊥
       not-marked t e m =
-          omega (
-            arith,
-            score-all,
-            ap (scoreEntry (weight rooting genes)) e,
-            score-bound (h .light)
-                (best-on (weight rooting genes) (allowedIn n allowed) (whole n) t e),
-            size-whole n,
-          )
+          omega (arith, score-all, ap (scoreEntry (weight rooting genes)) e, score-bound (h .light) (best-on (weight rooting genes) (allowedIn n allowed) (whole n) t e), size-whole n)
 
       -- the mark stands there where there is no tree
       no-best : getD scores all 0 ≡ noTree → best (weight rooting genes) (allowedIn n allowed) (whole n) ≡ none

@@ -1,12 +1,11 @@
 -- What the parts of the search ask of one another.
-use Prim.Native.Nat.{ℕ, _*_, _^_, _≤_}
+use Prim.Native.Nat.{ℕ, _^_, _≤_}
 use mathlib.Core.Path.{_≡_}
 use mathlib.Core.List.{List}
 use lib.ListN.{length, replicate}
 use Rattle.clusters.specs.Sets.{whole}
 use Rattle.weights.specs.Count.{weight}
-use Rattle.trees.specs.Records.{recordsIn}
-use Rattle.weights.specs.Work.{AllCountable}
+use Rattle.sums.specs.Work.{Weighable}
 use Rattle.splits.specs.Least.{scoreEntry, splitEntry, filled}
 use Rattle.solver.specs.Best.{bestFor, foundBy}
 use Rattle.solver.specs.declared.Found.{Found}
@@ -23,12 +22,9 @@ pub record LongEnough (entries : ℕ) (allowed scores splits : List ℕ) : Type 
   pub splits-long : entries ≤ length splits
 
 -- gene trees and slices that were checked
-pub record Checked (n : ℕ) (genes : List ℕ) (count : ℕ) (allowed scores splits : List ℕ) : Type 0 where
+pub record Checked (rooting : Rooting) (n : ℕ) (genes : List ℕ) (count : ℕ) (allowed scores splits : List ℕ) : Type 0 where
   pub some-species : 1 ≤ n
-  pub few-species : n ≤ 16
-  pub few-genes : count ≤ 4096
-  pub genes-long : 32 * count ≤ length genes
-  pub countable : AllCountable (recordsIn count genes)
+  pub weighable : Weighable rooting n genes count
   pub long : LongEnough (2 ^ n) allowed scores splits
 
 -- the answer for gene trees, and both tables filled

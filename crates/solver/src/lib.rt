@@ -1,6 +1,5 @@
 // The best tree of gene trees that were checked: all weights, the two tables, and the record of the tree that they choose.
 mod tree;
-mod weight_table;
 
 use weights::Rooting;
 ghost use mathlib.Core.Path.{_≡_};
@@ -39,11 +38,20 @@ pub fn solve(
     scores: &mut [u32],
     splits: &mut [u16],
 ) -> Found
-    requires { ⌜ Checked n (now genes) count (now allowed) (now scores) (now splits) ⌝ }
+    requires { ⌜ Checked rooting n (now genes) count (now allowed) (now scores) (now splits) ⌝ }
     ensures { λ r. ⌜ Solves rooting n (recordsIn count (now (genes .entry))) (now (allowed .entry)) (now (scores .entry)) (now (splits .entry)) r (now (scores .exit)) (now (splits .exit)) ⌝ }
 {
     let all = clusters::whole(n) as usize;
-    weight_table::fill(rooting, genes, count, all + 1, scores);
+    let entries = all + 1;
+    // the split table is work space until it is filled
+    sums::fill(
+        rooting,
+        n,
+        genes,
+        count,
+        &mut scores[0..entries],
+        &mut splits[0..entries],
+    );
     tables::fill(n, allowed, scores, splits);
     let score = scores[all];
     if score == splits::NO_TREE {

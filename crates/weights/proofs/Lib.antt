@@ -1,4 +1,5 @@
--- The mathematics of the counts: the maximal clusters and the nodes that hold them, how large k is, sums; then what the code keeps while it counts and marks.
+-- The mathematics of the counts: the maximal clusters and the nodes that hold them, how large k is, sums; then what the code keeps while it counts and marks; then the
+-- weights of all clusters by sums over subsets.
 pub mod Tops
 pub mod CountedDrawn
 pub mod Joining
@@ -18,3 +19,10 @@ pub mod ToMark
 pub mod RunningSums
 pub mod Shown
 pub mod Star
+pub mod SumOfLists
+pub mod SumOfUnions
+pub mod SumOfRooted
+pub mod SumOfPairs
+pub mod SumOfUnrooted
+pub mod Zeta
+pub mod SumOfWeights

@@ -44,7 +44,8 @@ map-among f {x} {y} (z ∷ l) m e = go (List·Memᴰ·cases-cons m) (λ k. map-a
 -- ---- the clusters before the last
 
 module _ {g : List ℕ} (form : Form g) where
-  before-last : 1 ≤ count g → listed g ≡ take (count g - 1) (drop 1 g) ++ (largest g ∷ [])
+  -- all clusters are those before the last and the last
+  pub before-last : 1 ≤ count g → listed g ≡ take (count g - 1) (drop 1 g) ++ (largest g ∷ [])
   before-last some =
       ap (λ (k : ℕ). take k (drop 1 g)) whole ∙ take-suc (drop 1 g) (count g - 1) 0 (omega (arith, listed-fits form))
       ∙ ap (λ (x : ℕ). take (count g - 1) (drop 1 g) ++ (x ∷ [])) (getD-drop 1 g (count g - 1) 0 ∙ ap (λ (k : ℕ). getD g k 0) end)
@@ -56,7 +57,7 @@ module _ {g : List ℕ} (form : Form g) where
       end = omega arith
 
   -- the complements are those of all clusters but the whole
-  complement-of : {x : ℕ} → Among x (complements g) → Complement (largest g) (listed g) x
+  pub complement-of : {x : ℕ} → Among x (complements g) → Complement (largest g) (listed g) x
   unfolding complements
   complement-of {x} m =
       let y = among-map (λ y. largest g - y) (take (count g - 1) (drop 1 g)) m in
@@ -74,7 +75,8 @@ module _ {g : List ℕ} (form : Form g) where
           let none : count g - 1 ≡ 0 = omega (arith, f) in
           absurd (List·Memᴰ·not-nil (subst (λ (j : ℕ). Among y (take j (drop 1 g))) none k))
 
-  of-complement : {x : ℕ} → Complement (largest g) (listed g) x → Among x (complements g)
+  -- and each of these is one of them
+  pub of-complement : {x : ℕ} → Complement (largest g) (listed g) x → Among x (complements g)
   unfolding complements
   of-complement {x} c = map-among (λ y. largest g - y) (take (count g - 1) (drop 1 g)) (go (List·Memᴰ·append-cases (take (count g - 1) (drop 1 g)) split)) (c .is)
     where

@@ -100,8 +100,8 @@ fn lineages_by(rooting: Rooting, g: &[u16], a: u32) -> usize
     }
 }
 
-// The extra lineages of a in the gene tree g, and 0 where no cluster of g lies within a. `solver` calls it too, with records that `judge_genes` of `lineages` has passed.
-pub fn extra(rooting: Rooting, g: &[u16], a: u32) -> usize
+// The extra lineages of a in the gene tree g, and 0 where no cluster of g lies within a.
+pub(crate) fn extra(rooting: Rooting, g: &[u16], a: u32) -> usize
     requires { ⌜ Countable (now g) ⌝ }
     ensures { λ r. ⌜ r ≡ extra rooting (now (g .entry)) a ⌝ }
 {

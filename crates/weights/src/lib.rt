@@ -1,6 +1,6 @@
 // Extra lineages counted in gene trees that were checked: in one, over all of them, over a species tree; and the clusters that they show, marked.
 pub mod adding;
-pub mod count;
+mod count;
 pub mod marking;
 
 // How gene trees are counted: with their roots as drawn, or as trees without a root.

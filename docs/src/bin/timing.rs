@@ -1,15 +1,21 @@
-//! Times this version's search at 16 species and 2,000 gene trees with all clusters allowed, and writes the gene records to the
-//! file that its argument names, as sixteen-bit numbers, for docs/src/timing.c to time the proved one on the same input.
+//! The sets of ./bench, and this version's search timed on one: `timing draw SET RECORDS` writes the gene records of a set,
+//! `timing search SET RECORDS ANSWER` searches them with all clusters allowed, writes the answer and prints the microseconds of processor time.
+//! Both files are numbers with the low byte first: sixteen bits each in RECORDS; in ANSWER the score (64), the record (16), the score
+//! table (32) and the split table (16). docs/src/timing.c writes the same of the proved search.
 use reference::lineages::Rooting;
 use reference::seeded::Seeded;
-use std::time::Instant;
+use reference::trees::{record, whole};
+use reference::SPECIES;
+use std::ffi::c_long;
 
-const SPECIES: usize = 16;
-const TREES: usize = 2000;
+extern "C" {
+    /// C's own: the processor time of this process, in microseconds on Linux.
+    fn clock() -> c_long;
+}
 
-/// The clusters of a random binary tree: two of the parts are joined until one is left.
-fn tree(s: &mut Seeded) -> [u16; 32] {
-    let mut parts: Vec<u16> = (0..SPECIES).map(|i| 1 << i).collect();
+/// The clusters of a random binary tree: two of the parts are joined until one is left. The cluster before the last is a child of the root.
+fn binary_on(s: &mut Seeded, species: Vec<u16>) -> Vec<u16> {
+    let mut parts = species;
     let mut clusters = parts.clone();
     while parts.len() > 1 {
         let at = s.below(parts.len());
@@ -19,19 +25,83 @@ fn tree(s: &mut Seeded) -> [u16; 32] {
         parts.push(a | b);
         clusters.push(a | b);
     }
-    reference::trees::record(&clusters)
+    clusters
+}
+
+fn all() -> Vec<u16> {
+    (0..SPECIES).map(|i| 1 << i).collect()
+}
+
+fn binary(s: &mut Seeded) -> Vec<u16> {
+    binary_on(s, all())
+}
+
+/// Each inner branch is contracted with one chance in three.
+fn unresolved(s: &mut Seeded) -> Vec<u16> {
+    let mut clusters = binary(s);
+    clusters.retain(|&x| x.count_ones() == 1 || x == whole(SPECIES) || !s.one_in(3));
+    clusters
+}
+
+/// Each species is lost with one chance in five.
+fn lost(s: &mut Seeded) -> Vec<u16> {
+    let mut kept = all();
+    kept.retain(|_| !s.one_in(5));
+    binary_on(s, kept)
+}
+
+/// The root is drawn on a branch or, with one chance in two, at a node, where it has three children.
+fn unrooted(s: &mut Seeded) -> Vec<u16> {
+    let mut clusters = binary(s);
+    if s.one_in(2) {
+        clusters.remove(clusters.len() - 2);
+    }
+    clusters
+}
+
+fn draw(set: &str) -> Vec<u16> {
+    let (trees, tree): (usize, fn(&mut Seeded) -> Vec<u16>) = match set {
+        "binary" => (2000, binary),
+        "unresolved" => (2000, unresolved),
+        "lost" => (2000, lost),
+        "unrooted" => (2000, unrooted),
+        "many" => (4096, binary),
+        _ => panic!("there is no set {set}"),
+    };
+    let mut s = Seeded::new(20_261_115);
+    (0..trees).flat_map(|_| record(&tree(&mut s))).collect()
+}
+
+/// The answer as bytes, and the microseconds.
+fn search(set: &str, genes: &[u16]) -> (Vec<u8>, c_long) {
+    let rooting = if set == "unrooted" { Rooting::Unrooted } else { Rooting::Rooted };
+    let allowed = vec![1u8; 1 << SPECIES];
+    let (mut scores, mut splits) = (vec![0u32; 1 << SPECIES], vec![0u16; 1 << SPECIES]);
+    let begin = unsafe { clock() };
+    let found = reference::search::search(rooting, SPECIES, genes, genes.len() / 32, &allowed, &mut scores, &mut splits);
+    let time = unsafe { clock() } - begin;
+    let (score, record) = found.unwrap();
+    let mut answer = score.to_le_bytes().to_vec();
+    answer.extend(record.iter().flat_map(|x| x.to_le_bytes()));
+    answer.extend(scores.iter().flat_map(|x| x.to_le_bytes()));
+    answer.extend(splits.iter().flat_map(|x| x.to_le_bytes()));
+    (answer, time)
 }
 
 fn main() {
-    let mut s = Seeded::new(20_261_115);
-    let genes: Vec<u16> = (0..TREES).flat_map(|_| tree(&mut s)).collect();
-    if let Some(path) = std::env::args().nth(1) {
-        let bytes: Vec<u8> = genes.iter().flat_map(|x| x.to_le_bytes()).collect();
-        std::fs::write(path, bytes).unwrap();
+    let words: Vec<String> = std::env::args().skip(1).collect();
+    match words.iter().map(String::as_str).collect::<Vec<_>>()[..] {
+        ["draw", set, records] => {
+            let bytes: Vec<u8> = draw(set).iter().flat_map(|x| x.to_le_bytes()).collect();
+            std::fs::write(records, bytes).unwrap();
+        }
+        ["search", set, records, answer] => {
+            let bytes = std::fs::read(records).unwrap();
+            let genes: Vec<u16> = bytes.chunks(2).map(|b| u16::from_le_bytes([b[0], b[1]])).collect();
+            let (found, time) = search(set, &genes);
+            std::fs::write(answer, found).unwrap();
+            println!("{time}");
+        }
+        _ => panic!("usage: timing draw SET RECORDS, or timing search SET RECORDS ANSWER"),
     }
-    let allowed = vec![1u8; 1 << SPECIES];
-    let (mut scores, mut splits) = (vec![0u32; 1 << SPECIES], vec![0u16; 1 << SPECIES]);
-    let begin = Instant::now();
-    let (score, _) = reference::search::search(Rooting::Rooted, SPECIES, &genes, TREES, &allowed, &mut scores, &mut splits).unwrap();
-    println!("score {score}, {} ms", begin.elapsed().as_millis());
 }

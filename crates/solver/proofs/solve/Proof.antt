@@ -1,84 +1,106 @@
 -- `solver::solve` meets its contract: the weights, both tables, and the tree that they choose.
+use Prim.Native.Nat.{_^_}
 use mathlib.Core.Path.{_≡_, refl, _∙_}
 use borrow.Author.Needs.{needs}
 use native.Mathlib.Omega.{arith}
 use lib.ListN.{length}
 use Rattle.trees.specs.Records.{recordsIn}
-use Rattle.solver.proofs.Solving.{Tabled, all-few, all-fits, all-splits, weights-fillable, tabled, solves-none, solves-chooses, solves-found}
+use Rattle.solver.proofs.Solving.{Tabled, part-sized, back-length, all-few, all-fits, all-splits, weights-fillable, tabled, solves-none, solves-chooses, solves-found}
 use Rattle.solver.proofs.solve.Statement.{statement}
 use Rattle.solver.proofs.solve.Tie as tie
 
+-- behind the first call both parts that were lent are as long as they were
+part-lengths :
+    (c : tie.After-fill) → let n = c .before .before .before .before .before .before .before .before .args .n in
+    (length (c .fill .last .1 .1 .1 .1 .0) ≡ 2 ^ n) × (length (c .fill .last .1 .1 .1 .1 .1 .0) ≡ 2 ^ n)
+part-lengths c =
+    let start = c .before .before .before .before .before .before .before .before in
+    let long = start .pre .long in
+    let is = c .before .before .before .whole .ensures in (
+      c .fill .kept .1 .1 .1 .1 .0 ∙ part-sized (start .args .n) is (start .args .scores .now) (long .scores-long),
+      c .fill .kept .1 .1 .1 .1 .1 .0 ∙ part-sized (start .args .n) is (start .args .splits .now) (long .splits-long),
+    )
+
 -- behind the second call both tables are there
 both-tables :
-    (c : tie.After-fill2)
-    → let args = c .before .before .before .before .before .before .before .before .before .before .before .before .args in
+    (c : tie.After-fill2) → let args = c .before .before .before .before .before .before .before .before .before .before .before .before .before .before .before .args in
     Tabled (args .rooting) (args .n) (recordsIn (args .count) (args .genes .now)) (args .allowed .now) (args .scores .now) (args .splits .now)
-    (c .fill2 .last .1 .1 .0)
-    (c .fill2 .last .1 .1 .1 .0)
+    (c .fill2 .last .1 .1 .0) (c .fill2 .last .1 .1 .1 .0)
 both-tables c =
-    let all = c .before .before .before .before .before .before .before in
-    tabled _ (all .before .before .before .before .before .pre) (all .whole .ensures) (c .before .before .before .before .before .fill .ensures) (c .fill2 .ensures)
+    let weighed = c .before .before .before .before .before .before .before in
+    let all = weighed .before .before .before in
+    tabled (all .before .before .before .before .before .pre) (all .whole .ensures) (weighed .fill .last .1 .1 .1 .1 .1 .0) (weighed .fill .ensures) (part-lengths weighed .1) (c .fill2 .ensures)
 
 -- and as long as they were
-same-scores :
-    (c : tie.After-fill2)
-    → length (c .fill2 .last .1 .1 .0) ≡ length (c .before .before .before .before .before .before .before .before .before .before .before .before .args .scores .now)
-same-scores c = c .fill2 .kept .1 .1 .0 ∙ c .before .before .before .before .before .fill .kept .1 .1 .1 .1 .0
+same-tables :
+    (c : tie.After-fill2) → let args = c .before .before .before .before .before .before .before .before .before .before .before .before .before .before .before .args in
+    (length (c .fill2 .last .1 .1 .0) ≡ length (args .scores .now)) × (length (c .fill2 .last .1 .1 .1 .0) ≡ length (args .splits .now))
+same-tables c =
+    let weighed = c .before .before .before .before .before .before .before in
+    let all = weighed .before .before .before in
+    let start = all .before .before .before .before .before in
+    let long = start .pre .long in
+    let parts = part-lengths weighed in
+    let scores = back-length (start .args .n) (all .whole .ensures) (weighed .fill .last .1 .1 .1 .1 .0) (start .args .scores .now) in
+    let splits = back-length (start .args .n) (all .whole .ensures) (weighed .fill .last .1 .1 .1 .1 .1 .0) (start .args .splits .now) in
+    (c .fill2 .kept .1 .1 .0 ∙ scores (long .scores-long) (parts .0), c .fill2 .kept .1 .1 .1 .0 ∙ splits (long .splits-long) (parts .1))
 
 whole-requires : tie.Need-whole-requires
-whole-requires c κs = let few = c .before .before .before .before .pre .few-species in omega arith
+whole-requires c κs = let few = c .before .before .before .before .pre .weighable .few-species in omega arith
+
+part-fill-end : tie.Need-part-fill-end
+part-fill-end c = all-fits (c .before .before .before .before .before .pre) (c .whole .ensures)
+
+part-fill-end-2 : tie.Need-part-fill-end-2
+part-fill-end-2 c = all-splits (c .before .before .before .before .before .before .pre) (c .before .whole .ensures)
 
 fill-requires : tie.Need-fill-requires
 fill-requires c κs =
-    let h = c .before .before .before .before .before .before .pre in
-    let is = c .before .whole .ensures in
-    (h .few-genes, (h .genes-long, (h .countable, (all-few h is, all-fits h is))))
+    let start = c .before .before .before .before .before .before .before in
+    let is = c .before .before .whole .ensures in (
+      start .pre .weighable,
+      (
+        part-sized (start .args .n) is (start .args .scores .now) (start .pre .long .scores-long),
+        part-sized (start .args .n) is (start .args .splits .now) (start .pre .long .splits-long),
+      ),
+    )
 
 fill-requires-2 : tie.Need-fill-requires-2
 fill-requires-2 c κs =
-    let all = c .before .before .before .before .before .before in
-    weights-fillable _ (all .before .before .before .before .before .pre) (all .whole .ensures) (c .before .before .before .before .fill .ensures)
+    let weighed = c .before .before .before .before .before .before in
+    let all = weighed .before .before .before in
+    weights-fillable (all .before .before .before .before .before .pre) (all .whole .ensures) (weighed .fill .last .1 .1 .1 .1 .1 .0) (weighed .fill .ensures) (part-lengths weighed .1)
 
 slice-read-score : tie.Need-slice-read-score
 slice-read-score c =
-    let all = c .before .before .before .before .before .before .before .before .before .before .before .before in
+    let tables = c .before .before .before .before .before in
+    let all = tables .before .before .before .before .before .before .before .before .before .before in
     let long = all-fits (all .before .before .before .before .before .pre) (all .whole .ensures) in
-    let same = same-scores (c .before .before .before .before .before) in
+    let same = same-tables tables .0 in
     omega arith
-
-same-length : tie.Need-same-length
-same-length c = same-scores (c .before .before .before .before .before .before .before)
-
-same-length-2 : tie.Need-same-length-2
-same-length-2 c = c .before .before .before .before .before .before .before .fill2 .kept .1 .1 .1 .0
 
 returns : tie.Need-returns
 returns c =
     let tables = c .before .before .before .before .before .before .before in
-    let all = tables .before .before .before .before .before .before .before in
-    solves-none _ (both-tables tables) (all .before .before .before .before .before .pre .few-species) (all .whole .ensures) (omega arith) (c .refused .ensures)
+    let all = tables .before .before .before .before .before .before .before .before .before .before in
+    solves-none _ (both-tables tables) (all .before .before .before .before .before .pre .weighable .few-species) (all .whole .ensures) (omega arith) (c .refused .ensures)
 
 found-requires : tie.Need-found-requires
 found-requires c κs =
     let tables = c .before .before .before .before .before .before .before in
-    let all = tables .before .before .before .before .before .before .before in
+    let all = tables .before .before .before .before .before .before .before .before .before .before in
     let h = all .before .before .before .before .before .pre in
-    let few = all-few h (all .whole .ensures) in
-    let long = all-splits h (all .whole .ensures) in
-    let same = tables .fill2 .kept .1 .1 .1 .0 in
-    (omega arith, (omega arith, solves-chooses _ (both-tables tables) (h .few-species) (all .whole .ensures) (c .before .if1 .left)))
-
-same-length-3 : tie.Need-same-length-3
-same-length-3 c = same-scores (c .before .before .before .before .before .before .before .before)
-
-same-length-4 : tie.Need-same-length-4
-same-length-4 c = c .before .before .before .before .before .before .before .before .fill2 .kept .1 .1 .1 .0
+    let is = all .whole .ensures in
+    let few = all-few h is in
+    let long = all-splits h is in
+    let same = same-tables tables .1 in
+    (omega arith, (omega arith, solves-chooses _ (both-tables tables) (h .weighable .few-species) is (c .before .if1 .left)))
 
 returns-2 : tie.Need-returns-2
 returns-2 c =
     let tables = c .before .before .before .before .before .before .before .before in
-    let all = tables .before .before .before .before .before .before .before in
-    solves-found _ (both-tables tables) (all .before .before .before .before .before .pre .few-species) (all .whole .ensures) (c .before .before .if1 .left) refl
+    let all = tables .before .before .before .before .before .before .before .before .before .before in
+    solves-found _ (both-tables tables) (all .before .before .before .before .before .pre .weighable .few-species) (all .whole .ensures) (c .before .before .if1 .left) refl
     (c .found .ensures)
 
 pub solve-spec : {M : Type 1} → statement M
@@ -88,15 +110,21 @@ solve-spec =
     whole-requires
     (λ c. search needs)
     (λ c. search needs)
+    (λ c. search needs)
+    (λ c. search needs)
+    part-fill-end
+    (λ c. search needs)
+    (λ c. search needs)
+    part-fill-end-2
     fill-requires
     fill-requires-2
     (λ c. search needs)
     slice-read-score
     (λ c κs. search needs)
-    same-length
-    same-length-2
+    (λ c. same-tables (c .before .before .before .before .before .before .before) .0)
+    (λ c. same-tables (c .before .before .before .before .before .before .before) .1)
     returns
     found-requires
-    same-length-3
-    same-length-4
+    (λ c. same-tables (c .before .before .before .before .before .before .before .before) .0)
+    (λ c. same-tables (c .before .before .before .before .before .before .before .before) .1)
     returns-2)
