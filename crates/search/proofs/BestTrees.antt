@@ -4,7 +4,7 @@ use mathlib.Core.Path.{_≡_, refl, sym, ap, ap₂, _∙_, subst}
 use mathlib.Core.Logic.{_⊎_, inl, inr}
 use mathlib.Core.Bool.{Bool, true, false, _&&_, true≢false, false≢true}
 use mathlib.Core.Option.{Option, some, none}
-use mathlib.Core.List.{List, [], _∷_, map, List·Memᴰ, List·Memᴰ·head as here, List·Memᴰ·tail as there, List·Memᴰ·not-nil, List·Memᴰ·cases-cons}
+use mathlib.Core.List.{List, [], _∷_, List·Memᴰ, List·Memᴰ·head as here, List·Memᴰ·tail as there, List·Memᴰ·not-nil, List·Memᴰ·cases-cons}
 use native.Mathlib.Omega.{arith}
 use lib.Dec.{leb}
 use borrow.Author.Tests.{leb-false}
@@ -13,7 +13,7 @@ use Rattle.clusters.specs.Sets.{Has, Within, size, lowest}
 use Rattle.clusters.proofs.Members.{has-dec}
 use Rattle.clusters.proofs.Sets.{minus-within, minus-has}
 use Rattle.clusters.proofs.LowestSpecies.{lowest-has}
-use Rattle.trees.specs.Lists.{Among, total}
+use Rattle.trees.specs.Lists.{Among}
 use Rattle.trees.specs.Valid.{every}
 use Rattle.splits.specs.BinaryTrees.{Binary, clustersIn, treesOn}
 use Rattle.splits.specs.BinaryTrees.Binary.{fork}

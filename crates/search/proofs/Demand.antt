@@ -38,20 +38,23 @@ use Rattle.weights.specs.declared.Rooting.{Rooting}
 
 module _ (n : ℕ) (allowed : List ℕ) where
   -- the record of a tree over allowed clusters competes, and each that competes is such
-  tree-competes : (t : Binary) → n ≤ 16 → TreeOn (whole n) t → Over (allowedIn n allowed) t → Candidate n allowed (recordOf (clustersIn t))
+  pub tree-competes : (t : Binary) → n ≤ 16 → TreeOn (whole n) t → Over (allowedIn n allowed) t → Candidate n allowed (recordOf (clustersIn t))
   tree-competes t h v o = record { valid = tree-valid v (whole-below-sixteen n h); binary = tree-binary v; over = λ a m. o a (among-record (clustersIn t) m) }
 
-  competitor : (c : List ℕ) → n ≤ 16 → Candidate n allowed c → TreeOfRecord (whole n) c
+  -- the tree of a record that competes
+  pub competitor : (c : List ℕ) → n ≤ 16 → Candidate n allowed c → TreeOfRecord (whole n) c
   competitor c h k = tree-of-record (whole-below-sixteen n h) (k .valid) (k .binary)
 
-  competitor-over : (c : List ℕ) (h : n ≤ 16) (k : Candidate n allowed c) → Over (allowedIn n allowed) (competitor c h k .tree)
+  -- it is over allowed clusters
+  pub competitor-over : (c : List ℕ) (h : n ≤ 16) (k : Candidate n allowed c) → Over (allowedIn n allowed) (competitor c h k .tree)
   competitor-over c h k x m =
       let t = competitor c h k in
       k .over x (subst (λ r. Among x (listed r)) (t .recorded) (record-among (clustersIn (t .tree)) m))
 
 -- ---- the answer
 
-competitor-score : (rooting : Rooting) (n : ℕ) (genes : List (List ℕ)) (allowed c : List ℕ) (h : n ≤ 16) (k : Candidate n allowed c)
+-- and has the record's score
+pub competitor-score : (rooting : Rooting) (n : ℕ) (genes : List (List ℕ)) (allowed c : List ℕ) (h : n ≤ 16) (k : Candidate n allowed c)
     → score rooting genes c ≡ scoreOf (weight rooting genes) (competitor n allowed c h k .tree)
 competitor-score rooting n genes allowed c h k =
     let t = competitor n allowed c h k in
@@ -132,6 +135,14 @@ module _ {rooting : Rooting} {n : ℕ} {genes : List ℕ} {count : ℕ} {allowed
       go none e = nothing refl refl refl refl (none-competes rooting n (recordsIn count genes) allowed (a .in-order .shaped .few-species) e)
       go (some t) e = answered refl refl (found-answers rooting n (recordsIn count genes) allowed (a .in-order .shaped .few-species) t e)
 
+  -- an accepted call answers 0 or 14
+  pub accepted-says : Accepted rooting n genes count allowed scores splits → (r .number ≡ 0) ⊎ (r .number ≡ 14)
+  accepted-says a = go (replied a)
+    where
+      go : Replied rooting n (recordsIn count genes) allowed r → (r .number ≡ 0) ⊎ (r .number ≡ 14)
+      go (answered z p k) = inl z
+      go (nothing z p s m c) = inr z
+
   -- a test that finds a fault gives the reply its number
   refused-number : (k : ℕ) → verdict (searchTests rooting n genes count allowed scores splits) .number ≡ suc k → r .number ≡ suc k
   refused-number k q =
@@ -187,6 +198,15 @@ finds-once {rooting} f g = (f .reply ∙ sym (g .reply), f .scoreTable ∙ sym (
 
 -- ---- more allowed clusters
 
+-- what competes still does
+pub competes-wider : {n : ℕ} {allowed wider : List ℕ} → ((a : ℕ) → 1 ≤ a → a < 2 ^ n → allowedIn n allowed a ≡ true → allowedIn n wider a ≡ true)
+    → (c : List ℕ) → Candidate n allowed c → Candidate n wider c
+competes-wider {n} h c k = record {
+  valid = k .valid;
+  binary = k .binary;
+  over = λ b m. let i = k .valid .inside b m in h b (i .0) (below-of-within n (i .1)) (k .over b m);
+}
+
 -- an answer stays, and its score does not rise
 pub more-allowed-clusters :
     {rooting : Rooting} {n : ℕ} {genes : List ℕ} {count : ℕ} {allowed wider scores splits scores′ splits′ : List ℕ} {r q : Found} {s p s′ p′ : List ℕ}
@@ -195,11 +215,7 @@ pub more-allowed-clusters :
     → r .number ≡ 0 → (q .number ≡ 0) × (q .score ≤ r .score)
 more-allowed-clusters {rooting} {n} {genes} {count} {allowed} {wider} {r = r} {q = q} f g h a e =
     let x = answer f e in
-    let k : Candidate n wider (r .numbers) = record {
-      valid = x .competes .valid;
-      binary = x .competes .binary;
-      over = λ b m. let i = x .competes .valid .inside b m in h b (i .0) (below-of-within n (i .1)) (x .competes .over b m);
-    } in
+    let k = competes-wider h (r .numbers) (x .competes) in
     let z = zero-exactly g .1 (a, (r .numbers, k)) in
     (z, subst (λ m. q .score ≤ m) (x .counted) (answer g z .least (r .numbers) k))
 

@@ -12,14 +12,12 @@ use Rattle.clusters.specs.Sets.{whole}
 use Rattle.roster.specs.Roster.{least}
 use Rattle.roster.specs.declared.Reply.{Reply}
 use Rattle.roster.specs.Verdict.{Test, verdict, lengthTest}
-use Rattle.weights.specs.Count.{weight}
 use Rattle.trees.specs.Records.{recordsIn}
 use Rattle.lineages.specs.Checks.{recordsTest, rootingTest}
 use Rattle.lineages.specs.InOrder.{Shaped}
 use Rattle.lineages.specs.Work.{shapeTests, said, GenesJudged}
 use Rattle.lineages.proofs.Verdicts.{verdict-first, shape-passed}
 use Rattle.lineages.proofs.FirstBad.{checked-in-order}
-use Rattle.splits.specs.Least.{scoreEntry, splitEntry}
 use Rattle.search.specs.Promise.{firstStrange, allowedTest, searchTests, foundOr, filledBy, Finds}
 use Rattle.solver.specs.Best.{bestFor, foundBy}
 use Rattle.solver.specs.Work.{without, LongEnough, Checked, Solves}
@@ -112,6 +110,16 @@ module _ (rooting : Rooting) (n : ℕ) (genes : List ℕ) (count : ℕ) (allowed
 
 -- ---- the ways
 
+-- a refusal answers no tree
+pub refused-told : (k place : ℕ) → (k ≡ 0 → ⊥) → (found : Found) → without k place ≡ foundOr k place found
+refused-told zero place f found = absurd (f refl)
+refused-told (suc k) place f found = refl
+
+-- and keeps a lent table
+pub refused-kept : (k n : ℕ) → (k ≡ 0 → ⊥) → (entry : ℕ → ℕ) (lent : List ℕ) → lent ≡ filledBy k n entry lent
+refused-kept zero n f entry lent = absurd (f refl)
+refused-kept (suc k) n f entry lent = refl
+
 module _ (rooting : Rooting) (n : ℕ) (genes : List ℕ) (count : ℕ) (allowed scores splits : List ℕ) {r : Found} {scoresAfter splitsAfter : List ℕ} where
   -- a refusal: no tree, and both tables as they were lent
   finds-refused : {number place : ℕ} → verdict (searchTests rooting n genes count allowed scores splits) ≡ said number place → (number ≡ 0 → ⊥)
@@ -119,18 +127,10 @@ module _ (rooting : Rooting) (n : ℕ) (genes : List ℕ) (count : ℕ) (allowed
       → Finds rooting n genes count allowed scores splits r scoresAfter splitsAfter
   finds-refused {number} {place} e f p q s =
       record {
-        reply = p ∙ rw e (told number f (foundBy rooting (bestFor rooting n (recordsIn count genes) allowed (whole n)) (recordsIn count genes)));
-        scoreTable = q ∙ rw e (kept number f (λ a. scoreEntry (weight rooting (recordsIn count genes)) (bestFor rooting n (recordsIn count genes) allowed a)) scores);
-        splitTable = s ∙ rw e (kept number f (λ a. splitEntry (bestFor rooting n (recordsIn count genes) allowed a)) splits);
+        reply = p ∙ rw e (refused-told number place f (foundBy rooting (bestFor rooting n (recordsIn count genes) allowed (whole n)) (recordsIn count genes)));
+        scoreTable = q ∙ rw e (refused-kept number n f _ scores);
+        splitTable = s ∙ rw e (refused-kept number n f _ splits);
       }
-    where
-      told : (k : ℕ) → (k ≡ 0 → ⊥) → (found : Found) → without k place ≡ foundOr k place found
-      told zero f found = absurd (f refl)
-      told (suc k) f found = refl
-
-      kept : (k : ℕ) → (k ≡ 0 → ⊥) → (entry : ℕ → ℕ) (lent : List ℕ) → lent ≡ filledBy k n entry lent
-      kept zero f entry lent = absurd (f refl)
-      kept (suc k) f entry lent = refl
 
   pub finds-shape :
       {number : ℕ} → verdict (shapeTests n genes count) ≡ said number 0 → (number ≡ 0 → ⊥)

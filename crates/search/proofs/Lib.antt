@@ -1,10 +1,13 @@
--- The mathematics of the search: its trees and their records, and what the promise gives; then what the code keeps while it runs.
+-- The mathematics of the search: its trees and their records, and what the promises give; then what the code keeps while it runs.
 pub mod DrawnBinary
 pub mod RecordsOfTrees
 pub mod BestTrees
 pub mod Accepted
 pub mod Demand
+pub mod HowMany
 pub mod Lots
 pub mod Unread
 pub mod Dropped
 pub mod Finding
+pub mod Tying
+pub mod Ties

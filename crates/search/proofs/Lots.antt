@@ -15,7 +15,8 @@ use Rattle.splits.specs.BinaryTrees.{each}
 use Rattle.solver.specs.declared.Found.{Found}
 use Rattle.search.specs.Promise.{Finds}
 use Rattle.search.specs.Candidates.{Candidate, SameAllowed}
-use Rattle.search.specs.LeastAmong.{LeastAmong, LeastNumber}
+use Rattle.search.specs.LeastAmong.{LeastAmong, LeastNumber, NumberOf}
+use Rattle.search.proofs.HowMany.{number-same, number-le}
 use Rattle.search.proofs.Demand.{answer}
 use Rattle.search.proofs.Unread.{same-allowed-in}
 use Rattle.weights.specs.declared.Rooting.{Rooting}
@@ -106,6 +107,17 @@ module _ {A Lot : Type 0} {Competes : Lot → A → Type 0} {number : Lot → A 
   -- and then those least for the whole are exactly those least for every lot
   pub least-shared-exactly : least whole ≡ total (map least lots) → (c : A) → LeastAmong (Competes whole) (number whole) c ↔ EachLeast c
   least-shared-exactly e c = (least-is-each-least e c, each-least-is-least c)
+
+  -- ---- how many are least, where the whole reaches the sum
+
+  module _ (reached : least whole ≡ total (map least lots)) {m : ℕ} (counted : NumberOf (LeastAmong (Competes whole) (number whole)) m) where
+    -- as many are least for every lot
+    pub shared-number : NumberOf (λ c. (l : Lot) → List·Memᴰ l lots → LeastAmong (Competes l) (number l) c) m
+    shared-number = number-same counted (least-is-each-least reached) each-least-is-least
+
+    -- "it is at most either lot's own number" (#111)
+    pub shared-le : (l : Lot) → List·Memᴰ l lots → {k : ℕ} → NumberOf (LeastAmong (Competes l) (number l)) k → m ≤ k
+    shared-le l p own = number-le counted own (λ c q. least-is-each-least reached c q l p)
 
 -- ---- the scores of gene trees
 

@@ -1,3 +1,4 @@
 pub mod Promise
+pub mod TiesPromise
 pub mod Candidates
 pub mod LeastAmong

@@ -1,11 +1,14 @@
-// The search: its checks in 01's order, then the best tree over the allowed clusters.
+// The search: its checks in 01's order, then the best tree over the allowed clusters; and the search with its ties.
 mod allowing;
+mod tied;
 
 use lineages::checks::judge_genes;
 use lineages::checks::shape;
 pub use solver::Found;
 use solver::refused;
 use solver::solve;
+pub use tied::Tied;
+pub use tied::search_ties;
 use weights::Rooting;
 ghost use Rattle.trees.specs.Decides.{Decides};
 ghost use Rattle.solver.specs.Work.{LongEnough};

@@ -97,7 +97,7 @@ module _ {A : Type 0} (R : A → A → Type 0) where
       go y (inl m) = p .0 y m
       go y (inr m) = h x y (here refl) m
 
-  ordered-one : (x : A) → Ordered R (x ∷ [])
+  pub ordered-one : (x : A) → Ordered R (x ∷ [])
   unfolding Ordered
   ordered-one x = (λ y m. absurd (List·Memᴰ·not-nil m), tt)
 
@@ -113,7 +113,7 @@ module _ {A B : Type 0} (R : A → A → Type 0) (S : B → B → Type 0) where
   ordered-map f (x ∷ l) h p =
       (λ y m. let k = among-map f l m in subst (S (f x)) (sym (k .2)) (h x (k .0) (p .0 (k .0) (k .1))), ordered-map f l h (p .1))
 
-  ordered-each : (f : A → List B) (l : List A) → Ordered R l → ((x : A) → List·Memᴰ x l → Ordered S (f x))
+  pub ordered-each : (f : A → List B) (l : List A) → Ordered R l → ((x : A) → List·Memᴰ x l → Ordered S (f x))
       → ((x y : A) → List·Memᴰ x l → List·Memᴰ y l → R x y → (s t : B) → List·Memᴰ s (f x) → List·Memᴰ t (f y) → S s t) → Ordered S (each f l)
   unfolding Ordered each
   ordered-each f [] p q h = tt

@@ -253,10 +253,19 @@ all-at-most s m (x ∷ l) t e = go (pickAll s (λ u. some u) l) refl e (λ u. al
     go none p e ih = rw (pickAll-empty s l p) (alone (leb m (s x)) ∙ ap (λ v. leb m (s v)) (some-same e))
     go (some u) p e ih = rw (ih u p) (by (leb (s x) (s u)) u refl e)
 
-those-same : (f g : Binary → Bool) (l : List Binary) → ((t : Binary) → f t ≡ g t) → those f l ≡ those g l
+-- tests that agree on a list keep the same trees of it
+pub those-same : (f g : Binary → Bool) (l : List Binary) → ((t : Binary) → List·Memᴰ t l → f t ≡ g t) → those f l ≡ those g l
 unfolding those
 those-same f g [] h = refl
-those-same f g (t ∷ l) h = rw (h t, those-same f g l h)
+those-same f g (t ∷ l) h = rw (h t (here refl), those-same f g l (λ u m. h u (there m)))
+
+-- the least trees of a list are those that score no more than the chosen one
+pub least-those : (w : ℕ → ℕ) (l : List Binary) (t : Binary) → pickAll (scoreOf w) (λ u. some u) l ≡ some t
+    → leastTrees w l ≡ those (λ u. leb (scoreOf w u) (scoreOf w t)) l
+unfolding leastTrees
+least-those w l t p =
+    those-same (λ x. all (λ u. leb (scoreOf w x) (scoreOf w u)) l) (λ x. leb (scoreOf w x) (scoreOf w t)) l
+    (λ x m. all-at-most (scoreOf w) (scoreOf w x) l t p)
 
 -- the first tree that scores no more than the chosen one is the chosen one
 first-at-most : (s : Binary → ℕ) (l : List Binary) (t : Binary) → pickAll s (λ u. some u) l ≡ some t
@@ -284,10 +293,6 @@ pub first-least : (w : ℕ → ℕ) (l : List Binary) → first (leastTrees w l)
 unfolding leastTrees those
 first-least w l = go (pickAll (scoreOf w) (λ t. some t) l) refl
   where
-    go : (o : Option Binary) → pickAll (scoreOf w) (λ t. some t) l ≡ o
-        → first (those (λ t. all (λ u. leb (scoreOf w t) (scoreOf w u)) l) l) ≡ o
+    go : (o : Option Binary) → pickAll (scoreOf w) (λ t. some t) l ≡ o → first (leastTrees w l) ≡ o
     go none p = rw (pickAll-empty (scoreOf w) l p)
-    go (some t) p =
-        rw (those-same (λ x. all (λ u. leb (scoreOf w x) (scoreOf w u)) l) (λ x. leb (scoreOf w x) (scoreOf w t)) l
-        (λ x. all-at-most (scoreOf w) (scoreOf w x) l t p))
-        (first-at-most (scoreOf w) l t p)
+    go (some t) p = ap first (least-those w l t p) ∙ first-at-most (scoreOf w) l t p

@@ -5,5 +5,11 @@ pub mod Membership
 pub mod Recurrence
 pub mod FallingParts
 pub mod Enumeration
+pub mod OddProducts
 pub mod TreeCounts
+pub mod OverAllowed
+pub mod LeastTrees
+pub mod Ties
+pub mod TieLaws
 pub mod SplitChoice
+pub mod TieWalk

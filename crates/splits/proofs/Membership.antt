@@ -87,12 +87,13 @@ lows-zero : lows 0 ≡ []
 unfolding lows keep upTo
 lows-zero = refl
 
-pub treesTo-zero : (k : ℕ) → treesTo k 0 ≡ []
+treesTo-zero : (k : ℕ) → treesTo k 0 ≡ []
 unfolding treesTo each
 treesTo-zero zero = refl
 treesTo-zero (suc k) = rw (size-zero, lows-zero)
 
-empty-of-size : (a : ℕ) → size a ≤ 0 → a ≡ 0
+-- a set of no species is empty
+pub empty-of-size : (a : ℕ) → size a ≤ 0 → a ≡ 0
 empty-of-size a l = go (ℕ-discrete a 0)
   where
     go : Dec (a ≡ 0) → a ≡ 0
@@ -128,14 +129,14 @@ pub treesOn-zero : treesOn 0 ≡ []
 unfolding treesOn
 treesOn-zero = treesTo-zero (size 0)
 
-pub treesTo-single : (k a : ℕ) → size a ≡ 1 → treesTo (suc k) a ≡ tip a ∷ []
+treesTo-single : (k a : ℕ) → size a ≡ 1 → treesTo (suc k) a ≡ tip a ∷ []
 unfolding treesTo
 treesTo-single k a e = rw (eq-eqb (size a) 1 e)
 
 pub treesOn-single : (a : ℕ) → size a ≡ 1 → treesOn a ≡ tip a ∷ []
 treesOn-single a e = sym (treesTo-enough (suc zero) a (omega arith)) ∙ treesTo-single zero a e
 
-pub treesTo-splits : (k a : ℕ) → (size a ≡ 1 → ⊥) → treesTo (suc k) a ≡ each (λ low. forks a (treesTo k low) (treesTo k (a - low))) (lows a)
+treesTo-splits : (k a : ℕ) → (size a ≡ 1 → ⊥) → treesTo (suc k) a ≡ each (λ low. forks a (treesTo k low) (treesTo k (a - low))) (lows a)
 unfolding treesTo
 treesTo-splits k a f = rw (ne-eqb (size a) 1 f)
 

@@ -70,9 +70,15 @@ joined-none : (a : ℕ) (x : Option Binary) → joined a x none ≡ none
 joined-none a none = refl
 joined-none a (some t) = refl
 
+-- a fork at an allowed cluster is over allowed clusters where both its children are
+pub every-fork : (ok : ℕ → Bool) (a : ℕ) (t u : Binary) → ok a ≡ true
+    → every ok (clustersIn (fork a t u)) ≡ (every ok (clustersIn t) && every ok (clustersIn u))
+unfolding clustersIn every
+every-fork ok a t u e = rw e (every-append ok (clustersIn t) (clustersIn u))
+
 gated-fork : (ok : ℕ → Bool) (a : ℕ) (t u : Binary) → ok a ≡ true → gated ok (fork a t u) ≡ joined a (gated ok t) (gated ok u)
-unfolding gated clustersIn every
-gated-fork ok a t u e = rw (e, every-append ok (clustersIn t) (clustersIn u)) (go (every ok (clustersIn t)) (every ok (clustersIn u)))
+unfolding gated
+gated-fork ok a t u e = rw (every-fork ok a t u e) (go (every ok (clustersIn t)) (every ok (clustersIn u)))
   where
     go : (b c : Bool) → gateBy (b && c) (fork a t u) ≡ joined a (gateBy b t) (gateBy c u)
     go true true = refl

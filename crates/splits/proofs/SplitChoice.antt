@@ -6,19 +6,15 @@ use native.Mathlib.Decide.{decLe}
 use native.Mathlib.Omega.{arith}
 use lib.Bits.{bitAnd}
 use lib.ListN.{getD}
-use mathlib.Core.List.{List}
-use Rattle.clusters.specs.Sets.{Within, single, size, lowest}
-use Rattle.clusters.proofs.Sets.{within-refl, within-le}
-use Rattle.clusters.proofs.LowestSpecies.{lowest-below, lowest-alone-within}
-use Rattle.clusters.proofs.Sizes.{some-of-size, size-le}
-use Rattle.clusters.proofs.Parts.{part-and, part-falls}
-use Rattle.splits.specs.WellFormed.{LowPart}
+use mathlib.Core.List.{List, foldr}
+use Rattle.clusters.specs.Sets.{single, size, lowest}
+use Rattle.clusters.proofs.Sizes.{size-le}
 use Rattle.splits.specs.Least.{noTree}
-use Rattle.splits.specs.Work.{Scored, Small, betterSplit, noSplit, consider, leastSplit, ScoresBelow, BestSplit}
+use Rattle.splits.specs.Work.{Scored, Small, betterSplit, noSplit, consider, leastSplit, BestSplit}
 use Rattle.splits.specs.declared.Split.{Split}
 use Rattle.splits.proofs.LowParts.{low-some}
 use Rattle.splits.proofs.Recurrence.{better-no-low, better-no-rest, better-less, better-more, leastSplit-same, entry, best-none, entry-split, split-chosen}
-use Rattle.splits.proofs.FallingParts.{leastSplitFrom, leastSplitFrom-all, leastSplitFrom-lowest, leastSplitFrom-step, part-is-low}
+use Rattle.splits.proofs.FallingParts.{Walk, met, walk-start, walk-next, met-end}
 
 -- an entry that is not the mark can be added to
 pub score-below : {x : ℕ} → (x ≡ noTree) ⊎ (x < 8388608) → (x ≡ noTree → ⊥) → x < 8388608
@@ -38,76 +34,45 @@ small-better x y a low {s} l (inr m) (inr k) h = go (decLe (x + y) (s .score))
 
 -- ---- while the low parts are visited, falling
 
--- the parts of the rest from s on were visited
+-- the split that is held is the choice among the low parts that were met
 pub record Visited (scores : List ℕ) (a low rest : ℕ) (held : Split) (s : ℕ) : Type 0 where
-  pub lowest-alone : low ≡ single (lowest a)
-  pub others : rest ≡ a - single (lowest a)
-  pub part : Within s rest
-  pub same : held ≡ leastSplitFrom (λ b. getD scores b 0) a (single (lowest a) + s)
+  pub walk : Walk a low rest s
+  pub same : held ≡ foldr (consider (λ b. getD scores b 0) a) noSplit (met a s)
   pub small : Small a held
 
--- every cluster of two or more species holds its lowest one
-pub lowest-lt : {a : ℕ} → a < 2 ^ 32 → 2 ≤ size a → lowest a < 32
-lowest-lt {a} below two = lowest-below 32 (some-of-size (omega arith)) below below
-
-pub lowest-le : {a : ℕ} → a < 2 ^ 32 → 2 ≤ size a → single (lowest a) ≤ a
-lowest-le {a} below two = within-le (lowest-alone-within (some-of-size (omega arith)) below)
-
+-- at first there is no split
 pub visited-start : {a low rest : ℕ} (scores : List ℕ) → a < 2 ^ 32 → 2 ≤ size a → low ≡ single (lowest a) → rest ≡ a - low
     → Visited scores a low rest noSplit rest
 visited-start {a} {low} {rest} scores below two p q =
-    let all : single (lowest a) + rest ≡ a = omega (arith, lowest-le below two) in
-    let e : ℕ → ℕ = λ b. getD scores b 0 in
+    let start = walk-start below two p q in
     record {
-      lowest-alone = p;
-      others = omega arith;
-      part = within-refl rest;
-      same = sym (ap (leastSplitFrom e a) all ∙ leastSplitFrom-all e a);
+      walk = start .0;
+      same = rw (start .1);
       small = record { score = inl refl; low = omega arith };
     }
 
--- the next part, with the lowest species, is a low part
-pub visited-low : {scores : List ℕ} {a low rest s : ℕ} {held : Split} → Visited scores a low rest held s → a < 2 ^ 32 → 2 ≤ size a → 1 ≤ s
-    → LowPart a (low + bitAnd (s - 1) rest)
-visited-low {a = a} {low} {rest} {s} v below two l = rw (v .lowest-alone, v .others) (part-is-low a (some-of-size (omega arith)) below inside less)
-  where
-    inside : Within (bitAnd (s - 1) (a - single (lowest a))) (a - single (lowest a))
-    inside = part-and (s - 1) (a - single (lowest a))
-
-    less : bitAnd (s - 1) (a - single (lowest a)) < a - single (lowest a)
-    less = let q = v .others in omega (arith, part-falls {s = s} (a - single (lowest a)) l, within-le (v .part))
-
+-- one low part more
 pub visited-next : {scores : List ℕ} {a low rest s s′ : ℕ} {held held′ : Split} → Visited scores a low rest held s → a < 2 ^ 32 → 2 ≤ size a → Scored a scores
     → 1 ≤ s → s′ ≡ bitAnd (s - 1) rest
     → held′ ≡ betterSplit (getD scores (low + s′) 0) (getD scores (a - (low + s′)) 0) (low + s′) held
     → Visited scores a low rest held′ s′
 visited-next {scores} {a} {low} {rest} {s} {s′} {held} {held′} v below two scored l p q =
+    let next = walk-next below two (v .walk) l p in
+    let less = next .1 .less in
     record {
-      lowest-alone = v .lowest-alone;
-      others = v .others;
-      part = rw p (part-and (s - 1) rest);
-      same = rw (q, v .lowest-alone, stepped, v .same);
+      walk = next .0;
+      same = rw (q, next .2, v .same);
       small =
           rw q
-          (small-better (e (low + s′)) (e (a - (low + s′))) a (low + s′) (omega (arith, less)) (scored (low + s′) less)
-          (scored (a - (low + s′)) (omega (arith, less, low-some part)))
+          (small-better (getD scores (low + s′) 0) (getD scores (a - (low + s′)) 0) a (low + s′) (omega arith) (scored (low + s′) less)
+          (scored (a - (low + s′)) (omega (arith, low-some (next .1))))
           (v .small));
     }
-  where
-    e : ℕ → ℕ
-    e b = getD scores b 0
 
-    stepped : leastSplitFrom e a (single (lowest a) + s′) ≡ consider e a (single (lowest a) + s′) (leastSplitFrom e a (single (lowest a) + s))
-    stepped = rw (p, v .others) (leastSplitFrom-step a (some-of-size (omega arith)) below e s (rw (v .others) at (v .part)) l)
-
-    part : LowPart a (low + s′)
-    part = rw p (visited-low v below two l)
-
-    less : low + s′ < a
-    less = part .less
-
+-- at last it is the best split
 pub visited-end : {scores : List ℕ} {a low rest s : ℕ} {held : Split} → Visited scores a low rest held s → a < 2 ^ 32 → 2 ≤ size a → s ≤ 0
     → BestSplit scores a held
+unfolding leastSplit
 visited-end {scores} {a} {low} {rest} {s} {held} v below two l =
     record {
       least = all;
@@ -127,6 +92,4 @@ visited-end {scores} {a} {low} {rest} {s} {held} v below two l =
     e b = getD scores b 0
 
     all : held ≡ leastSplit e a
-    all =
-        let none : single (lowest a) + s ≡ single (lowest a) = omega arith in
-        v .same ∙ ap (leastSplitFrom e a) none ∙ leastSplitFrom-lowest a (some-of-size (omega arith)) below e
+    all = v .same ∙ ap (foldr (consider e a) noSplit) (met-end below two s l)

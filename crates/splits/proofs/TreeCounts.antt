@@ -1,28 +1,28 @@
--- How many binary trees there are on a cluster depends on its size alone.
+-- How many binary trees there are on a cluster depends on its size alone: it is the product of odd numbers that 02 names.
 use Prim.Native.Nat.{ℕ, zero, suc, _+_, _-_, _*_, _/_, _%_, _^_, _≤_, _<_}
 use mathlib.Core.Path.{_≡_, refl, sym, ap, ap₂, _∙_, subst}
-use mathlib.Core.Logic.{_⊎_, inl, inr}
 use mathlib.Core.Bool.{Bool, true, false}
 use mathlib.Core.List.{List, [], _∷_, map}
-use native.Mathlib.Nat.{pow-suc, eq-zero-or-pos, zero-mul, mul-zero, suc-mul}
+use native.Mathlib.Nat.{pow-suc, zero-mul, mul-zero, suc-mul}
 use native.Mathlib.Decide.{ℕ-discrete, decLt}
 use native.Mathlib.Omega.{arith}
 use lib.Arith.{lt-one}
-use lib.Dec.{eqb}
 use lib.ListN.{length, length-append, length-map}
 use lib.Count.{ones, ones-step}
-use borrow.Author.Tests.{eq-eqb, ne-eqb}
 use Rattle.clusters.specs.Sets.{Has, Within, within, size, single, lowest}
 use Rattle.clusters.proofs.Members.{has-odd, odd-has, has-half, half-has, half-below, has-of-within, within-of-has, has-dec, single-has, has-single}
 use Rattle.clusters.proofs.Sets.{within-true, true-within, false-within, within-refl, within-le, has-minus, minus-has, half-within, within-dec, within-trans, minus-within, minus-below}
-use Rattle.clusters.proofs.Sizes.{size-zero, size-minus, size-single}
+use Rattle.clusters.proofs.Sizes.{size-zero, size-minus, size-single, some-of-size}
 use Rattle.clusters.proofs.LowestSpecies.{lowest-has, lowest-alone-within}
 use Rattle.trees.specs.Lists.{keep, keepIf, total, upTo}
-use Rattle.splits.specs.BinaryTrees.{Binary, isLow, lows, each, forks, treesTo, treesOn}
+use Rattle.splits.specs.BinaryTrees.{Binary, isLow, lows, each, forks, treesOn}
 use Rattle.splits.specs.BinaryTrees.Binary.{fork}
 use Rattle.splits.specs.WellFormed.{LowPart}
-use Rattle.splits.proofs.LowParts.{among-lows, isLow-true, true-isLow, low-and-rest}
-use Rattle.splits.proofs.Membership.{treesTo-zero, treesTo-single, treesTo-splits}
+use Rattle.splits.specs.Ties.{treeCount}
+use Rattle.splits.specs.Work.{only}
+use Rattle.splits.proofs.LowParts.{among-lows, isLow-true, true-isLow, low-and-rest, low-smaller, rest-smaller}
+use Rattle.splits.proofs.Membership.{treesOn-zero, treesOn-single, treesOn-splits, empty-of-size}
+use Rattle.splits.proofs.OddProducts.{parted, parted-same, treeCount-parted}
 use Rattle.trees.proofs.Totals.{total-append, total-same}
 
 -- ---- sums over the numbers below a bound
@@ -59,10 +59,6 @@ sumBelow-twice f (suc n) = ap (sumBelow f) {x = 2 * suc n} {y = suc (suc (2 * n)
 
 -- ---- lengths as sums
 
-abbrev only : Bool → ℕ → ℕ
-only true n = n
-only false n = 0
-
 total-keep : (test : ℕ → Bool) (g : ℕ → ℕ) (l : List ℕ) → total (map g (keep test l)) ≡ total (map (λ x. only (test x) (g x)) l)
 unfolding total keep
 total-keep test g [] = refl
@@ -82,7 +78,8 @@ total-lows : (g : ℕ → ℕ) (a : ℕ) → total (map g (lows a)) ≡ sumBelow
 unfolding lows
 total-lows g a = total-keep (isLow a) g (upTo a) ∙ total-upTo (λ x. only (isLow a x) (g x)) a
 
-length-each : {B : Type 0} (f : ℕ → List B) (l : List ℕ) → length (each f l) ≡ total (map (λ x. length (f x)) l)
+-- the lists one after the other, counted
+pub length-each : {A B : Type 0} (f : A → List B) (l : List A) → length (each f l) ≡ total (map (λ x. length (f x)) l)
 unfolding each total
 length-each f [] = refl
 length-each f (x ∷ l) = omega (arith, length-append (f x) (each f l), length-each f l)
@@ -95,7 +92,8 @@ length-forks a (t ∷ ts) us =
 
 -- ---- the parts of a set, halved
 
-same-test : (b c : Bool) → (b ≡ true → c ≡ true) → (c ≡ true → b ≡ true) → b ≡ c
+-- two tests of which each passes where the other does
+pub same-test : (b c : Bool) → (b ≡ true → c ≡ true) → (c ≡ true → b ≡ true) → b ≡ c
 same-test true true f g = refl
 same-test true false f g = sym (f refl)
 same-test false true f g = g refl
@@ -147,9 +145,8 @@ size-odd x = omega (arith, ones-step (suc (2 * x)), ap ones (suc-twice-half x))
 -- ---- a sum over all parts of a set depends on its size alone
 
 -- over all choices of some of n things, the sum of g of how many are chosen
-choices : ℕ → (ℕ → ℕ) → ℕ
-choices zero g = g 0
-choices (suc n) g = choices n g + choices n (λ s. g (suc s))
+abbrev choices : ℕ → (ℕ → ℕ) → ℕ
+choices n g = parted n (λ i j. g i)
 
 half-size-odd : (m : ℕ) → m % 2 ≡ 1 → size m ≡ suc (size (m / 2))
 unfolding size
@@ -160,7 +157,7 @@ unfolding size
 half-size-even m e = omega (arith, ones-step m)
 
 parts-sum : (k m : ℕ) → m < 2 ^ k → (g : ℕ → ℕ) → sumBelow (λ x. only (within x m) (g (size x))) (2 ^ k) ≡ choices (size m) g
-unfolding sumBelow choices
+unfolding sumBelow parted
 parts-sum zero m l g = rw (lt-one l, true-within 0 0 (within-refl 0), size-zero) (omega arith)
 parts-sum (suc k) m l g =
     ap (sumBelow part) {x = 2 ^ suc k} {y = 2 * 2 ^ k} (omega (arith, pow-suc 2 k)) ∙ sumBelow-twice part (2 ^ k)
@@ -230,7 +227,7 @@ module _ (a : ℕ) (l : 1 ≤ a) (below : a < 2 ^ 32) where
 
   lows-and-all : (k : ℕ) → a < 2 ^ k → (g : ℕ → ℕ)
       → sumBelow (λ x. only (isLow a x) (g (size x))) (2 ^ k) ≡ choices (size a - 1) (λ s. g (suc s))
-  unfolding choices
+  unfolding parted
   lows-and-all k h g =
       let rest : ℕ = a - single (lowest a) in
       let smaller : size a ≡ suc (size rest) = omega (arith, size-minus a (single (lowest a)) lowest-alone-in, size-single (lowest a)) in
@@ -264,76 +261,91 @@ module _ (a : ℕ) (l : 1 ≤ a) (below : a < 2 ^ 32) where
 
 -- ---- how many trees there are
 
-abbrev countBy : Bool → ℕ → ℕ
-countBy true n = 1
-countBy false n = n
+treeCount-zero : treeCount 0 ≡ 0
+unfolding treeCount
+treeCount-zero = refl
 
-countTo : ℕ → ℕ → ℕ
-unfolding choices
-countTo zero s = 0
-countTo (suc k) s = countBy (eqb s 1) (choices (s - 1) (λ j. countTo k (suc j) * countTo k (s - suc j)))
+treeCount-one : treeCount 1 ≡ 1
+unfolding treeCount
+treeCount-one = refl
 
-countTo-zero : (k : ℕ) → countTo k 0 ≡ 0
-unfolding countTo choices
-countTo-zero zero = refl
-countTo-zero (suc k) = rw (countTo-zero k) (mul-zero (countTo k 1))
+treeCount-next : (n : ℕ) → treeCount n ≤ treeCount (suc n)
+unfolding treeCount
+treeCount-next zero = omega arith
+treeCount-next (suc n) = omega arith
 
-countTo-single : (k s : ℕ) → s ≡ 1 → countTo (suc k) s ≡ 1
-unfolding countTo
-countTo-single k s e = rw (eq-eqb s 1 e)
-
-countTo-splits : (k s : ℕ) → (s ≡ 1 → ⊥) → countTo (suc k) s ≡ choices (s - 1) (λ j. countTo k (suc j) * countTo k (s - suc j))
-unfolding countTo
-countTo-splits k s f = rw (ne-eqb s 1 f)
-
-length-splits : (k a : ℕ) → 1 ≤ a → a < 2 ^ 32 → (size a ≡ 1 → ⊥) → ((b : ℕ) → b < 2 ^ 32 → length (treesTo k b) ≡ countTo k (size b))
-    → length (treesTo (suc k) a) ≡ countTo (suc k) (size a)
-length-splits k a l h f ih =
-    ap length (treesTo-splits k a f) ∙ length-each (λ low. forks a (treesTo k low) (treesTo k (a - low))) (lows a)
-    ∙ total-same (λ low. length (forks a (treesTo k low) (treesTo k (a - low)))) (λ low. countTo k (size low) * countTo k (size a - size low)) (lows a)
-    (λ low m. over low (among-lows a m))
-    ∙ total-of-lows a l h (λ s. countTo k s * countTo k (size a - s)) nothing-left ∙ sym (countTo-splits k (size a) f)
+-- the sum over the low parts of a cluster, of the products of the counts for both parts
+pub total-of-counts : (a : ℕ) → a < 2 ^ 32 → 2 ≤ size a → total (map (λ low. treeCount (size low) * treeCount (size (a - low))) (lows a)) ≡ treeCount (size a)
+total-of-counts a h two =
+    total-same (λ low. treeCount (size low) * treeCount (size (a - low))) (λ low. treeCount (size low) * treeCount (size a - size low)) (lows a)
+    (λ low m. ap (λ n. treeCount (size low) * treeCount n) (rest-size (among-lows a m)))
+    ∙ total-of-lows a (some-of-size (omega arith)) h (λ s. treeCount s * treeCount (size a - s)) nothing-left ∙ by-size (size a) two
   where
-    over : (low : ℕ) → LowPart a low → length (forks a (treesTo k low) (treesTo k (a - low))) ≡ countTo k (size low) * countTo k (size a - size low)
-    over low p =
-        let less = p .less in
-        let rest : size (a - low) ≡ size a - size low = omega (arith, low-and-rest p) in
-        length-forks a (treesTo k low) (treesTo k (a - low))
-        ∙ ap₂ _*_ (ih low (omega arith)) (ih (a - low) (omega arith) ∙ ap (countTo k) rest)
+    rest-size : {low : ℕ} → LowPart a low → size (a - low) ≡ size a - size low
+    rest-size p = omega (arith, low-and-rest p)
 
-    nothing-left : countTo k (size a) * countTo k (size a - size a) ≡ 0
+    nothing-left : treeCount (size a) * treeCount (size a - size a) ≡ 0
     nothing-left =
-        ap (λ n. countTo k (size a) * countTo k n) {x = size a - size a} {y = 0} (omega arith)
-        ∙ ap (λ n. countTo k (size a) * n) (countTo-zero k)
-        ∙ mul-zero (countTo k (size a))
+        ap (λ n. treeCount (size a) * treeCount n) {x = size a - size a} {y = 0} (omega arith)
+        ∙ ap (λ n. treeCount (size a) * n) treeCount-zero
+        ∙ mul-zero (treeCount (size a))
 
-length-treesTo : (k a : ℕ) → a < 2 ^ 32 → length (treesTo k a) ≡ countTo k (size a)
-unfolding treesTo countTo
-length-treesTo zero a h = refl
-length-treesTo (suc k) a h = go (eq-zero-or-pos a) (ℕ-discrete (size a) 1) (λ b l. length-treesTo k b l)
+    by-size : (s : ℕ) → 2 ≤ s → choices (s - 1) (λ i. treeCount (suc i) * treeCount (s - suc i)) ≡ treeCount s
+    by-size zero l = absurd (omega arith)
+    by-size (suc zero) l = absurd (omega arith)
+    by-size (suc (suc n)) l =
+        ap (λ k. choices k (λ i. treeCount (suc i) * treeCount (suc (suc n) - suc i))) {x = suc (suc n) - 1} {y = suc n} (omega arith)
+        ∙ parted-same (suc n) (λ i j. treeCount (suc i) * treeCount (suc (suc n) - suc i)) (λ i j. treeCount (suc i) * treeCount j)
+        (λ i j e. ap (λ k. treeCount (suc i) * treeCount k) {x = suc (suc n) - suc i} {y = j} (omega arith))
+        ∙ treeCount-parted n
+
+counted-to : (k a : ℕ) → size a < k → a < 2 ^ 32 → length (treesOn a) ≡ treeCount (size a)
+counted-to zero a l h = absurd (omega arith)
+counted-to (suc k) a l h = go (ℕ-discrete (size a) 0) (ℕ-discrete (size a) 1) (λ b m. counted-to k b (omega arith))
   where
-    go :
-        (a ≡ 0) ⊎ (0 < a) → Dec (size a ≡ 1) → ((b : ℕ) → b < 2 ^ 32 → length (treesTo k b) ≡ countTo k (size b))
-        → length (treesTo (suc k) a) ≡ countTo (suc k) (size a)
-    go (inl e) d ih =
-        ap (λ b. length (treesTo (suc k) b)) e ∙ ap length (treesTo-zero (suc k))
-        ∙ sym (ap (λ b. countTo (suc k) (size b)) e ∙ ap (countTo (suc k)) size-zero ∙ countTo-zero (suc k))
-    go (inr l) (yes e) ih = ap length (treesTo-single k a e) ∙ sym (countTo-single k (size a) e)
-    go (inr l) (no f) ih = length-splits k a l h f ih
+    over : (low : ℕ) → LowPart a low → ((b : ℕ) → size b < size a → b < 2 ^ 32 → length (treesOn b) ≡ treeCount (size b))
+        → length (forks a (treesOn low) (treesOn (a - low))) ≡ treeCount (size low) * treeCount (size (a - low))
+    over low p ih =
+        let less = p .less in
+        length-forks a (treesOn low) (treesOn (a - low))
+        ∙ ap₂ _*_ (ih low (low-smaller p) (omega arith)) (ih (a - low) (rest-smaller p) (omega arith))
 
--- how many binary trees there are on s species
-pub treeCount : ℕ → ℕ
-treeCount s = countTo s s
+    go : Dec (size a ≡ 0) → Dec (size a ≡ 1) → ((b : ℕ) → size b < size a → b < 2 ^ 32 → length (treesOn b) ≡ treeCount (size b))
+        → length (treesOn a) ≡ treeCount (size a)
+    go (yes e) d ih = ap (λ b. length (treesOn b)) (empty-of-size a (omega arith)) ∙ ap length treesOn-zero ∙ sym (ap treeCount e ∙ treeCount-zero)
+    go (no f) (yes e) ih = ap length (treesOn-single a e) ∙ sym (ap treeCount e ∙ treeCount-one)
+    go (no f) (no g) ih =
+        ap length (treesOn-splits a g) ∙ length-each (λ low. forks a (treesOn low) (treesOn (a - low))) (lows a)
+        ∙ total-same (λ low. length (forks a (treesOn low) (treesOn (a - low)))) (λ low. treeCount (size low) * treeCount (size (a - low))) (lows a)
+        (λ low m. over low (among-lows a m) ih)
+        ∙ total-of-counts a h (omega (arith, f, g))
 
-pub length-treesOn : (a : ℕ) → a < 2 ^ 32 → length (treesOn a) ≡ treeCount (size a)
-unfolding treesOn treeCount
-length-treesOn a h = length-treesTo (size a) a h
+-- "The number of binary trees on n species is 1 for n = 1 and 2 and then the product of the odd numbers up to 2n - 3" (#108)
+pub trees-counted : (a : ℕ) → a < 2 ^ 32 → length (treesOn a) ≡ treeCount (size a)
+trees-counted a h = counted-to (suc (size a)) a (omega arith) h
 
 -- clusters of one size have equally many trees
 pub same-count : (a b : ℕ) → a < 2 ^ 32 → b < 2 ^ 32 → size a ≡ size b → length (treesOn a) ≡ length (treesOn b)
-same-count a b h k e = length-treesOn a h ∙ ap treeCount e ∙ sym (length-treesOn b k)
+same-count a b h k e = trees-counted a h ∙ ap treeCount e ∙ sym (trees-counted b k)
 
 -- 1, 1, 3, 15, 105, 945 on 1 to 6 species
-treeCount-few : (treeCount 1 ≡ 1) × (treeCount 2 ≡ 1) × (treeCount 3 ≡ 3) × (treeCount 4 ≡ 15) × (treeCount 5 ≡ 105) × (treeCount 6 ≡ 945)
-unfolding treeCount countTo choices
+pub treeCount-few : (treeCount 1 ≡ 1) × (treeCount 2 ≡ 1) × (treeCount 3 ≡ 3) × (treeCount 4 ≡ 15) × (treeCount 5 ≡ 105) × (treeCount 6 ≡ 945)
+unfolding treeCount
 treeCount-few = (refl, refl, refl, refl, refl, refl)
+
+-- "ending in 6,190,283,353,629,375" (#108)
+pub treeCount-sixteen : treeCount 16 ≡ 6190283353629375
+unfolding treeCount
+treeCount-sixteen = refl
+
+-- more species have no fewer trees
+pub treeCount-mono : (m n : ℕ) → m ≤ n → treeCount m ≤ treeCount n
+treeCount-mono m zero l = rw (zero-only l) (omega arith)
+  where
+    zero-only : m ≤ 0 → m ≡ 0
+    zero-only l = omega arith
+treeCount-mono m (suc n) l = go (decLt m (suc n)) (λ k. treeCount-mono m n k)
+  where
+    go : Dec (m < suc n) → (m ≤ n → treeCount m ≤ treeCount n) → treeCount m ≤ treeCount (suc n)
+    go (yes k) ih = omega (arith, ih (omega arith), treeCount-next n)
+    go (no f) ih = let e : m ≡ suc n = omega arith in omega (arith, ap treeCount e)

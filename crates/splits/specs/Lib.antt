@@ -2,4 +2,5 @@ pub mod BinaryTrees
 pub mod Order
 pub mod WellFormed
 pub mod Least
+pub mod Ties
 pub mod Work

@@ -1,14 +1,18 @@
 -- What the functions that look for the best split ask of one another.
-use Prim.Native.Nat.{ℕ, _+_, _-_, _≤_, _<_}
+use Prim.Native.Nat.{ℕ, _+_, _-_, _*_, _≤_, _<_}
 use mathlib.Core.Path.{_≡_}
 use mathlib.Core.Logic.{_⊎_}
 use mathlib.Core.Bool.{Bool, true, false, _||_}
 use mathlib.Core.Option.{none}
-use mathlib.Core.List.{List, foldr}
+use mathlib.Core.List.{List, map, foldr}
 use lib.ListN.{getD}
 use lib.Dec.{eqb, leb}
+use Rattle.clusters.specs.Sets.{size}
+use Rattle.trees.specs.Lists.{total}
 use Rattle.splits.specs.BinaryTrees.{lows}
+use Rattle.splits.specs.WellFormed.{LowPart}
 use Rattle.splits.specs.Least.{best, noTree, scoreEntry, splitEntry}
+use Rattle.splits.specs.Ties.{treeCount}
 use Rattle.splits.specs.declared.Split.{Split}
 
 -- ---- weights and scores stay far below the no-tree mark
@@ -69,3 +73,30 @@ pub record BestSplit (scores : List ℕ) (a : ℕ) (s : Split) : Type 0 where
   pub least : s ≡ leastSplit (λ b. getD scores b 0) a
   pub small : Small a s
   pub of-best : (w : ℕ → ℕ) (ok : ℕ → Bool) → Light w → ok a ≡ true → ScoresBelow w ok a scores → SplitOfBest w ok a s
+
+-- ---- the ties of one cluster
+
+-- the number where the test holds, else 0
+abbrev pub only : Bool → ℕ → ℕ
+only true n = n
+only false n = 0
+
+-- what the split of a at a low part adds to the ties of a: each tree of the one part with each of the other, where their scores add up to the least sum;
+-- e gives the entries of the score table, ties those of the third
+abbrev pub tiedAt : (ℕ → ℕ) → (ℕ → ℕ) → ℕ → ℕ → ℕ → ℕ
+tiedAt e ties a least low = only (eqb (e low + e (a - low)) least) (ties low * ties (a - low))
+
+-- the ties over all low parts of a
+unfoldable pub tiesOver : (ℕ → ℕ) → (ℕ → ℕ) → ℕ → ℕ → ℕ
+tiesOver e ties a least = total (map (tiedAt e ties a least) (lows a))
+
+-- each entry of the third table below a is at most the number of all trees
+abbrev pub Counted : ℕ → List ℕ → Type 0
+Counted a ties = (b : ℕ) → b < a → getD ties b 0 ≤ treeCount (size b)
+
+-- a low part of a, and room for the ties of the split there beside those that were counted
+pub record Room (a low count : ℕ) (ties : List ℕ) : Type 0 where
+  pub part : LowPart a low
+  pub few : a < 65536
+  pub counted : Counted a ties
+  pub sum : count + getD ties low 0 * getD ties (a - low) 0 ≤ treeCount 16

@@ -1,4 +1,7 @@
-// The best split of a cluster into two parts, by the scores of its parts.
+// The best split of a cluster into two parts, by the scores of its parts; and how many trees are as good as the best.
+mod tied;
+
+pub use tied::tied_splits;
 ghost use mathlib.Core.Path.{_≡_};
 ghost use Prim.Native.Nat.{_+_, _-_, _<_, _≤_};
 ghost use lib.ListN.{length, getD};

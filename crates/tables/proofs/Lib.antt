@@ -3,3 +3,4 @@ pub mod Written
 pub mod Settling
 pub mod Reached
 pub mod Descent
+pub mod TieTable

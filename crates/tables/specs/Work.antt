@@ -1,5 +1,5 @@
 -- What the parts that fill and read the tables ask of one another.
-use Prim.Native.Nat.{ℕ, _-_, _^_, _≤_, _<_}
+use Prim.Native.Nat.{ℕ, suc, _-_, _^_, _≤_, _<_}
 use mathlib.Core.Path.{_≡_}
 use mathlib.Core.Bool.{Bool}
 use mathlib.Core.List.{List}
@@ -7,6 +7,7 @@ use lib.ListN.{length, getD, set}
 use Rattle.splits.specs.BinaryTrees.{Binary, root, clustersIn}
 use Rattle.splits.specs.BinaryTrees.Binary.{tip, fork}
 use Rattle.splits.specs.Least.{best, scoreEntry, splitEntry, filled}
+use Rattle.splits.specs.Ties.{tieEntry}
 use Rattle.splits.specs.Work.{Light, Scored, ScoresBelow}
 use Rattle.tables.specs.Allowed.{allowedIn}
 
@@ -47,6 +48,48 @@ Fills n allowed scores splits scoresAfter splitsAfter =
     (w : ℕ → ℕ) → Light w → Weights n w scores
     → (scoresAfter ≡ filled n (λ a. scoreEntry w (best w (allowedIn n allowed) a)) scores)
     × (splitsAfter ≡ filled n (λ a. splitEntry (best w (allowedIn n allowed) a)) splits)
+
+-- ---- the third table
+
+-- the entries below k of both tables are those of the best trees for these weights and this allowed set
+pub record Tabled (k : ℕ) (w : ℕ → ℕ) (ok : ℕ → Bool) (scores splits : List ℕ) : Type 0 where
+  pub light : Light w
+  pub score : (b : ℕ) → b < k → getD scores b 0 ≡ scoreEntry w (best w ok b)
+  pub split : (b : ℕ) → b < k → getD splits b 0 ≡ splitEntry (best w ok b)
+
+-- the entries below a of the third table are how many trees are as good as the best
+abbrev pub TiesBelow : (ℕ → ℕ) → (ℕ → Bool) → ℕ → List ℕ → Type 0
+TiesBelow w ok a ties = (b : ℕ) → b < a → getD ties b 0 ≡ tieEntry w ok b
+
+-- a cluster with an entry in both tables, which are filled for some weights and some allowed set, all smaller ones having their ties
+pub record TieNext (a : ℕ) (scores splits ties : List ℕ) : Type 0 where
+  pub few : a < 65536
+  pub score-entry : a < length scores
+  pub split-entry : a < length splits
+  pub tie-entries : a ≤ length ties
+  pub weights : ℕ → ℕ
+  pub allowed : ℕ → Bool
+  pub tabled : Tabled (suc a) weights allowed scores splits
+  pub below : TiesBelow weights allowed a ties
+
+-- 2^n entries are there, and both tables are filled for some weights and some allowed set
+pub record Tieable (n : ℕ) (scores splits ties : List ℕ) : Type 0 where
+  pub few : n ≤ 16
+  pub scores-long : 2 ^ n ≤ length scores
+  pub splits-long : 2 ^ n ≤ length splits
+  pub ties-long : 2 ^ n ≤ length ties
+  pub weights : ℕ → ℕ
+  pub allowed : ℕ → Bool
+  pub tabled : Tabled (2 ^ n) weights allowed scores splits
+
+-- the number of ties of a, whatever the weights and the allowed set that the tables are filled for
+abbrev pub Ties : ℕ → List ℕ → List ℕ → List ℕ → ℕ → Type 0
+Ties a scores splits ties r = (w : ℕ → ℕ) (ok : ℕ → Bool) → Tabled (suc a) w ok scores splits → TiesBelow w ok a ties → r ≡ tieEntry w ok a
+
+-- the third table is filled, whatever the weights and the allowed set that both tables are filled for
+abbrev pub FillsTies : ℕ → List ℕ → List ℕ → List ℕ → List ℕ → Type 0
+FillsTies n scores splits ties tiesAfter =
+    (w : ℕ → ℕ) (ok : ℕ → Bool) → Tabled (2 ^ n) w ok scores splits → tiesAfter ≡ filled n (λ a. tieEntry w ok a) ties
 
 -- ---- the tree that the split table chooses
 

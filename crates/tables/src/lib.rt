@@ -1,10 +1,12 @@
-// Both tables, for any weights: the score table holds the weights at first, and each entry becomes a score as the clusters rise.
+// Both tables, for any weights: the score table holds the weights at first, and each entry becomes a score as the clusters rise. The third is filled from both.
 mod allowing;
+mod tied;
 mod tree;
 
 use allowing::is_allowed;
 use splits::NO_TREE;
 use splits::best_split;
+pub use tied::count_ties;
 pub use tree::collect;
 ghost use mathlib.Core.Path.{_≡_};
 ghost use mathlib.Core.Bool.{Bool, true};

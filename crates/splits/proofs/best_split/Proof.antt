@@ -1,7 +1,8 @@
 -- `splits::best_split` meets its contract. The invariant: what is held is the choice among the low parts that were visited.
 use borrow.Author.Needs.{needs}
 use native.Mathlib.Omega.{arith}
-use Rattle.splits.proofs.SplitChoice.{lowest-lt, lowest-le, Visited, visited-start, visited-low, visited-next, visited-end}
+use Rattle.splits.proofs.FallingParts.{lowest-lt, lowest-le, walk-low}
+use Rattle.splits.proofs.SplitChoice.{Visited, visited-start, visited-next, visited-end}
 use Rattle.clusters.proofs.Parts.{part-falls}
 use Rattle.splits.proofs.best_split.Statement.{statement}
 use Rattle.splits.proofs.best_split.Tie as tie
@@ -31,14 +32,14 @@ loop-holds c =
 add-better : tie.Need-add-better Inv-loop μ-loop
 add-better c =
     let start = c .before .before .before .before .before in
-    let part = visited-low (c .before .loop .inv) (search needs) (start .pre .1 .0) (search needs) in
+    let part = walk-low (search needs) (start .pre .1 .0) (c .before .loop .inv .walk) (search needs) in
     let less = part .less in
     omega arith
 
 better-requires : tie.Need-better-requires Inv-loop μ-loop
 better-requires c κs =
     let start = c .before .before .before .before .before in
-    (search needs, (visited-low (c .before .loop .inv) (search needs) (start .pre .1 .0) (search needs), start .pre .1 .1))
+    (search needs, (walk-low (search needs) (start .pre .1 .0) (c .before .loop .inv .walk) (search needs), start .pre .1 .1))
 
 loop-less : tie.Need-loop-less Inv-loop μ-loop
 loop-less c = part-falls _ (search needs)
