@@ -1,6 +1,6 @@
 /* Times the proved search for ./bench: timing SET RECORDS ANSWER, on x86-64, with the files of docs/src/bin/timing.rs. Prints the
    microseconds of processor time of the search with all clusters allowed, whose answer is written, and of one with none allowed: that
-   one weighs every cluster too and then finds no tree (14), so that it takes the first half, and the tables take what is left. */
+   one makes all checks, weighs every cluster and passes over the tables without a split (14); what is left is the split loop's. */
 #include <stdio.h>
 #include <string.h>
 #include <time.h>
@@ -40,6 +40,8 @@ int main(int argc, char **argv) {
     fwrite(scores, sizeof scores, 1, answer);
     fwrite(splits, sizeof splits, 1, answer);
     if (fclose(answer) != 0) return 1;
-    printf("%ld %ld\n", search, timed(unrooted, count, 0, &found));
+    long first = timed(unrooted, count, 0, &found);
+    if (found.number != 14) return 1;
+    printf("%ld %ld\n", search, first);
     return 0;
 }

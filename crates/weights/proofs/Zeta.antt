@@ -250,7 +250,7 @@ unfolding total
 total-modulo f g [] h = refl
 total-modulo f g (x ∷ l) h = add-same (f x) (total (map f l)) (g x) (total (map g l)) (h x (here refl)) (total-modulo f g l (λ y m. h y (there m)))
 
--- the transform of such a table says of every A how many sets of the lists lie within A
+-- the transform of such a table says of every A how many sets of one list lie within A less how many of the other, modulo 2^32
 pub zeta-of-lists :
     {n : ℕ} {plus minus f : List ℕ} → Tabled n plus minus f → ((x : ℕ) → Among x plus → x < 2 ^ n) → ((x : ℕ) → Among x minus → x < 2 ^ n) → (a : ℕ) → a < 2 ^ n
     → (getD (zeta n f) a 0 + many (λ x. within x a) minus) % modulus ≡ many (λ x. within x a) plus % modulus
@@ -300,7 +300,7 @@ often-total n (y ∷ l) below =
     as-one true = refl
     as-one false = refl
 
--- where a table says how often sets stand in a list, no step makes an entry larger than the list is long
+-- where a table says how often sets stand in a list, no step makes an entry larger than the list is long, which is below 2^32
 pub zeta-at-most :
     (k : ℕ) (sets f : List ℕ) → ((x : ℕ) → x < length f → getD f x 0 ≡ often x sets) → ((x : ℕ) → Among x sets → x < length f) → length sets < modulus
     → (a : ℕ) → a < length f → getD (zeta k f) a 0 ≤ length sets

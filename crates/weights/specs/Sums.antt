@@ -46,10 +46,11 @@ singleOnes g = keep (λ p. eqb (size p) 1) (listed g)
 unfoldable pub largerOnes : List ℕ → List ℕ
 largerOnes g = keep (λ x. not (eqb (size x) 1) && not (eqb x (largest g))) (unrootedClusters g)
 
--- the sets that are counted: k of A is how many of them lie within A, less how many of those taken off.
--- With a root the whole set, and for nodes "with at least one child" within A (#101) the unions of an odd number of children.
--- Without one "the maximal ones" (#106) are as many as the single species less the larger clusters;
--- and "for the whole set, one": the whole for each larger cluster, and once
+-- the sets that are counted: of a record that may enter, k of A is how many of them lie within A, less how many of those taken off.
+-- With a root the whole set, and for the nodes that have a child within A the unions of an odd number of children; less the nodes within A themselves
+-- these are those "with at least one child whose cluster is maximal within A" (#101).
+-- Without one, for A within the whole set but not all of it, "the maximal ones" (#106) are as many as the single species within A less the larger clusters within A;
+-- and "for the whole set, one" (#106): the whole for each larger cluster, and once
 unfoldable pub plusBy : Rooting → List ℕ → List ℕ
 unfolding innerNodes singleOnes largerOnes odds evens gathered
 plusBy Rooted g = largest g ∷ gathered (λ p. odds (children (listed g) p)) (innerNodes g)
@@ -93,12 +94,12 @@ pub record Tabled (n : ℕ) (plus minus f : List ℕ) : Type 0 where
 unfoldable pub sumOver : List ℕ → ℕ → ℕ
 sumOver f a = total (map (λ x. getD f x 0) (keep (λ x. within x a) (upTo (length f))))
 
--- an entry with another added to it, where a test holds
+-- an entry with another added to it, modulo 2^32, where a test holds
 abbrev pub addedIf : Bool → ℕ → ℕ → ℕ
 addedIf true other entry = (entry + other) % modulus
 addedIf false other entry = entry
 
--- one step of the zeta transform: to each set that has species i the entry of the set without it is added
+-- one step of the zeta transform: to each set that has species i the entry of the set without it is added, modulo 2^32
 unfoldable pub stepped : ℕ → List ℕ → List ℕ
 stepped i f = map (λ a. addedIf (has a i) (getD f (a - single i) 0) (getD f a 0)) (upTo (length f))
 
