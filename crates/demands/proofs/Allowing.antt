@@ -21,7 +21,7 @@ use Rattle.weights.specs.Marks.{shown as shownIn, flag}
 use Rattle.lineages.specs.Promise.{marks}
 use Rattle.trees.proofs.Booleans.{either, or-left, or-right}
 use Rattle.trees.proofs.UpTo.{map-upTo}
-use Rattle.tables.specs.Allowed.{allowedIn}
+use Rattle.terms.specs.Allowed.{allowedIn}
 use Rattle.outcomes.specs.Outcome.{allowedBy}
 use Rattle.demands.specs.GeneTrees.{RecordsOf, clustersShown}
 use Rattle.demands.specs.Input.{Allows}

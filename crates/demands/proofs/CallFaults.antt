@@ -25,9 +25,11 @@ use Rattle.lineages.specs.Promise.{Weighs, Scores, Marks}
 use Rattle.lineages.specs.Work.{said}
 use Rattle.lineages.proofs.Verdicts.{verdict-first}
 use Rattle.splits.specs.BinaryTrees.{Binary}
-use Rattle.solver.specs.Best.{bestFor, foundBy}
-use Rattle.solver.specs.declared.Found.{Found}
-use Rattle.search.specs.Promise.{allowedTest, searchTests, foundOr, Finds}
+use Rattle.splits.specs.Best.{bestFor, foundBy}
+use Rattle.terms.specs.declared.Found.{Found}
+use Rattle.terms.specs.Allowed.{allowedTest}
+use Rattle.search.specs.Promise.{searchTests, Finds}
+use Rattle.terms.specs.Answers.{foundOr}
 use Rattle.search.specs.Candidates.{Candidate}
 use Rattle.search.proofs.Accepted.{NoneGives}
 use Rattle.search.proofs.Demand.{found-answers, none-competes}

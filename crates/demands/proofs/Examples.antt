@@ -26,8 +26,8 @@ use Rattle.labels.specs.Writing.{labelOf, mayBeBare}
 use Rattle.roster.specs.Roster.{same, position, inQuotes, begins, beginnings, nameAt, names, strayAt, longAt, manyAt, againAt, openAt, faultAt, least, firstFault, faulty}
 use Rattle.splits.specs.BinaryTrees.{clustersIn, isLow, lows, each, forks, treesTo, treesOn}
 use Rattle.splits.specs.Least.{those, all, scoreOf, treesOver, leastTrees, best}
-use Rattle.tables.specs.Allowed.{allowedIn}
-use Rattle.solver.specs.Best.{bestFor}
+use Rattle.terms.specs.Allowed.{allowedIn}
+use Rattle.splits.specs.Best.{bestFor}
 use Rattle.trees.specs.Drawn.{properly, maximal, placed, byLowest, children, drawnTo, drawn}
 use Rattle.trees.specs.Lists.{upTo, keep, some, insert, sorted, pieces, total}
 use Rattle.trees.specs.Records.{recordOf}

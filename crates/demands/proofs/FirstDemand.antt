@@ -30,9 +30,11 @@ use Rattle.lineages.specs.Checks.{speciesTest, countTest, speciesRecordTest, re
 use Rattle.lineages.specs.Promise.{Weighs, Scores, Marks, markedBy}
 use Rattle.splits.specs.BinaryTrees.{Binary}
 use Rattle.splits.specs.Least.{scoreEntry, splitEntry}
-use Rattle.search.specs.Promise.{allowedTest, searchTests, foundOr, filledBy, Finds}
-use Rattle.solver.specs.Best.{bestFor, foundBy}
-use Rattle.solver.specs.declared.Found.{Found}
+use Rattle.terms.specs.Allowed.{allowedTest}
+use Rattle.search.specs.Promise.{searchTests, filledBy, Finds}
+use Rattle.terms.specs.Answers.{foundOr}
+use Rattle.splits.specs.Best.{bestFor, foundBy}
+use Rattle.terms.specs.declared.Found.{Found}
 use Rattle.search.proofs.Accepted.{NoneGives, no-fourteen}
 use Rattle.report.specs.Promise.{output, Reports}
 use Rattle.demands.specs.Outcomes.{Replies, TurnedAway, NotFound}

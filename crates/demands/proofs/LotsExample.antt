@@ -18,10 +18,12 @@ use Rattle.weights.specs.declared.Rooting.the-variants.{Rooted}
 use Rattle.lineages.specs.Checks.{speciesTest, countTest, firstFailing, recordsTest, rootingTest}
 use Rattle.splits.specs.BinaryTrees.{clustersIn, isLow, lows, each, forks, treesTo, treesOn}
 use Rattle.splits.specs.Least.{those, all, scoreOf, treesOver, leastTrees, best}
-use Rattle.tables.specs.Allowed.{allowedIn}
-use Rattle.solver.specs.Best.{bestFor, foundBy}
-use Rattle.solver.specs.declared.Found.{Found}
-use Rattle.search.specs.Promise.{firstStrange, allowedTest, searchTests, foundOr, Finds}
+use Rattle.terms.specs.Allowed.{allowedIn}
+use Rattle.splits.specs.Best.{bestFor, foundBy}
+use Rattle.terms.specs.declared.Found.{Found}
+use Rattle.terms.specs.Allowed.{firstStrange, allowedTest}
+use Rattle.search.specs.Promise.{searchTests, Finds}
+use Rattle.terms.specs.Answers.{foundOr}
 use Rattle.demands.specs.Lots.{Searched, Lent, LotsOf, LeastIn}
 use Rattle.trees.specs.Lists.InAnyOrder.{nothing, put}
 use Rattle.demands.proofs.Lots.{of-both, equal-exactly-when-least-for-both}

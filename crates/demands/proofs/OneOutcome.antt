@@ -15,7 +15,7 @@ use Rattle.weights.specs.declared.Rooting.{Rooting}
 use Rattle.lineages.specs.Promise.{Weighs, Scores, Marks}
 use Rattle.lineages.proofs.Outcomes.{weighs-once, scores-once, marks-once}
 use Rattle.search.specs.Promise.{Finds}
-use Rattle.solver.specs.declared.Found.{Found}
+use Rattle.terms.specs.declared.Found.{Found}
 use Rattle.search.proofs.Demand.{finds-once}
 use Rattle.report.specs.Promise.{Reports}
 

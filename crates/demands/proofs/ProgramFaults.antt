@@ -17,7 +17,7 @@ use Rattle.roster.specs.Judged.{speciesMost}
 use Rattle.roster.specs.Verdict.{Test}
 use Rattle.nodes.specs.Grammar.{Blanks}
 use Rattle.splits.specs.BinaryTrees.{Binary}
-use Rattle.solver.specs.Best.{bestFor, foundBy}
+use Rattle.splits.specs.Best.{bestFor, foundBy}
 use Rattle.reader.specs.Promise.{textMost}
 use Rattle.tokens.specs.declared.answer.Threshold.the-variants.{NoThreshold}
 use Rattle.reader.specs.declared.Kind.the-variants.{Gene}

@@ -29,10 +29,11 @@ use Rattle.lineages.specs.Promise.{Weighs, Scores, Marks, marks, markedBy}
 use Rattle.lineages.proofs.FirstBad.{all-valid-none-bad}
 use Rattle.splits.specs.BinaryTrees.{Binary, clustersIn}
 use Rattle.splits.specs.Least.{best, scoreOf, scoreEntry, splitEntry}
-use Rattle.tables.specs.Allowed.{allowedIn}
-use Rattle.solver.specs.Best.{bestFor, foundBy}
-use Rattle.solver.specs.declared.Found.{Found}
-use Rattle.search.specs.Promise.{searchTests, foundOr, filledBy, Finds}
+use Rattle.terms.specs.Allowed.{allowedIn}
+use Rattle.splits.specs.Best.{bestFor, foundBy}
+use Rattle.terms.specs.declared.Found.{Found}
+use Rattle.search.specs.Promise.{searchTests, filledBy, Finds}
+use Rattle.terms.specs.Answers.{foundOr}
 use Rattle.search.proofs.Accepted.{verdict-passed}
 use Rattle.search.proofs.Unread.{both-fit}
 use Rattle.search.proofs.Dropped.{valid-fit}

@@ -16,9 +16,10 @@ use Rattle.trees.specs.Records.{recordsIn}
 use Rattle.weights.specs.declared.Rooting.{Rooting}
 use Rattle.lineages.specs.Promise.{markedBy}
 use Rattle.splits.specs.BinaryTrees.{Binary}
-use Rattle.search.specs.Promise.{searchTests, foundOr, filledBy, Finds}
-use Rattle.solver.specs.Best.{bestFor, foundBy}
-use Rattle.solver.specs.declared.Found.{Found}
+use Rattle.search.specs.Promise.{searchTests, filledBy, Finds}
+use Rattle.terms.specs.Answers.{foundOr}
+use Rattle.splits.specs.Best.{bestFor, foundBy}
+use Rattle.terms.specs.declared.Found.{Found}
 use Rattle.search.proofs.Accepted.{NoneGives}
 use Rattle.demands.specs.Outcomes.{TurnedAway}
 

@@ -43,11 +43,12 @@ use Rattle.weights.specs.Marks.{shown}
 use Rattle.lineages.specs.Promise.{marks, Weighs, Scores, Marks}
 use Rattle.splits.specs.BinaryTrees.{clustersIn, isLow, lows, each, forks, treesTo, treesOn}
 use Rattle.splits.specs.Least.{those, all, scoreOf, treesOver, leastTrees, best, noTree}
-use Rattle.tables.specs.Allowed.{allowedIn}
+use Rattle.terms.specs.Allowed.{allowedIn}
 use Rattle.search.proofs.BestTrees.{every-among}
-use Rattle.search.specs.Promise.{firstStrange, allowedTest, searchTests, Finds}
-use Rattle.solver.specs.Best.{bestFor}
-use Rattle.solver.specs.declared.Found.{Found}
+use Rattle.terms.specs.Allowed.{firstStrange, allowedTest}
+use Rattle.search.specs.Promise.{searchTests, Finds}
+use Rattle.splits.specs.Best.{bestFor}
+use Rattle.terms.specs.declared.Found.{Found}
 use Rattle.printing.specs.Texts.{reportBytes}
 use Rattle.printing.specs.Words.{taxaText, genesText, scoreText, refusedText, atText, digitsTo, decimal}
 use Rattle.gather.specs.GeneTrees.{gatherTo, walk, gather}

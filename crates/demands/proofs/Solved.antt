@@ -17,7 +17,7 @@ use Rattle.weights.specs.Count.{weight}
 use Rattle.lineages.specs.Checks.{rootingTest}
 use Rattle.splits.specs.BinaryTrees.{Binary, clustersIn}
 use Rattle.splits.specs.Least.{scoreOf}
-use Rattle.solver.specs.Best.{bestFor, foundBy}
+use Rattle.splits.specs.Best.{bestFor, foundBy}
 use Rattle.reader.specs.Promise.{textMost}
 use Rattle.gather.specs.GeneTrees.{Gathered, gather}
 use Rattle.gather.specs.GeneTrees.Gathered.{gathered, stopped}

@@ -19,7 +19,7 @@ use Rattle.lineages.specs.Checks.{rootingTest}
 use Rattle.lineages.proofs.FirstBad.{all-resolved}
 use Rattle.splits.specs.BinaryTrees.{Binary, clustersIn}
 use Rattle.splits.specs.Least.{scoreOf}
-use Rattle.solver.specs.Best.{bestFor}
+use Rattle.splits.specs.Best.{bestFor}
 use Rattle.search.proofs.Demand.{found-answers, none-competes}
 use Rattle.reader.specs.Promise.{textMost}
 use Rattle.gather.specs.GeneTrees.{Gathered, gather}

@@ -27,7 +27,7 @@ use Rattle.weights.specs.declared.Rooting.{Rooting}
 use Rattle.weights.specs.declared.Rooting.the-variants.{Rooted, Unrooted}
 use Rattle.lineages.specs.Checks.{speciesTest, countTest, speciesRecordTest, firstBad, recordsTest, firstUnresolved, isUnrooted, rootingTest, clusterTest}
 use Rattle.lineages.proofs.FirstBad.{failing-means, failing-is, none-bad}
-use Rattle.search.specs.Promise.{firstStrange, allowedTest}
+use Rattle.terms.specs.Allowed.{firstStrange, allowedTest}
 use Rattle.demands.specs.CallFaults.{RosterFault, SpeciesFault, CountFault, LengthFault, SpeciesRecordFault, RecordsFault, RootingFault, RecordFault, ClusterFault, AllowedFault}
 use Rattle.demands.specs.CallFaults.RosterFault.{roster-faulty}
 use Rattle.demands.specs.CallFaults.SpeciesFault.{not-1-to-16}

@@ -11,9 +11,9 @@ use Rattle.roster.specs.declared.Reply.{Reply}
 use Rattle.weights.specs.Count.{score}
 use Rattle.weights.specs.declared.Rooting.{Rooting}
 use Rattle.lineages.specs.Promise.{Scores}
-use Rattle.tables.specs.Allowed.{allowedIn}
+use Rattle.terms.specs.Allowed.{allowedIn}
 use Rattle.search.specs.Promise.{Finds}
-use Rattle.solver.specs.declared.Found.{Found}
+use Rattle.terms.specs.declared.Found.{Found}
 use Rattle.search.specs.Candidates.{Accepted, Candidate, EarlierRecord}
 use Rattle.search.proofs.Demand.{answer, zero-exactly, fourteen-exactly, more-allowed-clusters, more-gene-trees}
 use Rattle.demands.specs.Scorable.{Scorable}

@@ -29,7 +29,7 @@ use Rattle.weights.specs.declared.Rooting.the-variants.{Rooted}
 use Rattle.lineages.specs.Checks.{speciesTest, recordsTest, rootingTest, scoreTests}
 use Rattle.lineages.specs.Promise.{Scores}
 use Rattle.lineages.proofs.FirstBad.{all-valid-none-bad}
-use Rattle.solver.specs.declared.Found.{Found}
+use Rattle.terms.specs.declared.Found.{Found}
 use Rattle.search.specs.Promise.{Finds}
 use Rattle.search.proofs.Unread.{both-fit}
 use Rattle.search.proofs.Dropped.{valid-fit, dropped-in-all-cases}

@@ -21,8 +21,8 @@ use Rattle.weights.specs.declared.Rooting.{Rooting}
 use Rattle.weights.specs.Count.{kBy, score}
 use Rattle.lineages.specs.Promise.{marks}
 use Rattle.weights.specs.Marks.{flag}
-use Rattle.solver.specs.Best.{bestFor, foundBy}
-use Rattle.solver.specs.declared.Found.{Found}
+use Rattle.splits.specs.Best.{bestFor, foundBy}
+use Rattle.terms.specs.declared.Found.{Found}
 
 -- the allowed clusters of a row: all, those that the gene trees show, or these only
 pub data Allowed : Type 0 where

@@ -10,7 +10,7 @@ use Rattle.splits.specs.BinaryTrees.{each}
 use Rattle.weights.specs.declared.Rooting.{Rooting}
 use Rattle.search.specs.Promise.{Finds}
 use Rattle.search.specs.LeastAmong.{LeastFor}
-use Rattle.solver.specs.declared.Found.{Found}
+use Rattle.terms.specs.declared.Found.{Found}
 
 -- a search that was made for n species, the gene trees with a root or without (#106): what was handed over, and any outcome that meets its promise
 pub record Searched (rooting : Rooting) (n : ℕ) : Type 0 where

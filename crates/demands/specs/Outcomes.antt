@@ -5,7 +5,7 @@ use mathlib.Core.List.{List}
 use lib.ListN.{replicate}
 use Rattle.trees.specs.Lists.{Among}
 use Rattle.roster.specs.declared.Reply.{Reply}
-use Rattle.solver.specs.declared.Found.{Found}
+use Rattle.terms.specs.declared.Found.{Found}
 
 -- "gets a reply": some outcome meets the promise; "a single outcome": no other does
 pub record Replies {A : Type 0} (promise : A → Type 0) : Type 0 where

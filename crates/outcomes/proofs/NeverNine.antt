@@ -10,7 +10,7 @@ use Rattle.clusters.specs.Sets.{whole}
 use Rattle.splits.specs.BinaryTrees.{Binary}
 use Rattle.weights.specs.declared.Rooting.{Rooting}
 use Rattle.lineages.specs.Checks.{rootingTest}
-use Rattle.solver.specs.Best.{bestFor, foundBy}
+use Rattle.splits.specs.Best.{bestFor, foundBy}
 use Rattle.gather.specs.GeneTrees.{Gathered, gather}
 use Rattle.gather.specs.GeneTrees.Gathered.{gathered, stopped}
 use Rattle.gather.proofs.GeneTrees.{stopped-never-nine}

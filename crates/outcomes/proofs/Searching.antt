@@ -11,14 +11,14 @@ use Rattle.trees.specs.Records.{SpeciesValid, recordsIn}
 use Rattle.weights.specs.Count.{weight}
 use Rattle.weights.specs.declared.Rooting.{Rooting}
 use Rattle.splits.specs.BinaryTrees.{Binary}
-use Rattle.tables.specs.Allowed.{allowedIn}
+use Rattle.terms.specs.Allowed.{allowedIn}
 use Rattle.splits.proofs.Recurrence.{best-on}
 use Rattle.search.specs.Promise.{Finds}
-use Rattle.solver.specs.Best.{bestFor, foundBy}
-use Rattle.solver.specs.declared.Found.{Found}
+use Rattle.splits.specs.Best.{bestFor, foundBy}
+use Rattle.terms.specs.declared.Found.{Found}
 use Rattle.search.specs.Candidates.{Accepted}
 use Rattle.search.proofs.Accepted.{accepts}
-use Rattle.search.proofs.RecordsOfTrees.{tree-valid}
+use Rattle.splits.proofs.RecordsOfTrees.{tree-valid}
 use Rattle.trees.proofs.Bounds.{whole-below-sixteen}
 use Rattle.outcomes.specs.Outcome.{outcomeOf, searched}
 use Rattle.outcomes.specs.Outcome.Outcome.{refused, solved}

@@ -7,8 +7,8 @@ use Rattle.clusters.specs.Sets.{whole}
 use Rattle.weights.specs.declared.Rooting.{Rooting}
 use Rattle.lineages.specs.Checks.{rootingTest}
 use Rattle.lineages.specs.Promise.{marks}
-use Rattle.solver.specs.Best.{bestFor, foundBy}
-use Rattle.solver.specs.declared.Found.{Found}
+use Rattle.splits.specs.Best.{bestFor, foundBy}
+use Rattle.terms.specs.declared.Found.{Found}
 use Rattle.gather.specs.GeneTrees.{Gathered, beginsAt}
 use Rattle.gather.specs.GeneTrees.Gathered.{gathered, stopped}
 use Rattle.printing.specs.Words.{taxaText, genesText, scoreText, newline, decimal}

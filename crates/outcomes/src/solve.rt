@@ -7,7 +7,7 @@ ghost use Rattle.roster.specs.Roster.{names};
 ghost use Rattle.reader.specs.Promise.{textMost};
 ghost use Rattle.trees.specs.Records.{recordsIn};
 ghost use Rattle.gather.specs.GeneTrees.{gather as GeneTrees·gather};
-ghost use Rattle.solver.specs.Best.{bestFor, foundBy};
+ghost use Rattle.splits.specs.Best.{bestFor, foundBy};
 ghost use Rattle.weights.specs.declared.Rooting.the-variants.{Rooted};
 ghost use Rattle.gather.specs.GeneTrees.Gathered.{gathered};
 ghost use Rattle.outcomes.specs.Outcome.{searched, allowedBy, treePlace, withGenes, onTrees};

@@ -12,7 +12,8 @@ use Rattle.trees.specs.Records.{recordsIn}
 use Rattle.roster.specs.Verdict.{Test, verdict, verdictBy, lengthTest}
 use Rattle.lineages.specs.Checks.{speciesTest, countTest, firstBad, recordsTest, rootingTest}
 use Rattle.lineages.proofs.FirstBad.{none-bad, all-valid-none-bad, none-unresolved, all-resolved}
-use Rattle.search.specs.Promise.{firstStrange, allowedTest, searchTests}
+use Rattle.terms.specs.Allowed.{firstStrange, allowedTest}
+use Rattle.search.specs.Promise.{searchTests}
 use Rattle.search.specs.Candidates.{Accepted}
 use Rattle.weights.specs.declared.Rooting.{Rooting}
 

@@ -27,8 +27,8 @@ use Rattle.splits.proofs.Membership.{listed-well-formed, well-formed-listed, tr
 use Rattle.splits.proofs.Enumeration.{treesOn-ordered}
 use Rattle.trees.proofs.Totals.{total-same}
 use Rattle.splits.proofs.Recurrence.{gated, gated-same, best-choice, best-listed, best-on, best-fork, allowed-of-best, score-fork}
-use Rattle.search.proofs.DrawnBinary.{InFork, among-fork, tree-inside}
-use Rattle.search.proofs.DrawnBinary.InFork.{at-root, in-low, in-other}
+use Rattle.splits.proofs.DrawnBinary.{InFork, among-fork, tree-inside}
+use Rattle.splits.proofs.DrawnBinary.InFork.{at-root, in-low, in-other}
 
 -- ---- lists of which all pass a test
 

@@ -23,12 +23,13 @@ use Rattle.splits.specs.BinaryTrees.{Binary, clustersIn}
 use Rattle.splits.specs.WellFormed.{TreeOn}
 use Rattle.splits.specs.Order.{Earlier}
 use Rattle.splits.specs.Least.{scoreOf}
-use Rattle.tables.specs.Allowed.{allowedIn}
+use Rattle.terms.specs.Allowed.{allowedIn}
 use Rattle.splits.proofs.Recurrence.{best-on}
-use Rattle.search.specs.Promise.{searchTests, foundOr, Finds}
-use Rattle.solver.specs.Best.{bestFor, foundBy}
-use Rattle.solver.specs.declared.Found.{Found}
-use Rattle.search.proofs.RecordsOfTrees.{tree-valid, tree-binary, tree-of-record, TreeOfRecord, score-of-record}
+use Rattle.search.specs.Promise.{searchTests, Finds}
+use Rattle.terms.specs.Answers.{foundOr}
+use Rattle.splits.specs.Best.{bestFor, foundBy}
+use Rattle.terms.specs.declared.Found.{Found}
+use Rattle.splits.proofs.RecordsOfTrees.{tree-valid, tree-binary, tree-of-record, TreeOfRecord, score-of-record}
 use Rattle.search.proofs.BestTrees.{Over, best-over, best-least, best-first, best-missed, LeastSplit, lemma-two}
 use Rattle.search.specs.Candidates.{Accepted, Candidate, EarlierRecord, Answer}
 use Rattle.search.proofs.Accepted.{accepted, accepts, no-fourteen}

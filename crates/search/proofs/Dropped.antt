@@ -16,7 +16,7 @@ use Rattle.trees.proofs.Lent.{length-recordsIn}
 use Rattle.roster.specs.Verdict.{Test, Verdict, verdict}
 use Rattle.lineages.specs.Checks.{speciesTest, recordsTest, rootingTest}
 use Rattle.weights.proofs.Dropped.{score-never-rises}
-use Rattle.solver.specs.declared.Found.{Found}
+use Rattle.terms.specs.declared.Found.{Found}
 use Rattle.search.specs.Promise.{searchTests, Finds}
 use Rattle.search.specs.Candidates.{Accepted}
 use Rattle.lineages.proofs.FirstBad.{all-valid-none-bad}

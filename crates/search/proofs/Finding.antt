@@ -1,15 +1,12 @@
 -- The promise of the search, one law for each way through its checks.
 use Prim.Native.Nat.{ℕ, zero, suc, _^_, _≤_, _<_}
-use mathlib.Core.Path.{_≡_, refl, ap, _∙_}
-use mathlib.Core.Bool.{not}
+use mathlib.Core.Path.{_≡_, refl, _∙_}
 use mathlib.Core.List.{List, [], _∷_}
 use native.Mathlib.Decide.{decLe}
 use native.Mathlib.Omega.{arith}
-use lib.ListN.{length, getD}
-use lib.Dec.{leb}
+use lib.ListN.{length}
 use borrow.Author.Tests.{lt-ltb, le-ltb}
 use Rattle.clusters.specs.Sets.{whole}
-use Rattle.roster.specs.Roster.{least}
 use Rattle.roster.specs.declared.Reply.{Reply}
 use Rattle.roster.specs.Verdict.{Test, verdict, lengthTest}
 use Rattle.trees.specs.Records.{recordsIn}
@@ -18,10 +15,13 @@ use Rattle.lineages.specs.InOrder.{Shaped}
 use Rattle.lineages.specs.Work.{shapeTests, said, GenesJudged}
 use Rattle.lineages.proofs.Verdicts.{verdict-first, shape-passed}
 use Rattle.lineages.proofs.FirstBad.{checked-in-order}
-use Rattle.search.specs.Promise.{firstStrange, allowedTest, searchTests, foundOr, filledBy, Finds}
-use Rattle.solver.specs.Best.{bestFor, foundBy}
-use Rattle.solver.specs.Work.{without, LongEnough, Checked, Solves}
-use Rattle.solver.specs.declared.Found.{Found}
+use Rattle.terms.specs.Allowed.{firstStrange, allowedTest}
+use Rattle.terms.proofs.Refusing.{byte-refused, bytes-passed, refused-told}
+use Rattle.search.specs.Promise.{searchTests, filledBy, Finds}
+use Rattle.splits.specs.Best.{bestFor, foundBy}
+use Rattle.terms.specs.Answers.{without}
+use Rattle.solver.specs.Work.{LongEnough, Checked, Solves}
+use Rattle.terms.specs.declared.Found.{Found}
 use Rattle.lineages.proofs.Calls.{genes-refused, genes-passed}
 use Rattle.weights.specs.declared.Rooting.{Rooting}
 
@@ -61,24 +61,6 @@ module _ (rooting : Rooting) (n : ℕ) (genes : List ℕ) (count : ℕ) (allowed
       go (yes a) (yes b) (no c) = rw (le-ltb (length allowed) (2 ^ n) a, le-ltb (length scores) (2 ^ n) b, lt-ltb (length splits) (2 ^ n) (omega arith))
       go (yes a) (yes b) (yes c) = absurd (f (record { allowed-long = a; scores-long = b; splits-long = c }))
 
--- ---- 13
-
-module _ (n : ℕ) (allowed : List ℕ) {strange : ℕ} (found : strange ≡ firstStrange n allowed) where
-  byte-refused : strange < 2 ^ n → verdict (allowedTest n allowed ∷ []) ≡ said 13 strange
-  unfolding verdict allowedTest
-  byte-refused l = rw (lt-ltb (firstStrange n allowed) (2 ^ n) (omega arith), found)
-
-  bytes-passed : 2 ^ n ≤ strange → verdict (allowedTest n allowed ∷ []) ≡ said 0 0
-  unfolding verdict allowedTest
-  bytes-passed l = rw (le-ltb (firstStrange n allowed) (2 ^ n) (omega arith))
-
--- what the code looks for is the definition's first strange byte
-pub strange-is :
-    (n : ℕ) (allowed : List ℕ) {entries strange : ℕ} → entries ≡ 2 ^ n → strange ≡ least (λ a. not (leb (getD allowed a 0) 1)) 0 entries
-    → strange ≡ firstStrange n allowed
-unfolding firstStrange
-strange-is n allowed p e = e ∙ ap (least (λ a. not (leb (getD allowed a 0) 1)) 0) p
-
 -- ---- the checks that were passed
 
 module _ (rooting : Rooting) (n : ℕ) (genes : List ℕ) (count : ℕ) (allowed scores splits : List ℕ) (shaped : Shaped n genes count) where
@@ -110,12 +92,7 @@ module _ (rooting : Rooting) (n : ℕ) (genes : List ℕ) (count : ℕ) (allowed
 
 -- ---- the ways
 
--- a refusal answers no tree
-pub refused-told : (k place : ℕ) → (k ≡ 0 → ⊥) → (found : Found) → without k place ≡ foundOr k place found
-refused-told zero place f found = absurd (f refl)
-refused-told (suc k) place f found = refl
-
--- and keeps a lent table
+-- a refusal keeps a lent table
 pub refused-kept : (k n : ℕ) → (k ≡ 0 → ⊥) → (entry : ℕ → ℕ) (lent : List ℕ) → lent ≡ filledBy k n entry lent
 refused-kept zero n f entry lent = absurd (f refl)
 refused-kept (suc k) n f entry lent = refl

@@ -1,6 +1,4 @@
 -- The mathematics of the search: its trees and their records, and what the promises give; then what the code keeps while it runs.
-pub mod DrawnBinary
-pub mod RecordsOfTrees
 pub mod BestTrees
 pub mod Accepted
 pub mod Demand

@@ -12,7 +12,7 @@ use Rattle.trees.proofs.Totals.{total-same, total-le, total-tight}
 use Rattle.weights.specs.Count.{score}
 use Rattle.weights.proofs.Sums.{score-append}
 use Rattle.splits.specs.BinaryTrees.{each}
-use Rattle.solver.specs.declared.Found.{Found}
+use Rattle.terms.specs.declared.Found.{Found}
 use Rattle.search.specs.Promise.{Finds}
 use Rattle.search.specs.Candidates.{Candidate, SameAllowed}
 use Rattle.search.specs.LeastAmong.{LeastAmong, LeastNumber, NumberOf}

@@ -22,14 +22,15 @@ use Rattle.splits.proofs.Membership.{among-map, map-among}
 use Rattle.splits.proofs.Recurrence.{best-on}
 use Rattle.splits.proofs.LeastTrees.{Least, AllLeast, leastTrees-all}
 use Rattle.splits.proofs.TieLaws.{tie-exists, tie-alone}
-use Rattle.tables.specs.Allowed.{allowedIn}
-use Rattle.solver.specs.Best.{bestFor, foundBy}
-use Rattle.search.specs.Promise.{foundOr, Finds}
+use Rattle.terms.specs.Allowed.{allowedIn}
+use Rattle.splits.specs.Best.{bestFor, foundBy}
+use Rattle.terms.specs.Answers.{foundOr}
+use Rattle.search.specs.Promise.{Finds}
 use Rattle.search.specs.TiesPromise.{tiesFor, tiesTests, withTies, foundIn, FindsTies}
 use Rattle.search.specs.Candidates.{Candidate}
 use Rattle.search.specs.LeastAmong.{LeastFor, AllOf, NumberOf}
 use Rattle.search.specs.declared.tied.Tied.{Tied}
-use Rattle.search.proofs.RecordsOfTrees.{same-record-same-tree, score-of-record}
+use Rattle.splits.proofs.RecordsOfTrees.{same-record-same-tree, score-of-record}
 use Rattle.search.proofs.BestTrees.{every-among, among-every}
 use Rattle.search.proofs.Demand.{tree-competes, competitor, competitor-over, competitor-score, accepted-of, competes-wider}
 use Rattle.search.proofs.HowMany.{once-map, number-le}

@@ -20,19 +20,21 @@ use Rattle.lineages.specs.InOrder.{Shaped}
 use Rattle.lineages.specs.Work.{shapeTests, said}
 use Rattle.lineages.proofs.Verdicts.{verdict-first, shape-passed}
 use Rattle.splits.specs.Ties.{tieEntry}
-use Rattle.tables.specs.Allowed.{allowedIn}
+use Rattle.terms.specs.Allowed.{allowedIn}
 use Rattle.tables.specs.Work.{Tabled, Tieable, FillsTies}
 use Rattle.tables.proofs.TieTable.{filled-at, filled-tabled}
-use Rattle.solver.specs.Best.{bestFor, foundBy}
-use Rattle.solver.specs.Work.{without}
-use Rattle.solver.specs.declared.Found.{Found}
-use Rattle.search.specs.Promise.{allowedTest, searchTests, filledBy, Finds}
+use Rattle.splits.specs.Best.{bestFor, foundBy}
+use Rattle.terms.specs.Answers.{without}
+use Rattle.terms.specs.declared.Found.{Found}
+use Rattle.terms.specs.Allowed.{allowedTest}
+use Rattle.search.specs.Promise.{searchTests, filledBy, Finds}
 use Rattle.search.specs.TiesPromise.{tiesFor, tiesTests, withTies, foundIn, FindsTies}
 use Rattle.search.specs.Candidates.{Accepted}
 use Rattle.search.specs.declared.tied.Tied.{Tied}
 use Rattle.search.proofs.Accepted.{verdict-passed, accepted, accepts}
 use Rattle.search.proofs.Demand.{accepted-says, accepted-of}
-use Rattle.search.proofs.Finding.{refused-told, refused-kept}
+use Rattle.terms.proofs.Refusing.{refused-told}
+use Rattle.search.proofs.Finding.{refused-kept}
 
 -- a number that is neither of two
 pub neither : {m a b : ℕ} → (m ≡ a → ⊥) → (m ≡ b → ⊥) → (m ≡ a) ⊎ (m ≡ b) → ⊥

@@ -20,11 +20,12 @@ use Rattle.roster.specs.Roster.{least, firstOr}
 use Rattle.roster.specs.Verdict.{Test, verdict, lengthTest}
 use Rattle.weights.specs.Count.{weight}
 use Rattle.splits.specs.Least.{scoreEntry, splitEntry, best}
-use Rattle.tables.specs.Allowed.{allowedIn}
+use Rattle.terms.specs.Allowed.{allowedIn}
 use Rattle.tables.proofs.Written.{same-entries}
-use Rattle.solver.specs.Best.{bestFor}
-use Rattle.solver.specs.declared.Found.{Found}
-use Rattle.search.specs.Promise.{firstStrange, allowedTest, searchTests, filledBy, Finds}
+use Rattle.splits.specs.Best.{bestFor}
+use Rattle.terms.specs.declared.Found.{Found}
+use Rattle.terms.specs.Allowed.{firstStrange, allowedTest}
+use Rattle.search.specs.Promise.{searchTests, filledBy, Finds}
 use Rattle.search.specs.Candidates.{SameAllowed, SameTable}
 use Rattle.search.proofs.BestTrees.{best-local}
 use Rattle.search.proofs.Accepted.{accepts}

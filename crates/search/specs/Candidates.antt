@@ -13,8 +13,8 @@ use Rattle.weights.specs.Count.{score}
 use Rattle.splits.specs.BinaryTrees.{Binary, clustersIn}
 use Rattle.splits.specs.Order.{Earlier}
 use Rattle.splits.specs.WellFormed.{TreeOn}
-use Rattle.tables.specs.Allowed.{allowedIn}
-use Rattle.solver.specs.declared.Found.{Found}
+use Rattle.terms.specs.Allowed.{allowedIn}
+use Rattle.terms.specs.declared.Found.{Found}
 use Rattle.weights.specs.declared.Rooting.{Rooting}
 
 -- no test finds a fault

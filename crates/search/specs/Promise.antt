@@ -1,28 +1,19 @@
 -- What `search` promises (01, "The count" and "Numbers returned").
 use Prim.Native.Nat.{ℕ, zero, suc, _*_, _^_}
 use mathlib.Core.Path.{_≡_}
-use mathlib.Core.Bool.{not}
 use mathlib.Core.List.{List, [], _∷_}
-use lib.ListN.{length, getD, replicate}
-use lib.Dec.{leb, ltb}
+use lib.ListN.{length}
 use Rattle.clusters.specs.Sets.{whole}
 use Rattle.trees.specs.Records.{recordsIn}
-use Rattle.roster.specs.Roster.{least}
 use Rattle.weights.specs.Count.{weight}
 use Rattle.roster.specs.Verdict.{Test, verdict, lengthTest}
 use Rattle.lineages.specs.Checks.{speciesTest, countTest, recordsTest, rootingTest}
+use Rattle.terms.specs.Allowed.{allowedTest}
+use Rattle.terms.specs.Answers.{foundOr}
 use Rattle.splits.specs.Least.{scoreEntry, splitEntry, filled}
-use Rattle.solver.specs.Best.{bestFor, foundBy}
-use Rattle.solver.specs.declared.Found.{Found}
+use Rattle.splits.specs.Best.{bestFor, foundBy}
+use Rattle.terms.specs.declared.Found.{Found}
 use Rattle.weights.specs.declared.Rooting.{Rooting}
-
--- the first of the 2^n bytes that is not 0 or 1; 2^n where there is none
-unfoldable pub firstStrange : ℕ → List ℕ → ℕ
-firstStrange n bytes = least (λ a. not (leb (getD bytes a 0) 1)) 0 (2 ^ n)
-
--- "13 | .. allowed byte not 0 or 1 | .. first such index"
-unfoldable pub allowedTest : ℕ → List ℕ → Test
-allowedTest n bytes = record { fault = ltb (firstStrange n bytes) (2 ^ n); number = 13; place = firstStrange n bytes }
 
 -- the tests before the search itself: "1, 11, 12, 16, 15, 13, 14, each where it applies", with 19 "straight after 15" (#106)
 unfoldable pub searchTests : Rooting → ℕ → List ℕ → ℕ → List ℕ → List ℕ → List ℕ → List Test
@@ -34,11 +25,6 @@ searchTests rooting n genes count allowed scores splits =
     ∷ rootingTest rooting n (recordsIn count genes)
     ∷ allowedTest n allowed
     ∷ []
-
--- a refusal before the search: "A refused call returns score 0, .. an all-zero record"
-abbrev pub foundOr : ℕ → ℕ → Found → Found
-foundOr zero place found = found
-foundOr (suc number) place found = record { number = suc number; place = place; score = 0; numbers = replicate 32 0 }
 
 -- "Lent slices keep every byte, with one exception: on 14 both tables are filled"
 abbrev pub filledBy : ℕ → ℕ → (ℕ → ℕ) → List ℕ → List ℕ

@@ -10,10 +10,12 @@ use Rattle.roster.specs.Verdict.{Test, verdict, lengthTest, valueBy}
 use Rattle.lineages.specs.Checks.{speciesTest, countTest, recordsTest, rootingTest}
 use Rattle.splits.specs.Least.{scoreEntry, splitEntry}
 use Rattle.splits.specs.Ties.{tieEntry}
-use Rattle.tables.specs.Allowed.{allowedIn}
-use Rattle.solver.specs.Best.{bestFor, foundBy}
-use Rattle.search.specs.Promise.{allowedTest, foundOr, filledBy}
-use Rattle.solver.specs.declared.Found.{Found}
+use Rattle.terms.specs.Allowed.{allowedIn}
+use Rattle.splits.specs.Best.{bestFor, foundBy}
+use Rattle.terms.specs.Allowed.{allowedTest}
+use Rattle.terms.specs.Answers.{foundOr}
+use Rattle.search.specs.Promise.{filledBy}
+use Rattle.terms.specs.declared.Found.{Found}
 use Rattle.search.specs.declared.tied.Tied.{Tied}
 use Rattle.weights.specs.declared.Rooting.{Rooting}
 

@@ -1,12 +1,12 @@
 // The search: its checks in 01's order, then the best tree over the allowed clusters; and the search with its ties.
-mod allowing;
 mod tied;
 
 use lineages::checks::judge_genes;
 use lineages::checks::shape;
-pub use solver::Found;
-use solver::refused;
 use solver::solve;
+pub use terms::Found;
+use terms::allowing::first_strange;
+use terms::refused;
 pub use tied::Tied;
 pub use tied::search_ties;
 use weights::Rooting;
@@ -54,7 +54,7 @@ pub fn search(
     if judged.number != 0 {
         return refused(judged.number, judged.place);
     }
-    let strange = allowing::first_strange(allowed, entries);
+    let strange = first_strange(allowed, entries);
     if strange < entries {
         return refused(13, strange);
     }

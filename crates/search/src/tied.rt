@@ -1,9 +1,9 @@
 // The search with its ties: how many trees are as good as the one that it finds.
 use crate::search;
 use lineages::checks::shape;
-use solver::Found;
-use solver::refused;
 use tables::count_ties;
+use terms::Found;
+use terms::refused;
 use weights::Rooting;
 ghost use mathlib.Core.Path.{_≡_};
 ghost use mathlib.Core.Logic.{_⊎_};

@@ -21,7 +21,7 @@ use Rattle.splits.specs.BinaryTrees.Binary.{tip, fork}
 use Rattle.splits.specs.WellFormed.{TreeOn}
 use Rattle.splits.specs.WellFormed.TreeOn.{two}
 use Rattle.splits.specs.Least.{best, noTree, scoreOf, scoreEntry, splitEntry, filled}
-use Rattle.tables.specs.Allowed.{allowedIn}
+use Rattle.terms.specs.Allowed.{allowedIn}
 use Rattle.tables.specs.Work.{Weights, Fillable, Fills, Chosen, Chooses}
 use Rattle.splits.specs.Work.{Light}
 use Rattle.splits.proofs.LowParts.{low-part-two, low-some}
@@ -29,9 +29,10 @@ use Rattle.splits.proofs.Membership.{tree-root, tree-clusters}
 use Rattle.splits.proofs.Recurrence.{best-on, score-bound, best-fork}
 use Rattle.tables.proofs.Reached.{entries-few}
 use Rattle.tables.proofs.Written.{written, written-length, written-at, written-again, written-entries}
-use Rattle.solver.specs.Best.{bestFor, foundBy}
-use Rattle.solver.specs.Work.{without, Checked, Solves}
-use Rattle.solver.specs.declared.Found.{Found}
+use Rattle.splits.specs.Best.{bestFor, foundBy}
+use Rattle.terms.specs.Answers.{without}
+use Rattle.solver.specs.Work.{Checked, Solves}
+use Rattle.terms.specs.declared.Found.{Found}
 use Rattle.weights.specs.declared.Rooting.{Rooting}
 
 -- ---- the split table leads down the best tree

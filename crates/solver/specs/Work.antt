@@ -7,13 +7,9 @@ use Rattle.clusters.specs.Sets.{whole}
 use Rattle.weights.specs.Count.{weight}
 use Rattle.sums.specs.Work.{Weighable}
 use Rattle.splits.specs.Least.{scoreEntry, splitEntry, filled}
-use Rattle.solver.specs.Best.{bestFor, foundBy}
-use Rattle.solver.specs.declared.Found.{Found}
+use Rattle.splits.specs.Best.{bestFor, foundBy}
+use Rattle.terms.specs.declared.Found.{Found}
 use Rattle.weights.specs.declared.Rooting.{Rooting}
-
--- an answer without a tree
-abbrev pub without : ℕ → ℕ → Found
-without number place = record { number = number; place = place; score = 0; numbers = replicate 32 0 }
 
 -- so many entries are there in the allowed set and in both tables
 pub record LongEnough (entries : ℕ) (allowed scores splits : List ℕ) : Type 0 where

@@ -1,32 +1,11 @@
 // The best tree of gene trees that were checked: all weights, the two tables, and the record of the tree that they choose.
 mod tree;
 
+use terms::Found;
+use terms::refused;
 use weights::Rooting;
-ghost use mathlib.Core.Path.{_≡_};
 ghost use Rattle.trees.specs.Records.{recordsIn};
-ghost use Rattle.solver.specs.Work.{without, Checked, Solves};
-
-// What the search answers: number and place, the score, and the record of its tree.
-#[repr(C)]
-pub struct Found {
-    pub number: u32,
-    pub place: usize,
-    pub score: usize,
-    pub numbers: [u16; 32],
-}
-
-// The answer of a search that refuses: "score 0 .., an all-zero record".
-pub fn refused(number: u32, place: usize) -> Found
-    ensures { λ r. ⌜ r ≡ without number place ⌝ }
-{
-    let numbers = [0u16; 32];
-    Found {
-        number,
-        place,
-        score: 0,
-        numbers,
-    }
-}
+ghost use Rattle.solver.specs.Work.{Checked, Solves};
 
 // Fills both tables, and answers the tree that they choose for all species. `search` calls it, behind all its checks.
 pub fn solve(

@@ -1,6 +1,6 @@
 // The answer with the tree that the split table chooses.
-use crate::Found;
 use tables::collect;
+use terms::Found;
 ghost use mathlib.Core.Path.{_≡_};
 ghost use Prim.Native.Nat.{_<_};
 ghost use lib.ListN.{length};

@@ -13,3 +13,5 @@ pub mod Ties
 pub mod TieLaws
 pub mod SplitChoice
 pub mod TieWalk
+pub mod DrawnBinary
+pub mod RecordsOfTrees

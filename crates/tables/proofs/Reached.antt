@@ -15,7 +15,7 @@ use Rattle.clusters.proofs.Sizes.{size-le}
 use Rattle.trees.specs.Lists.{upTo}
 use Rattle.splits.specs.BinaryTrees.{Binary}
 use Rattle.splits.specs.Least.{best, noTree, scoreEntry, splitEntry, filled}
-use Rattle.tables.specs.Allowed.{allowedIn}
+use Rattle.terms.specs.Allowed.{allowedIn}
 use Rattle.tables.specs.Work.{Next, Settles, Fillable, Fills}
 use Rattle.splits.specs.Work.{Light, Scored, ScoresBelow}
 use Rattle.splits.proofs.Recurrence.{best-on, score-bound, entry-zero, split-zero}

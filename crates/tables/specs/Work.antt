@@ -9,7 +9,7 @@ use Rattle.splits.specs.BinaryTrees.Binary.{tip, fork}
 use Rattle.splits.specs.Least.{best, scoreEntry, splitEntry, filled}
 use Rattle.splits.specs.Ties.{tieEntry}
 use Rattle.splits.specs.Work.{Light, Scored, ScoresBelow}
-use Rattle.tables.specs.Allowed.{allowedIn}
+use Rattle.terms.specs.Allowed.{allowedIn}
 
 -- ---- the entries of one cluster
 

@@ -1,11 +1,10 @@
 // Both tables, for any weights: the score table holds the weights at first, and each entry becomes a score as the clusters rise. The third is filled from both.
-mod allowing;
 mod tied;
 mod tree;
 
-use allowing::is_allowed;
 use splits::NO_TREE;
 use splits::best_split;
+use terms::allowing::is_allowed;
 pub use tied::count_ties;
 pub use tree::collect;
 ghost use mathlib.Core.Path.{_≡_};
@@ -13,7 +12,7 @@ ghost use mathlib.Core.Bool.{Bool, true};
 ghost use Prim.Native.Nat.{ℕ, _+_, _-_, _<_, _≤_};
 ghost use lib.ListN.{length};
 ghost use Rattle.clusters.specs.Sets.{size};
-ghost use Rattle.tables.specs.Allowed.{allowedIn};
+ghost use Rattle.terms.specs.Allowed.{allowedIn};
 ghost use Rattle.tables.specs.Work.{Next, Settles, Fillable, Fills};
 
 // The score of a cluster: its own weight, once, and the score of its two parts.

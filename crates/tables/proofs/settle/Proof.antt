@@ -2,7 +2,7 @@
 use mathlib.Core.Path.{sym, _∙_}
 use borrow.Author.Needs.{needs}
 use borrow.Author.Tests.{not-true, not-false}
-use Rattle.tables.specs.Allowed.{allowedIn}
+use Rattle.terms.specs.Allowed.{allowedIn}
 use Rattle.tables.proofs.Settling.{settles-refused, settles-single, two-of-more}
 use Rattle.tables.proofs.settle.Statement.{statement}
 use Rattle.tables.proofs.settle.Tie as tie

@@ -9,8 +9,8 @@ use Rattle.clusters.specs.Sets.{single, whole}
 use Rattle.roster.specs.Roster.{names}
 use Rattle.trees.specs.Records.{recordsIn}
 use Rattle.trees.proofs.Lent.{length-recordsIn}
-use Rattle.solver.specs.Best.{bestFor, foundBy}
-use Rattle.solver.specs.declared.Found.{Found}
+use Rattle.splits.specs.Best.{bestFor, foundBy}
+use Rattle.terms.specs.declared.Found.{Found}
 use Rattle.outcomes.specs.Outcome.{allowedBy}
 use Rattle.outcomes.proofs.Telling.{retold}
 use Rattle.outcomes.proofs.Allowed.{allowed-marked, front-fits}

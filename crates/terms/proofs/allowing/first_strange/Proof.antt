@@ -1,4 +1,4 @@
--- `search::allowing::first_strange` meets its contract. The invariant: no entry that was passed is strange.
+-- `terms::allowing::first_strange` meets its contract. The invariant: no entry that was passed is strange.
 use Prim.Native.Nat.{_-_, _≤_}
 use mathlib.Core.Path.{ap, sym}
 use mathlib.Core.Bool.{not}
@@ -9,8 +9,8 @@ use native.Mathlib.Omega.{arith}
 use lib.ListN.{getD}
 use lib.Dec.{leb}
 use Rattle.roster.proofs.Least.{None, least-is, least-none}
-use Rattle.search.proofs.allowing.first_strange.Statement.{statement}
-use Rattle.search.proofs.allowing.first_strange.Tie as tie
+use Rattle.terms.proofs.allowing.first_strange.Statement.{statement}
+use Rattle.terms.proofs.allowing.first_strange.Tie as tie
 
 abbrev Inv-loop : tie.InvT-loop
 Inv-loop allowed entries a₀ a = (a ≤ entries) × None (λ b. not (leb (getD allowed b 0) 1)) 0 a

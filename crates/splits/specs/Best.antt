@@ -5,10 +5,10 @@ use mathlib.Core.List.{List}
 use lib.ListN.{replicate}
 use Rattle.trees.specs.Records.{recordOf}
 use Rattle.weights.specs.Count.{weight}
 use Rattle.splits.specs.BinaryTrees.{Binary, clustersIn}
 use Rattle.splits.specs.Least.{best, scoreOf}
-use Rattle.tables.specs.Allowed.{allowedIn}
-use Rattle.solver.specs.declared.Found.{Found}
+use Rattle.terms.specs.Allowed.{allowedIn}
+use Rattle.terms.specs.declared.Found.{Found}
 use Rattle.weights.specs.declared.Rooting.{Rooting}
 
 -- the best tree on a for these gene trees and this allowed set

@@ -1,11 +1,11 @@
--- `tables::allowing::is_allowed` meets its contract: the definition's three cases, in its order.
+-- `terms::allowing::is_allowed` meets its contract: the definition's three cases, in its order.
 use mathlib.Core.Path.{sym, _∙_}
 use borrow.Author.Needs.{needs}
 use borrow.Author.Tests.{eq-eqb, ne-eqb}
 use Rattle.clusters.specs.Sets.{size, whole}
-use Rattle.tables.specs.Allowed.{allowedIn}
-use Rattle.tables.proofs.allowing.is_allowed.Statement.{statement}
-use Rattle.tables.proofs.allowing.is_allowed.Tie as tie
+use Rattle.terms.specs.Allowed.{allowedIn}
+use Rattle.terms.proofs.allowing.is_allowed.Statement.{statement}
+use Rattle.terms.proofs.allowing.is_allowed.Tie as tie
 
 returns : tie.Need-returns
 unfolding allowedIn

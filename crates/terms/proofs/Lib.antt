@@ -1,0 +1,2 @@
+-- The mathematics of what a search is given and answers.
+pub mod Refusing

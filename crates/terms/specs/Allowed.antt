@@ -1,0 +1,21 @@
+-- The allowed clusters, given by a byte for each cluster number, and the refusal of a byte that says neither.
+use Prim.Native.Nat.{ℕ, _^_}
+use mathlib.Core.Bool.{Bool, _||_, not}
+use mathlib.Core.List.{List}
+use lib.ListN.{getD}
+use lib.Dec.{eqb, leb, ltb}
+use Rattle.clusters.specs.Sets.{whole, size}
+use Rattle.roster.specs.Roster.{least}
+use Rattle.roster.specs.Verdict.{Test}
+
+-- "Single species and the whole are allowed whether marked or not"
+unfoldable pub allowedIn : ℕ → List ℕ → ℕ → Bool
+allowedIn n bytes a = eqb (size a) 1 || eqb a (whole n) || eqb (getD bytes a 0) 1
+
+-- the first of the 2^n bytes that is not 0 or 1; 2^n where there is none
+unfoldable pub firstStrange : ℕ → List ℕ → ℕ
+firstStrange n bytes = least (λ a. not (leb (getD bytes a 0) 1)) 0 (2 ^ n)
+
+-- "13 | .. allowed byte not 0 or 1 | .. first such index"
+unfoldable pub allowedTest : ℕ → List ℕ → Test
+allowedTest n bytes = record { fault = ltb (firstStrange n bytes) (2 ^ n); number = 13; place = firstStrange n bytes }
