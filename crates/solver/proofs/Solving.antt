@@ -64,7 +64,7 @@ module _ (w : ℕ → ℕ) (ok : ℕ → Bool) (splits : List ℕ) (entries : �
 
 -- ---- both tables, for gene trees that were checked
 
-pub record Tabled (rooting : Rooting) (n : ℕ) (genes : List (List ℕ)) (allowed lentScores lentSplits scores splits : List ℕ) : Type 0 where
+pub record BothFilled (rooting : Rooting) (n : ℕ) (genes : List (List ℕ)) (allowed lentScores lentSplits scores splits : List ℕ) : Type 0 where
   pub light : Light (weight rooting genes)
   pub scoreTable : scores ≡ filled n (λ a. scoreEntry (weight rooting genes) (bestFor rooting n genes allowed a)) lentScores
   pub splitTable : splits ≡ filled n (λ a. splitEntry (bestFor rooting n genes allowed a)) lentSplits
@@ -135,11 +135,11 @@ module _ {rooting : Rooting} {n : ℕ} {genes : List ℕ} {count : ℕ} {allowed
         }
 
     -- and what stood in the split table is not seen
-    pub tabled :
+    pub both-filled :
         {scores′ splits′ : List ℕ} → Fills n allowed (backIn (all + 1) made scores) (backIn (all + 1) work splits) scores′ splits′
-        → Tabled rooting n (recordsIn count genes) allowed scores splits scores′ splits′
+        → BothFilled rooting n (recordsIn count genes) allowed scores splits scores′ splits′
     unfolding bestFor
-    tabled {scores′} {splits′} fills =
+    both-filled {scores′} {splits′} fills =
         let both = fills (weight rooting (recordsIn count genes)) weights-light holds-weights in
         record { light = weights-light; scoreTable = both .0 ∙ behind; splitTable = both .1 ∙ ap (λ (l : List ℕ). map other (upTo (2 ^ n)) ++ l) rest }
       where
@@ -162,7 +162,7 @@ module _ {rooting : Rooting} {n : ℕ} {genes : List ℕ} {count : ℕ} {allowed
 
 module _ (rooting : Rooting)
     {n : ℕ} {genes : List (List ℕ)} {allowed lentScores lentSplits scores splits : List ℕ}
-    (h : Tabled rooting n genes allowed lentScores lentSplits scores splits)
+    (h : BothFilled rooting n genes allowed lentScores lentSplits scores splits)
   where
     score-at : (b : ℕ) → b < 2 ^ n → getD scores b 0 ≡ scoreEntry (weight rooting genes) (best (weight rooting genes) (allowedIn n allowed) b)
     unfolding bestFor

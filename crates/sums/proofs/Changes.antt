@@ -9,7 +9,7 @@ use lib.ListN.{length, getD, set, length-set, replicate, drop-of-length-le}
 use lib.Seq.{getD-set-same, getD-set-other}
 use borrow.Author.Tests.{eq-eqb, ne-eqb}
 use Rattle.weights.specs.Lineages.{oneIf}
-use Rattle.weights.specs.Sums.{many, often, modulus}
+use Rattle.weights.specs.Subsets.{many, often, modulus}
 use Rattle.weights.proofs.SumOfLists.{many-nil, many-cons, many-append, many-map, many-total}
 use Rattle.weights.proofs.Shown.{ClearedTo, cleared-end}
 use Rattle.sums.specs.Work.{Changed}

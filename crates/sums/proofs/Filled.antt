@@ -13,7 +13,7 @@ use Rattle.trees.proofs.GeneRecords.{gene-small}
 use Rattle.trees.proofs.Lent.{length-recordsIn}
 use Rattle.trees.proofs.UpTo.{length-map-upTo, map-upTo}
 use Rattle.weights.specs.Count.{weight}
-use Rattle.weights.specs.Sums.{often, modulus, plusAll, minusAll, wholeSets, Tabled, zeta}
+use Rattle.weights.specs.Subsets.{often, modulus, plusAll, minusAll, wholeSets, Differences, zeta}
 use Rattle.weights.specs.declared.Rooting.{Rooting}
 use Rattle.weights.proofs.Bounds.{extra-lt-size}
 use Rattle.weights.proofs.Sums.{weight-le, valid-countable}
@@ -57,7 +57,7 @@ module _ {rooting : Rooting} {n : ℕ} {genes : List ℕ} {count : ℕ} (w : Wei
     none-at {l} e x less = ap (λ (k : List ℕ). getD k x 0) e ∙ getD-replicate {A = ℕ} (length l) x 0 0 less
 
     -- the table of the sets that are counted and taken off
-    first : Tabled n (plusAll rooting (recordsIn count genes)) (minusAll rooting (recordsIn count genes)) f
+    first : Differences n (plusAll rooting (recordsIn count genes)) (minusAll rooting (recordsIn count genes)) f
     first = record {
       sized = changed .same ∙ blank .sized;
       entries = λ x l.
@@ -72,7 +72,7 @@ module _ {rooting : Rooting} {n : ℕ} {genes : List ℕ} {count : ℕ} (w : Wei
         omega (arith, tallied .entries x less, none-at (blank-too .zeros) x less)
 
     -- the table of the whole sets
-    second : Tabled n (wholeSets (recordsIn count genes)) [] h
+    second : Differences n (wholeSets (recordsIn count genes)) [] h
     second = record {
       sized = tallied .same ∙ blank-too .sized;
       entries = λ x l. ap (λ (k : ℕ). k % modulus) (omega (arith, counted x (omega (arith, tallied .same, blank-too .sized)), often-none x));

@@ -9,7 +9,7 @@ use lib.ListN.{length, getD, drop, drop-of-length-le}
 use lib.Seq.{drop-cons}
 use Rattle.clusters.specs.Sets.{Within, union}
 use Rattle.clusters.proofs.Sets.{within-le, union-within, union-assoc}
-use Rattle.weights.specs.Sums.{many, often, odds, evens}
+use Rattle.weights.specs.Subsets.{many, often, odds, evens}
 use Rattle.weights.proofs.SumOfLists.{many-cons, many-same}
 use Rattle.weights.proofs.SumOfUnions.{many-odds, many-evens}
 use Rattle.sums.specs.Work.{either, Changed, Parts}

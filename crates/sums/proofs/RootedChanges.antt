@@ -14,7 +14,7 @@ use Rattle.trees.specs.Records.{count, listed, largest}
 use Rattle.trees.specs.Drawn.{children}
 use Rattle.trees.proofs.Children.{hierarchy-of-valid, among-children, children-once}
 use Rattle.trees.proofs.GeneRecords.{places-le}
-use Rattle.weights.specs.Sums.{often, gathered, odds, evens, innerNodes, plusBy, minusBy}
+use Rattle.weights.specs.Subsets.{often, gathered, odds, evens, innerNodes, plusBy, minusBy}
 use Rattle.weights.specs.Work.{Countable}
 use Rattle.weights.specs.declared.Rooting.the-variants.{Rooted}
 use Rattle.weights.proofs.Checked.{listed-from, first-none}

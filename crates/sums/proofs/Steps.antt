@@ -12,7 +12,7 @@ use lib.Dec.{eqb}
 use lib.Pow.{pow-add}
 use borrow.Author.Tests.{eq-eqb, ne-eqb}
 use Rattle.clusters.specs.Sets.{has, single}
-use Rattle.weights.specs.Sums.{modulus, addedIf, stepped}
+use Rattle.weights.specs.Subsets.{modulus, addedIf, stepped}
 use Rattle.weights.proofs.Zeta.{length-stepped, stepped-at}
 use Rattle.sums.specs.Work.{HalfAdded, AtMost}
 

@@ -7,7 +7,7 @@ use native.Mathlib.Numerals.{add-one}
 use native.Mathlib.Omega.{arith}
 use lib.ListN.{length, getD, set, length-set}
 use lib.Seq.{getD-set-same, getD-set-other}
-use Rattle.weights.specs.Sums.{modulus, stepped, zeta}
+use Rattle.weights.specs.Subsets.{modulus, stepped, zeta}
 use Rattle.sums.specs.Work.{Told}
 
 -- ---- the steps of all species

@@ -11,7 +11,7 @@ use lib.Seq.{getD-set-same, getD-set-other, getD-take, getD-drop}
 use Rattle.trees.specs.Records.{count as countOf, largest, recordsIn, Form}
 use Rattle.trees.proofs.Lent.{length-recordsIn, recordsFrom, records-from-first, records-next, records-from-last}
 use Rattle.weights.specs.Lineages.{oneIf}
-use Rattle.weights.specs.Sums.{often, gathered, plusBy, minusBy, plusAll, minusAll, wholeSets}
+use Rattle.weights.specs.Subsets.{often, gathered, plusBy, minusBy, plusAll, minusAll, wholeSets}
 use Rattle.weights.specs.declared.Rooting.{Rooting}
 use Rattle.weights.proofs.SumOfLists.{many-cons}
 use Rattle.sums.specs.Work.{Changed, Tallied}

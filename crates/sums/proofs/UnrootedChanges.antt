@@ -21,7 +21,7 @@ use Rattle.trees.proofs.Order.{rising-none-twice}
 use Rattle.trees.proofs.ValidTest.{tells-among, denied}
 use Rattle.weights.specs.Count.{unrootedClusters}
 use Rattle.weights.specs.Lineages.{oneIf}
-use Rattle.weights.specs.Sums.{many, often, singleOnes, largerOnes, plusBy, minusBy}
+use Rattle.weights.specs.Subsets.{many, often, singleOnes, largerOnes, plusBy, minusBy}
 use Rattle.weights.specs.Work.{Countable, complements}
 use Rattle.weights.specs.declared.Rooting.the-variants.{Unrooted}
 use Rattle.weights.proofs.Checked.{first-from, first-none}

@@ -11,7 +11,7 @@ use Rattle.trees.specs.Records.{count, listed, largest, recordsIn, AllValid}
 use Rattle.trees.specs.Valid.{among}
 use Rattle.trees.specs.Drawn.{children}
 use Rattle.trees.specs.Unrooted.{mayUnroot}
-use Rattle.weights.specs.Sums.{often, modulus, gathered, odds, evens}
+use Rattle.weights.specs.Subsets.{often, modulus, gathered, odds, evens}
 use Rattle.weights.specs.Work.{Countable, complements}
 use Rattle.weights.specs.declared.Rooting.{Rooting}
 use Rattle.weights.specs.declared.Rooting.the-variants.{Unrooted}
@@ -77,7 +77,7 @@ properOnes g = take (count g - 1) (drop 1 g)
 unfoldable pub unlisted : List ℕ → List ℕ
 unlisted g = keep (λ y. not (among y (listed g))) (complements g)
 
--- a table after each of half entries from start + half on has gained the one half before it, modulo 2^32
+-- a table after each of the half entries from start + half on has gained the entry half places before it, modulo 2^32; every other entry stays
 pub record HalfAdded (start half : ℕ) (before after : List ℕ) : Type 0 where
   pub same : length after ≡ length before
   pub gained : (a : ℕ) → start ≤ a → a < start + half → getD after (a + half) 0 ≡ (getD before (a + half) 0 + getD before a 0) % modulus
@@ -88,7 +88,8 @@ pub record HalfAdded (start half : ℕ) (before after : List ℕ) : Type 0 where
 abbrev pub AtMost : ℕ → List ℕ → Type 0
 AtMost m f = (a : ℕ) → a < length f → getD f a 0 ≤ m
 
--- the entry of each set A but the empty one told by a table of sums and by another at the other species, less a number, modulo 2^32
+-- a table told by a table of sums and another: entry 0 is 0, and the entry of any other set A is the sum of A with the other table's entry of the species outside A,
+-- less a number, modulo 2^32
 pub record Told (count : ℕ) (sums lost after : List ℕ) : Type 0 where
   pub same : length after ≡ length sums
   pub none : getD after 0 0 ≡ 0

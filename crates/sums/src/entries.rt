@@ -7,7 +7,7 @@ ghost use Prim.Native.Nat.{_<_};
 ghost use lib.ListN.{length, replicate};
 ghost use Rattle.sums.specs.Work.{either, Changed};
 
-// Zeros in all entries.
+// Zeros in all entries of both tables.
 pub(crate) fn clear(sums: &mut [u32], lost: &mut [u16])
     requires { ⌜ length (now sums) ≡ length (now lost) ⌝ }
     ensures { λ _. ⌜ now (sums .exit) ≡ replicate (length (now (sums .entry))) 0 ⌝ }

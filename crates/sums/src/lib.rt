@@ -14,7 +14,7 @@ ghost use lib.ListN.{length, replicate};
 ghost use Rattle.trees.specs.Lists.{upTo};
 ghost use Rattle.trees.specs.Records.{recordsIn};
 ghost use Rattle.weights.specs.Count.{weight};
-ghost use Rattle.weights.specs.Sums.{plusBy, minusBy, plusAll, minusAll, wholeSets};
+ghost use Rattle.weights.specs.Subsets.{plusBy, minusBy, plusAll, minusAll, wholeSets};
 ghost use Rattle.sums.specs.Work.{Changed, Tallied, Summable, AllSummable, Told, Weighable};
 
 // What one gene tree adds and takes off, by its rooting.
@@ -43,7 +43,7 @@ fn add_trees(rooting: Rooting, genes: &[u16], count: usize, sums: &mut [u32])
     }
 }
 
-// The number of gene trees by their whole set.
+// The number of gene trees by their whole set: one more at the entry of each tree's, in a table that was cleared before.
 fn count_sets(genes: &[u16], count: usize, lost: &mut [u16])
     requires { ⌜ count ≤ 4096 ⌝ }
     requires { ⌜ 32 * count ≤ length (now genes) ⌝ }
@@ -62,7 +62,8 @@ fn count_sets(genes: &[u16], count: usize, lost: &mut [u16])
     }
 }
 
-// Each sum with the number of gene trees that have none of its species, and less the number of all gene trees.
+// Entry 0 becomes 0. Every other sum gains the second table's entry of the species outside its set, which for `fill` is the number of gene trees that have none of the set's,
+// and loses the number of all gene trees, modulo 2^32.
 fn tell(count: usize, sums: &mut [u32], lost: &[u16])
     requires { ⌜ count ≤ 4096 ⌝ }
     requires { ⌜ 1 ≤ length (now sums) ⌝ }

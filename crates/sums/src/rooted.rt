@@ -1,11 +1,12 @@
-// What a gene tree with its root adds and takes off: for each node the unions of some of its children, by inclusion and exclusion.
+// What a gene tree with its root adds and takes off, by inclusion and exclusion: its whole set is counted; of each node of more than one species the unions of an odd number
+// of children are counted, and the node itself and the unions of an even number, which is not none, taken off.
 use crate::entries::change;
 ghost use mathlib.Core.List.{[], _∷_, map};
 ghost use Prim.Native.Nat.{_≤_};
 ghost use lib.ListN.{length, getD, drop};
 ghost use Rattle.clusters.specs.Sets.{union};
 ghost use Rattle.trees.specs.Records.{count, listed};
-ghost use Rattle.weights.specs.Sums.{odds, evens, plusBy, minusBy};
+ghost use Rattle.weights.specs.Subsets.{odds, evens, plusBy, minusBy};
 ghost use Rattle.weights.specs.Work.{Countable};
 ghost use Rattle.weights.specs.declared.Rooting.the-variants.{Rooted};
 ghost use Rattle.sums.specs.Work.{either, Changed, Summable, ChildrenIn, Parts, nodePlus, nodeMinus};

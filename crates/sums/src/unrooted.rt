@@ -4,7 +4,7 @@ use records::among;
 ghost use mathlib.Core.List.{map};
 ghost use lib.ListN.{length};
 ghost use Rattle.trees.specs.Records.{largest};
-ghost use Rattle.weights.specs.Sums.{plusBy, minusBy};
+ghost use Rattle.weights.specs.Subsets.{plusBy, minusBy};
 ghost use Rattle.weights.specs.declared.Rooting.the-variants.{Unrooted};
 ghost use Rattle.sums.specs.Work.{Changed, Summable, ownPlus, ownMinus, properOnes, unlisted};
 

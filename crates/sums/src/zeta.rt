@@ -3,10 +3,10 @@ use std::num::wrapping_add_u32;
 ghost use mathlib.Core.Path.{_≡_};
 ghost use Prim.Native.Nat.{ℕ, _+_, _^_, _<_, _≤_};
 ghost use lib.ListN.{length, getD};
-ghost use Rattle.weights.specs.Sums.{stepped, zeta};
+ghost use Rattle.weights.specs.Subsets.{stepped, zeta};
 ghost use Rattle.sums.specs.Work.{HalfAdded, AtMost};
 
-// Adds each of half entries from start on to the one half behind it.
+// In both tables, adds each of the half entries from start on to the entry half places behind it; every other entry stays.
 fn add_half(start: usize, half: usize, sums: &mut [u32], lost: &mut [u16])
     requires { ⌜ start + half + half ≤ length (now sums) ⌝ }
     requires { ⌜ length (now sums) ≡ length (now lost) ⌝ }

@@ -24,7 +24,7 @@ use Rattle.weights.proofs.CountedDown.{k-of-record}
 -- ---- never more
 
 -- a tree within A is one lineage as drawn, too
-drawn-held : (a : ℕ) (t : Tree) → within (cluster t) a ≡ true → lineagesDrawn a t ≡ 1
+pub drawn-held : (a : ℕ) (t : Tree) → within (cluster t) a ≡ true → lineagesDrawn a t ≡ 1
 unfolding lineagesDrawn
 drawn-held a (leaf i b) e = rw e refl
 drawn-held a (node t f b) e = rw e refl
@@ -140,7 +140,8 @@ module _ {s : ℕ} {g : List ℕ} (v : ValidOn s g) (small : s < 2 ^ 16) (a : �
   k-lineages : kOf (listed g) a ≡ lineages a (drawn (listed g) s)
   k-lineages = ap (λ (r : List ℕ). kOf (listed r) a) (sym (drawn-record v small)) ∙ k-of-record a (drawn-on v small)
 
-  drawn-lineages : kDrawn (listed g) a ≡ lineagesDrawn a (drawn (listed g) s)
+  -- 01's count is that of the tree that the record draws
+  pub drawn-lineages : kDrawn (listed g) a ≡ lineagesDrawn a (drawn (listed g) s)
   drawn-lineages = ap (λ (r : List ℕ). kDrawn (listed r) a) (sym (drawn-record v small)) ∙ drawn-of-record a (drawn-on v small)
 
   -- the count of #101 is never more than 01's

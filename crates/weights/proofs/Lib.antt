@@ -23,6 +23,7 @@ pub mod SumOfLists
 pub mod SumOfUnions
 pub mod SumOfRooted
 pub mod SumOfPairs
+pub mod SumOfBinary
 pub mod SumOfUnrooted
 pub mod Zeta
 pub mod SumOfWeights

@@ -9,7 +9,7 @@ use Rattle.trees.specs.Lists.{Among, NoneTwice, keepIf, keep, total}
 use Rattle.trees.proofs.Listing.{keep-append, keep-among, among-keep, none-twice-keep}
 use Rattle.trees.proofs.Redrawing.{either-side}
 use Rattle.weights.specs.Lineages.{oneIf}
-use Rattle.weights.specs.Sums.{many, gathered}
+use Rattle.weights.specs.Subsets.{many, gathered}
 use Rattle.weights.proofs.Tops.{same-length}
 use Rattle.weights.proofs.Joining.{keep-same}
 

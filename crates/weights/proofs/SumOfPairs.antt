@@ -24,7 +24,7 @@ use Rattle.trees.proofs.MayUnroot.{apart-rest}
 use Rattle.trees.proofs.ValidTest.{Tells, denied}
 use Rattle.weights.specs.Count.{maximalWithin, kDrawn}
 use Rattle.weights.specs.Lineages.{oneIf}
-use Rattle.weights.specs.Sums.{many}
+use Rattle.weights.specs.Subsets.{many}
 use Rattle.weights.proofs.Tops.{Top, among-tops, tops-among, tops-once, drawn-tops, drawn-counts, same-length}
 use Rattle.weights.proofs.SumOfLists.{many-none, many-total, total-add}
 

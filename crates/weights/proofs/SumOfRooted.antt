@@ -23,7 +23,7 @@ use Rattle.trees.proofs.ValidTest.{tells-every, tells-within}
 use Rattle.trees.proofs.GeneRecords.{largest-of-valid}
 use Rattle.weights.specs.Count.{holdsMaximal, kOf, oneOr}
 use Rattle.weights.specs.Lineages.{oneIf}
-use Rattle.weights.specs.Sums.{many, gathered, odds, evens, innerNodes, plusBy, minusBy}
+use Rattle.weights.specs.Subsets.{many, gathered, odds, evens, innerNodes, plusBy, minusBy}
 use Rattle.weights.specs.declared.Rooting.the-variants.{Rooted}
 use Rattle.weights.proofs.Joining.{Joins, Clusters, tells-joins, tells-same, joining, joining-inside, passed-inside, k-either}
 use Rattle.weights.proofs.SumOfLists.{many-cons, many-total, many-same, many-kept, many-gathered, among-gathered, total-add}

@@ -13,7 +13,7 @@ use Rattle.trees.specs.Lists.{Among, NoneTwice, some, insert, sorted}
 use Rattle.trees.proofs.Order.{rising-sorted, among-sorted, sorted-among, sorted-same}
 use Rattle.trees.proofs.Redrawing.{either-side}
 use Rattle.weights.specs.Lineages.{oneIf}
-use Rattle.weights.specs.Sums.{many, odds, evens}
+use Rattle.weights.specs.Subsets.{many, odds, evens}
 use Rattle.weights.proofs.SumOfLists.{many-nil, many-cons, many-append, many-map, many-total, many-same, many-none}
 
 -- how many of the unions with c pass

@@ -25,7 +25,7 @@ use Rattle.trees.proofs.Redrawing.{either-side}
 use Rattle.trees.proofs.UnrootingChildren.{outside-species, parent, parent-not-single}
 use Rattle.weights.specs.Count.{unrootedClusters, kDrawn, kBy, oneOr}
 use Rattle.weights.specs.Lineages.{oneIf}
-use Rattle.weights.specs.Sums.{many, singleOnes, largerOnes, plusBy, minusBy}
+use Rattle.weights.specs.Subsets.{many, singleOnes, largerOnes, plusBy, minusBy}
 use Rattle.weights.specs.declared.Rooting.the-variants.{Unrooted}
 use Rattle.weights.proofs.Tops.{drawn-counts}
 use Rattle.weights.proofs.UnrootedClusters.{OfUnrooted, among-unrooted, unrooted-among, unrooted-once}

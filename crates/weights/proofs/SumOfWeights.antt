@@ -17,7 +17,7 @@ use Rattle.trees.proofs.MayUnroot.{apart-rest, Resolved, rooted-resolved, may-u
 use Rattle.trees.proofs.ValidTest.{tells-within}
 use Rattle.weights.specs.Count.{extra, weight}
 use Rattle.weights.specs.Lineages.{oneIf}
-use Rattle.weights.specs.Sums.{many, gathered, plusBy, minusBy, plusAll, minusAll, wholeSets, modulus, Tabled, zeta}
+use Rattle.weights.specs.Subsets.{many, gathered, plusBy, minusBy, plusAll, minusAll, wholeSets, modulus, Differences, zeta}
 use Rattle.weights.specs.declared.Rooting.{Rooting}
 use Rattle.weights.specs.declared.Rooting.the-variants.{Rooted, Unrooted}
 use Rattle.weights.proofs.Joining.{tells-same}
@@ -145,7 +145,7 @@ module _ {n : ℕ} (rooting : Rooting) (genes : List (List ℕ)) (few : n ≤ 16
   -- a table of the sets counted and taken off and a table of the whole sets, both transformed, tell the weight of every A: it is the number below 2^32 that is,
   -- modulo 2^32, what the first has for A and the second for the other species, less the number of gene trees
   pub weight-told :
-      {f h : List ℕ} → Tabled n (plusAll rooting genes) (minusAll rooting genes) f → Tabled n (wholeSets genes) [] h → length genes ≤ 4096
+      {f h : List ℕ} → Differences n (plusAll rooting genes) (minusAll rooting genes) f → Differences n (wholeSets genes) [] h → length genes ≤ 4096
       → (a entry : ℕ) → 1 ≤ a → a < 2 ^ n → entry < modulus
       → (entry + length genes) % modulus ≡ (getD (zeta n f) a 0 + getD (zeta n h) (whole n - a) 0) % modulus
       → entry ≡ weight rooting genes a

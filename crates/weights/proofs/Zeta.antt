@@ -19,7 +19,7 @@ use Rattle.trees.proofs.Totals.{total-append, total-same, total-le, one-le-tota
 use Rattle.trees.proofs.UpTo.{length-map-upTo, map-upTo, among-upTo, upTo-among}
 use Rattle.trees.proofs.ValidTest.{Tells, denied}
 use Rattle.weights.specs.Lineages.{oneIf}
-use Rattle.weights.specs.Sums.{many, often, modulus, Tabled, sumOver, addedIf, stepped, zeta}
+use Rattle.weights.specs.Subsets.{many, often, modulus, Differences, sumOver, addedIf, stepped, zeta}
 use Rattle.weights.proofs.SumOfLists.{many-nil, many-cons, total-add, total-none}
 
 -- ---- sums over the numbers below n that pass a test
@@ -252,7 +252,7 @@ total-modulo f g (x ∷ l) h = add-same (f x) (total (map f l)) (g x) (total (ma
 
 -- the transform of such a table says of every A how many sets of one list lie within A less how many of the other, modulo 2^32
 pub zeta-of-lists :
-    {n : ℕ} {plus minus f : List ℕ} → Tabled n plus minus f → ((x : ℕ) → Among x plus → x < 2 ^ n) → ((x : ℕ) → Among x minus → x < 2 ^ n) → (a : ℕ) → a < 2 ^ n
+    {n : ℕ} {plus minus f : List ℕ} → Differences n plus minus f → ((x : ℕ) → Among x plus → x < 2 ^ n) → ((x : ℕ) → Among x minus → x < 2 ^ n) → (a : ℕ) → a < 2 ^ n
     → (getD (zeta n f) a 0 + many (λ x. within x a) minus) % modulus ≡ many (λ x. within x a) plus % modulus
 unfolding sumOver
 zeta-of-lists {n} {plus} {minus} {f} t below-plus below-minus a small =

@@ -2,4 +2,4 @@ pub mod Count
 pub mod Lineages
 pub mod Marks
 pub mod Work
-pub mod Sums
+pub mod Subsets

@@ -5,7 +5,7 @@ use borrow.Author.Needs.{needs}
 use native.Mathlib.Omega.{arith}
 use lib.ListN.{length}
 use Rattle.trees.specs.Records.{recordsIn}
-use Rattle.solver.proofs.Solving.{Tabled, part-sized, back-length, all-few, all-fits, all-splits, weights-fillable, tabled, solves-none, solves-chooses, solves-found}
+use Rattle.solver.proofs.Solving.{BothFilled, part-sized, back-length, all-few, all-fits, all-splits, weights-fillable, both-filled, solves-none, solves-chooses, solves-found}
 use Rattle.solver.proofs.solve.Statement.{statement}
 use Rattle.solver.proofs.solve.Tie as tie
 
@@ -24,12 +24,12 @@ part-lengths c =
 -- behind the second call both tables are there
 both-tables :
     (c : tie.After-fill2) → let args = c .before .before .before .before .before .before .before .before .before .before .before .before .before .before .before .args in
-    Tabled (args .rooting) (args .n) (recordsIn (args .count) (args .genes .now)) (args .allowed .now) (args .scores .now) (args .splits .now)
+    BothFilled (args .rooting) (args .n) (recordsIn (args .count) (args .genes .now)) (args .allowed .now) (args .scores .now) (args .splits .now)
     (c .fill2 .last .1 .1 .0) (c .fill2 .last .1 .1 .1 .0)
 both-tables c =
     let weighed = c .before .before .before .before .before .before .before in
     let all = weighed .before .before .before in
-    tabled (all .before .before .before .before .before .pre) (all .whole .ensures) (weighed .fill .last .1 .1 .1 .1 .1 .0) (weighed .fill .ensures) (part-lengths weighed .1) (c .fill2 .ensures)
+    both-filled (all .before .before .before .before .before .pre) (all .whole .ensures) (weighed .fill .last .1 .1 .1 .1 .1 .0) (weighed .fill .ensures) (part-lengths weighed .1) (c .fill2 .ensures)
 
 -- and as long as they were
 same-tables :

@@ -5,7 +5,7 @@ use mathlib.Core.Path.{_≡_, refl, sym, ap, _∙_, subst}
 use borrow.Author.Needs.{needs}
 use native.Mathlib.Omega.{arith}
 use lib.ListN.{length}
-use Rattle.weights.specs.Sums.{zeta}
+use Rattle.weights.specs.Subsets.{zeta}
 use Rattle.weights.proofs.Zeta.{length-zeta}
 use Rattle.sums.specs.Work.{AtMost}
 use Rattle.sums.proofs.Telling.{zeta-none, zeta-more}

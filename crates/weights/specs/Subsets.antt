@@ -86,7 +86,7 @@ abbrev pub modulus : ℕ
 modulus = 2 ^ 32
 
 -- a table with an entry for each set of n species: how often it stands in one list less how often in another, modulo 2^32
-pub record Tabled (n : ℕ) (plus minus f : List ℕ) : Type 0 where
+pub record Differences (n : ℕ) (plus minus f : List ℕ) : Type 0 where
   pub sized : length f ≡ 2 ^ n
   pub entries : (x : ℕ) → x < 2 ^ n → (getD f x 0 + often x minus) % modulus ≡ often x plus % modulus
 
