@@ -14,11 +14,12 @@ enum {
     layout_of_record = 1 / (sizeof(st_Record) == 64),
     layout_of_reply = 1 / (offsetof(st_Reply, number) == 0 && offsetof(st_Reply, place) == 8 && offsetof(st_Reply, value) == 16),
     layout_of_reading = 1 / (offsetof(st_Reading, place) == 8 && offsetof(st_Reading, next) == 16 && offsetof(st_Reading, numbers) == 24),
-    layout_of_found = 1 / (offsetof(st_Found, place) == 8 && offsetof(st_Found, score) == 16 && offsetof(st_Found, numbers) == 24)
+    layout_of_found = 1 / (offsetof(st_Found, place) == 8 && offsetof(st_Found, score) == 16 && offsetof(st_Found, numbers) == 24),
+    layout_of_tied = 1 / (offsetof(st_Tied, place) == 8 && offsetof(st_Tied, score) == 16 && offsetof(st_Tied, ties) == 24 && offsetof(st_Tied, numbers) == 32)
 };
 
 /* What lent buffers hold before a call. */
-enum { byte_before = 238, score_before = 7, split_before = 9 };
+enum { byte_before = 238, score_before = 7, split_before = 9, tie_before = 5 };
 
 typedef struct {
     uint8_t *at;
@@ -34,6 +35,11 @@ typedef struct {
     uint32_t *at;
     size_t length;
 } Scores;
+
+typedef struct {
+    uint64_t *at;
+    size_t length;
+} Ties;
 
 static const char *program;    /* the command that runs the program */
 static Bytes line;             /* the case that is run, without its line feed */
@@ -176,8 +182,14 @@ static Numbers lent_splits(size_t k) {
     return out;
 }
 
-static unsigned long mixed(unsigned long h, unsigned long x) {
-    return (h * 31 + x + 1) % 1000003;
+static Ties lent_ties(size_t k) {
+    Ties out = {room(number(k), sizeof *out.at), number(k)};
+    for (size_t i = 0; i < out.length; i++) out.at[i] = tie_before;
+    return out;
+}
+
+static unsigned long mixed(unsigned long h, uint64_t x) {
+    return (unsigned long)((h * 31 + x % 1000003 + 1) % 1000003);
 }
 
 static void show_bytes(Bytes s) {
@@ -190,7 +202,13 @@ static void show_tables(Scores scores, Numbers splits) {
     unsigned long h = 7, g = 7;
     for (size_t i = 0; i < scores.length; i++) h = mixed(h, scores.at[i]);
     for (size_t i = 0; i < splits.length; i++) g = mixed(g, splits.at[i]);
-    printf(" : %lu %lu\n", h, g);
+    printf(" : %lu %lu", h, g);
+}
+
+static void show_ties(Ties ties) {
+    unsigned long h = 7;
+    for (size_t i = 0; i < ties.length; i++) h = mixed(h, ties.at[i]);
+    printf(" %lu", h);
 }
 
 /* ---- answers */
@@ -282,6 +300,22 @@ static void search(void) {
     show(r.number, r.place, r.score);
     show_record(r.numbers);
     show_tables(scores, splits);
+    printf("\n");
+}
+
+static void search_ties(void) {
+    Numbers genes = numbers(1), splits = lent_splits(5);
+    Bytes allowed = flags(3);
+    Scores scores = lent_scores(4);
+    Ties ties = lent_ties(6);
+    st_Tied r = (unrooted() ? st_search_ties_unrooted : st_search_ties)(number(0), genes.at, genes.length, number(2), allowed.at, allowed.length, scores.at, scores.length,
+                                                                        splits.at, splits.length, ties.at, ties.length);
+    show(r.number, r.place, r.score);
+    printf(" %llu", (unsigned long long)r.ties);
+    show_record(r.numbers);
+    show_tables(scores, splits);
+    show_ties(ties);
+    printf("\n");
 }
 
 /* The program has no C name: it is run on the input, and writes its report where the answers go. */
@@ -298,8 +332,8 @@ static const struct {
     char letter;
     void (*run)(void);
 } calls[] = {
-    {'J', judge}, {'R', read_species}, {'G', read_gene}, {'T', read_supported}, {'W', write_tree}, {'K', weigh}, {'S', score}, {'M', mark}, {'F', search},
-    {'k', weigh}, {'s', score}, {'m', mark}, {'f', search}, {'P', run_program},
+    {'J', judge}, {'R', read_species}, {'G', read_gene}, {'T', read_supported}, {'W', write_tree}, {'K', weigh}, {'S', score}, {'M', mark}, {'F', search}, {'E', search_ties},
+    {'k', weigh}, {'s', score}, {'m', mark}, {'f', search}, {'e', search_ties}, {'P', run_program},
 };
 
 static void run(void) {

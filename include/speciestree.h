@@ -36,6 +36,15 @@ typedef struct {
     uint16_t numbers[32];
 } st_Found;
 
+/* ties: how many binary trees over the allowed clusters reach the score, the one whose record is given among them; 0 on a refusal */
+typedef struct {
+    uint32_t number;
+    size_t place;
+    size_t score;
+    uint64_t ties;
+    uint16_t numbers[32];
+} st_Tied;
+
 /* value: how many species the roster line has. Its names are 1 to 15 printable bytes each, written bare (letters, digits, underscores
    that stand for blanks) or between single quotes (a quote written twice), with one space between two; leaves and inner nodes of a
    text have theirs in the same two forms */
@@ -68,7 +77,13 @@ st_Reply st_mark(size_t n, const uint16_t *genes, size_t genes_length, size_t co
 st_Found st_search(size_t n, const uint16_t *genes, size_t genes_length, size_t count, const uint8_t *allowed, size_t allowed_length,
                    uint32_t *scores, size_t scores_length, uint16_t *splits, size_t splits_length);
 
-/* The same four for gene trees without a root: the clusters of a gene record are its own and the complement of each but the whole, so
+/* the same, and how many binary trees over the allowed clusters reach the least score; a third table is filled, with how many trees
+   on each cluster reach that cluster's least score */
+st_Tied st_search_ties(size_t n, const uint16_t *genes, size_t genes_length, size_t count, const uint8_t *allowed,
+                       size_t allowed_length, uint32_t *scores, size_t scores_length, uint16_t *splits, size_t splits_length,
+                       uint64_t *ties, size_t ties_length);
+
+/* The same five for gene trees without a root: the clusters of a gene record are its own and the complement of each but the whole, so
    that it does not matter where the root was drawn. A gene tree has to have every species, and each inner node two children, the root
    two or three; else 19 */
 st_Reply st_weight_unrooted(size_t n, const uint16_t *genes, size_t genes_length, size_t count, size_t cluster);
@@ -79,6 +94,10 @@ st_Reply st_mark_unrooted(size_t n, const uint16_t *genes, size_t genes_length, 
 
 st_Found st_search_unrooted(size_t n, const uint16_t *genes, size_t genes_length, size_t count, const uint8_t *allowed,
                             size_t allowed_length, uint32_t *scores, size_t scores_length, uint16_t *splits, size_t splits_length);
+
+st_Tied st_search_ties_unrooted(size_t n, const uint16_t *genes, size_t genes_length, size_t count, const uint8_t *allowed,
+                                size_t allowed_length, uint32_t *scores, size_t scores_length, uint16_t *splits, size_t splits_length,
+                                uint64_t *ties, size_t ties_length);
 
 #ifdef __cplusplus
 }

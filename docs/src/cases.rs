@@ -9,6 +9,7 @@ use std::fmt::Write;
 const BYTE: u8 = 238;
 const SCORE: u32 = 7;
 const SPLIT: u16 = 9;
+const TIE: u64 = 5;
 
 fn decimal(s: &[u8], at: &mut usize) -> usize {
     let mut value = 0;
@@ -84,9 +85,14 @@ fn record(field: &[u8]) -> Record {
     numbers(field).try_into().unwrap()
 }
 
+/// Bytes, each written as a number.
+fn flags(field: &[u8]) -> Vec<u8> {
+    numbers(field).into_iter().map(|x| x as u8).collect()
+}
+
 /// A buffer's fingerprint.
-fn mixed(values: impl Iterator<Item = usize>) -> usize {
-    values.fold(7, |h, x| (h * 31 + x + 1) % 1_000_003)
+fn mixed<T: Copy + Into<u64>>(entries: &[T]) -> u64 {
+    entries.iter().fold(7, |h, &x| (h * 31 + x.into() + 1) % 1_000_003)
 }
 
 fn reply(line: &mut String, answer: &Result<usize, Refusal>) {
@@ -102,6 +108,30 @@ fn listed(line: &mut String, r: &Record) {
     for x in &r[..upto] {
         write!(line, " {x}").unwrap();
     }
+}
+
+fn searched(line: &mut String, rooting: Rooting, field: &[&[u8]]) {
+    let (mut scores, mut splits) = (vec![SCORE; number(field[4])], vec![SPLIT; number(field[5])]);
+    match search::search(rooting, number(field[0]), &numbers(field[1]), number(field[2]), &flags(field[3]), &mut scores, &mut splits) {
+        Ok((score, record)) => {
+            write!(line, "0 0 {score}").unwrap();
+            listed(line, &record);
+        }
+        Err((number, place)) => write!(line, "{number} {place} 0").unwrap(),
+    }
+    write!(line, " : {} {}", mixed(&scores), mixed(&splits)).unwrap();
+}
+
+fn searched_with_ties(line: &mut String, rooting: Rooting, field: &[&[u8]]) {
+    let (mut scores, mut splits, mut ties) = (vec![SCORE; number(field[4])], vec![SPLIT; number(field[5])], vec![TIE; number(field[6])]);
+    match search::search_ties(rooting, number(field[0]), &numbers(field[1]), number(field[2]), &flags(field[3]), &mut scores, &mut splits, &mut ties) {
+        Ok((score, count, record)) => {
+            write!(line, "0 0 {score} {count}").unwrap();
+            listed(line, &record);
+        }
+        Err((number, place)) => write!(line, "{number} {place} 0 0").unwrap(),
+    }
+    write!(line, " : {} {} {}", mixed(&scores), mixed(&splits), mixed(&ties)).unwrap();
 }
 
 /// The answer to a case, with its line feed.
@@ -127,7 +157,7 @@ pub fn answer(case: &[u8]) -> Vec<u8> {
             let mut out = vec![BYTE; number(field[2])];
             let answer = writer::write(&bytes(field[0]), &record(field[1]), &mut out);
             reply(&mut line, &answer);
-            write!(line, " {} ", mixed(out.iter().map(|&b| b as usize))).unwrap();
+            write!(line, " {} ", mixed(&out)).unwrap();
             line.push_str(std::str::from_utf8(&out[..answer.unwrap_or(0)]).unwrap());
         }
         b'K' | b'k' => reply(&mut line, &lineages::weight(rooting, number(field[0]), &numbers(field[1]), number(field[2]), number(field[3]))),
@@ -136,23 +166,10 @@ pub fn answer(case: &[u8]) -> Vec<u8> {
             let mut out = vec![BYTE; number(field[3])];
             let answer = lineages::mark(rooting, number(field[0]), &numbers(field[1]), number(field[2]), &mut out);
             reply(&mut line, &answer.map(|()| 0));
-            write!(line, " {}", mixed(out.iter().map(|&b| b as usize))).unwrap();
+            write!(line, " {}", mixed(&out)).unwrap();
         }
-        b'F' | b'f' => {
-            let allowed: Vec<u8> = numbers(field[3]).into_iter().map(|x| x as u8).collect();
-            let mut scores = vec![SCORE; number(field[4])];
-            let mut splits = vec![SPLIT; number(field[5])];
-            match search::search(rooting, number(field[0]), &numbers(field[1]), number(field[2]), &allowed, &mut scores, &mut splits) {
-                Ok((score, record)) => {
-                    write!(line, "0 0 {score}").unwrap();
-                    listed(&mut line, &record);
-                }
-                Err((number, place)) => write!(line, "{number} {place} 0").unwrap(),
-            }
-            let score_mix = mixed(scores.iter().map(|&x| x as usize));
-            let split_mix = mixed(splits.iter().map(|&x| x as usize));
-            write!(line, " : {score_mix} {split_mix}").unwrap();
-        }
+        b'F' | b'f' => searched(&mut line, rooting, &field),
+        b'E' | b'e' => searched_with_ties(&mut line, rooting, &field),
         b'P' => return report::report(&bytes(field[0])),
         other => panic!("no call is named {}", other as char),
     }

@@ -2,7 +2,7 @@
 use crate::lineages::{self, Rooting};
 use crate::reader::{read, Kind};
 use crate::roster::names;
-use crate::search::search;
+use crate::search::search_ties;
 use crate::writer::text;
 use crate::{Refusal, TEXT};
 
@@ -59,10 +59,10 @@ fn solve(input: &[u8]) -> Result<Vec<u8>, Refusal> {
     if !all {
         lineages::mark(rooting, n, &genes, count, &mut allowed).map_err(in_input)?;
     }
-    let (mut scores, mut splits) = (vec![0; 1 << n], vec![0; 1 << n]);
-    let (score, record) = search(rooting, n, &genes, count, &allowed, &mut scores, &mut splits).map_err(in_input)?;
+    let (mut scores, mut splits, mut table) = (vec![0; 1 << n], vec![0; 1 << n], vec![0; 1 << n]);
+    let (score, ties, record) = search_ties(rooting, n, &genes, count, &allowed, &mut scores, &mut splits, &mut table).map_err(in_input)?;
     let tree = String::from_utf8(text(&names, &record)).unwrap();
-    Ok(format!("taxa {n} genes {count}\nscore {score}\n{tree}\n").into_bytes())
+    Ok(format!("taxa {n} genes {count}\nscore {score}\nties {ties}\n{tree}\n").into_bytes())
 }
 
 pub fn report(input: &[u8]) -> Vec<u8> {

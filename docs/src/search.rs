@@ -13,13 +13,8 @@ fn allowed_in(n: usize, allowed: &[u8], a: usize) -> bool {
 fn lows(a: usize) -> impl Iterator<Item = usize> {
     let low = a & a.wrapping_neg();
     let rest = a - low;
-    let mut parts = Vec::new();
-    let mut s = rest;
-    while s > 0 {
-        s = (s - 1) & rest;
-        parts.push(low + s);
-    }
-    parts.into_iter().rev()
+    // the parts of the rest from 0 up, but for the rest itself
+    std::iter::successors(Some(0), move |s: &usize| Some(s.wrapping_sub(rest) & rest)).take_while(move |&s| s != rest).map(move |s| low + s)
 }
 
 /// Both tables of 2^n entries, by the dynamic program.
@@ -71,20 +66,59 @@ fn trees_on(a: usize) -> Vec<Vec<usize>> {
     all
 }
 
+/// All binary trees on a over allowed clusters, in 01's order.
+fn trees_over(n: usize, allowed: &[u8], a: usize) -> Vec<Vec<usize>> {
+    trees_on(a).into_iter().filter(|t| t.iter().all(|&x| allowed_in(n, allowed, x))).collect()
+}
+
+fn score_of(weights: &[u32], t: &[usize]) -> u32 {
+    t.iter().map(|&x| weights[x]).sum()
+}
+
 /// Both tables by brute force: the first least of all trees over allowed clusters, for each cluster.
 pub fn brute(n: usize, weights: &[u32], allowed: &[u8]) -> (Vec<u32>, Vec<u16>) {
     let size = 1 << n;
     let (mut scores, mut splits) = (vec![NO_TREE; size], vec![0u16; size]);
     for a in 1..size {
-        let over: Vec<Vec<usize>> = trees_on(a).into_iter().filter(|t| t.iter().all(|&x| allowed_in(n, allowed, x))).collect();
-        let score = |t: &Vec<usize>| t.iter().map(|&x| weights[x]).sum::<u32>();
         // min_by_key answers the first of equals
-        if let Some(t) = over.iter().min_by_key(|t| score(t)) {
-            scores[a] = score(t);
+        if let Some(t) = trees_over(n, allowed, a).iter().min_by_key(|t| score_of(weights, t)) {
+            scores[a] = score_of(weights, t);
             splits[a] = if t.len() == 1 { 0 } else { t[1] as u16 };
         }
     }
     (scores, splits)
+}
+
+/// How many trees over allowed clusters reach the least score, for each cluster (02, #111): they are counted one by one.
+pub fn brute_ties(n: usize, weights: &[u32], allowed: &[u8]) -> Vec<u64> {
+    let mut ties = vec![0; 1 << n];
+    for (a, count) in ties.iter_mut().enumerate().skip(1) {
+        let scores: Vec<u32> = trees_over(n, allowed, a).iter().map(|t| score_of(weights, t)).collect();
+        let least = scores.iter().min();
+        *count = scores.iter().filter(|&score| Some(score) == least).count() as u64;
+    }
+    ties
+}
+
+/// The same by the score table: a split that reaches the least score has a tree for each pair of least trees on its two parts.
+pub fn ties_by_splits(weights: &[u32], scores: &[u32]) -> Vec<u64> {
+    let mut ties = vec![0; scores.len()];
+    for a in 1..scores.len() {
+        if scores[a] == NO_TREE {
+            continue;
+        }
+        if a.count_ones() == 1 {
+            ties[a] = 1;
+            continue;
+        }
+        for part in lows(a) {
+            let (x, y) = (scores[part], scores[a - part]);
+            if x != NO_TREE && y != NO_TREE && x + y + weights[a] == scores[a] {
+                ties[a] += ties[part] * ties[a - part];
+            }
+        }
+    }
+    ties
 }
 
 fn collect(splits: &[u16], a: usize, found: &mut Vec<u16>) {
@@ -111,20 +145,47 @@ pub fn weights(rooting: Rooting, n: usize, genes: &[Record]) -> Vec<u32> {
 
 /// The score and the record of the tree; both tables are filled where the tree is looked for, also on 14.
 pub fn search(rooting: Rooting, n: usize, genes: &[u16], count: usize, allowed: &[u8], scores: &mut [u32], splits: &mut [u16]) -> Result<(usize, Record), Refusal> {
-    shape(n, genes, count, &[allowed.len(), scores.len(), splits.len()])?;
-    let genes = records(rooting, n, genes, count)?;
+    let weights = checked(rooting, n, genes, count, allowed, &[allowed.len(), scores.len(), splits.len()])?;
+    fill(n, &weights, allowed, scores, splits);
+    tree(n, scores, splits)
+}
+
+/// The score, how many trees reach it, and the record of the first; a third table is filled as the other two (02, #111).
+pub fn search_ties(
+    rooting: Rooting, n: usize, genes: &[u16], count: usize, allowed: &[u8], scores: &mut [u32], splits: &mut [u16], ties: &mut [u64],
+) -> Result<(usize, u64, Record), Refusal> {
+    let weights = checked(rooting, n, genes, count, allowed, &[allowed.len(), scores.len(), splits.len(), ties.len()])?;
+    fill(n, &weights, allowed, scores, splits);
     let size = 1 << n;
-    if let Some(index) = allowed[..size].iter().position(|&b| b > 1) {
+    let counted = if n <= 6 { brute_ties(n, &weights, allowed) } else { ties_by_splits(&weights, &scores[..size]) };
+    ties[..size].copy_from_slice(&counted);
+    let (score, record) = tree(n, scores, splits)?;
+    Ok((score, ties[size - 1], record))
+}
+
+/// The weights of all clusters, or a refusal that comes before 14; `lent` has the lengths of the allowed set and of the tables.
+fn checked(rooting: Rooting, n: usize, genes: &[u16], count: usize, allowed: &[u8], lent: &[usize]) -> Result<Vec<u32>, Refusal> {
+    shape(n, genes, count, lent)?;
+    let genes = records(rooting, n, genes, count)?;
+    if let Some(index) = allowed[..1 << n].iter().position(|&b| b > 1) {
         return Err((13, index));
     }
-    let weights = weights(rooting, n, &genes);
-    let (s, p) = if n <= 6 { brute(n, &weights, allowed) } else { tables(n, &weights, allowed) };
-    scores[..size].copy_from_slice(&s);
-    splits[..size].copy_from_slice(&p);
-    if s[size - 1] == NO_TREE {
+    Ok(weights(rooting, n, &genes))
+}
+
+fn fill(n: usize, weights: &[u32], allowed: &[u8], scores: &mut [u32], splits: &mut [u16]) {
+    let (s, p) = if n <= 6 { brute(n, weights, allowed) } else { tables(n, weights, allowed) };
+    scores[..1 << n].copy_from_slice(&s);
+    splits[..1 << n].copy_from_slice(&p);
+}
+
+/// The tree that the tables choose for all species.
+fn tree(n: usize, scores: &[u32], splits: &[u16]) -> Result<(usize, Record), Refusal> {
+    let all = (1 << n) - 1;
+    if scores[all] == NO_TREE {
         return Err((14, 0));
     }
     let mut found = Vec::new();
-    collect(&p, size - 1, &mut found);
-    Ok((s[size - 1] as usize, record(&found)))
+    collect(splits, all, &mut found);
+    Ok((scores[all] as usize, record(&found)))
 }

@@ -4,6 +4,7 @@ use reader::Reading;
 use reader::Threshold;
 use roster::Reply;
 use search::Found;
+use search::Tied;
 use trees::Record;
 use weights::Rooting;
 ghost use Rattle.roster.specs.Judged.{Judged};
@@ -14,6 +15,7 @@ ghost use Rattle.writer.specs.Promise.{Writes};
 ghost use Rattle.weights.specs.declared.Rooting.the-variants.{Rooted, Unrooted};
 ghost use Rattle.lineages.specs.Promise.{Weighs, Scores, Marks};
 ghost use Rattle.search.specs.Promise.{Finds};
+ghost use Rattle.search.specs.TiesPromise.{FindsTies};
 
 // Judges a roster line; the value is how many species it has.
 #[no_mangle]
@@ -137,4 +139,54 @@ pub extern "C" fn st_search_unrooted(
     ensures { λ r. ⌜ Finds Unrooted n (now (genes .entry)) count (now (allowed .entry)) (now (scores .entry)) (now (splits .entry)) r (now (scores .exit)) (now (splits .exit)) ⌝ }
 {
     search::search(Rooting::Unrooted, n, genes, count, allowed, scores, splits)
+}
+
+// The same search, and how many trees over the allowed clusters reach the least score; fills the third table, too.
+#[no_mangle]
+pub extern "C" fn st_search_ties(
+    n: usize,
+    genes: &[u16],
+    count: usize,
+    allowed: &[u8],
+    scores: &mut [u32],
+    splits: &mut [u16],
+    ties: &mut [u64],
+) -> Tied
+    ensures { λ r. ⌜ FindsTies Rooted n (now (genes .entry)) count (now (allowed .entry)) (now (scores .entry)) (now (splits .entry)) (now (ties .entry)) r (now (scores .exit)) (now (splits .exit)) (now (ties .exit)) ⌝ }
+{
+    search::search_ties(
+        Rooting::Rooted,
+        n,
+        genes,
+        count,
+        allowed,
+        scores,
+        splits,
+        ties,
+    )
+}
+
+// The same for gene trees without a root.
+#[no_mangle]
+pub extern "C" fn st_search_ties_unrooted(
+    n: usize,
+    genes: &[u16],
+    count: usize,
+    allowed: &[u8],
+    scores: &mut [u32],
+    splits: &mut [u16],
+    ties: &mut [u64],
+) -> Tied
+    ensures { λ r. ⌜ FindsTies Unrooted n (now (genes .entry)) count (now (allowed .entry)) (now (scores .entry)) (now (splits .entry)) (now (ties .entry)) r (now (scores .exit)) (now (splits .exit)) (now (ties .exit)) ⌝ }
+{
+    search::search_ties(
+        Rooting::Unrooted,
+        n,
+        genes,
+        count,
+        allowed,
+        scores,
+        splits,
+        ties,
+    )
 }

@@ -30,3 +30,10 @@ pub fn scores() -> [u32; 65600]
 {
     [7u32; 65600]
 }
+
+// A table of ties.
+pub fn ties() -> [u64; 65600]
+    ensures { λ r. ⌜ 65600 ≡ length r ⌝ }
+{
+    [5u64; 65600]
+}

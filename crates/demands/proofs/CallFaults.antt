@@ -1,7 +1,7 @@
--- "Faulty input is turned away with a number and a place, both fixed in advance": for writing, weighing, scoring, marking and searching.
+-- "Faulty input is turned away with a number and a place, both fixed in advance": for writing, weighing, scoring, marking, searching, and searching with ties.
 use Prim.Native.Nat.{ℕ, zero, suc, _*_, _^_, _≤_}
 use mathlib.Core.Path.{_≡_, refl, sym, ap, _∙_}
-use mathlib.Core.Logic.{_↔_}
+use mathlib.Core.Logic.{inl, _↔_}
 use mathlib.Core.Bool.{Bool, true, false, _&&_, true≢false}
 use mathlib.Core.Option.{Option, some, none}
 use mathlib.Core.List.{List, [], _∷_, _++_}
@@ -20,7 +20,7 @@ use Rattle.texts.specs.Writing.{written}
 use Rattle.writer.specs.Promise.{rosterTest, writeTests, Writes}
 use Rattle.writer.proofs.RosterNames.{good-names}
 use Rattle.weights.specs.declared.Rooting.{Rooting}
-use Rattle.lineages.specs.Checks.{speciesTest, countTest, recordsTest, rootingTest, weightTests, scoreTests, markTests}
+use Rattle.lineages.specs.Checks.{speciesTest, recordsTest, rootingTest, weightTests, scoreTests, markTests}
 use Rattle.lineages.specs.Promise.{Weighs, Scores, Marks}
 use Rattle.lineages.specs.Work.{said}
 use Rattle.lineages.proofs.Verdicts.{verdict-first}
@@ -31,9 +31,13 @@ use Rattle.terms.specs.Allowed.{allowedTest}
 use Rattle.search.specs.Promise.{searchTests, Finds}
 use Rattle.terms.specs.Answers.{foundOr}
 use Rattle.search.specs.Candidates.{Candidate}
-use Rattle.search.proofs.Accepted.{NoneGives}
+use Rattle.search.specs.TiesPromise.{tiesTests, withoutTies, FindsTies}
+use Rattle.search.specs.declared.tied.Tied.{Tied}
+use Rattle.search.proofs.Accepted.{NoneGives, none-gives}
+use Rattle.search.proofs.Tying.{none-gives-ties}
 use Rattle.search.proofs.Demand.{found-answers, none-competes}
-use Rattle.demands.specs.CallFaults.{RosterFault, RootingFault, NoTreeFault, WriteFault, WeightFault, ScoreFault, MarkFault, SearchFault}
+use Rattle.demands.specs.CallFaults.{RosterFault, RootingFault, NoTreeFault}
+use Rattle.demands.specs.CallFaults.{WriteFault, WeightFault, ScoreFault, MarkFault, SearchRest, SearchFault, TiesFault}
 use Rattle.demands.specs.CallFaults.NoTreeFault.{no-tree}
 use Rattle.demands.proofs.FirstFaults.{Exact, Meets, exact-last, exact-next, refused-at, one-fault, behind-passed}
 use Rattle.demands.proofs.TestFaults.{species-met, count-met, length-met, species-record-met, records-met, records-passed, rooting-met, record-met, cluster-met, allowed-met, roster-met}
@@ -188,9 +192,46 @@ tree-met rooting n genes allowed few =
     only : {k p : ℕ} → NoTreeFault n allowed k p → (missing (bestFor rooting n genes allowed (whole n)) ≡ true) × (k ≡ 14) × (p ≡ 0)
     only (no-tree f) = (is-missing (bestFor rooting n genes allowed (whole n)) refl f, refl, refl)
 
+-- a reply has the number and the place that the tests say, 14 behind them
+reply-said :
+    (l : List Test) → NoneGives 0 l → (rooting : Rooting) (best : Option Binary) (genes : List (List ℕ))
+    → replied (foundOr (verdict l .number) (verdict l .place) (foundBy rooting best genes)) ≡ verdict (l ++ (treeTest best ∷ []))
+unfolding verdict
+reply-said l numbered rooting best genes = go (verdict l .number) (verdict l .place) refl
+  where
+    told : (o : Option Binary) → replied (foundBy rooting o genes) ≡ verdict (treeTest o ∷ [])
+    told none = refl
+    told (some t) = refl
+
+    go : (k q : ℕ) → verdict l ≡ said k q → replied (foundOr k q (foundBy rooting best genes)) ≡ verdict (l ++ (treeTest best ∷ []))
+    go zero q e = told best ∙ sym (behind-passed l (treeTest best ∷ []) numbered (ap (λ (v : Verdict). v .number) e))
+    go (suc k) q e = sym (verdict-first l (treeTest best ∷ []) e (λ z. omega arith))
+
 module _ (rooting : Rooting) (n : ℕ) (genes : List ℕ) (count : ℕ) (allowed scores splits : List ℕ) where
   abbrev best : Option Binary
   best = bestFor rooting n (recordsIn count genes) allowed (whole n)
+
+  -- the tests behind those of shape, 14 among them
+  abbrev restTests : List Test
+  restTests =
+      lengthTest (length allowed) (2 ^ n) ∷ lengthTest (length scores) (2 ^ n) ∷ lengthTest (length splits) (2 ^ n)
+      ∷ recordsTest n (recordsIn count genes)
+      ∷ rootingTest rooting n (recordsIn count genes)
+      ∷ allowedTest n allowed
+      ∷ treeTest best
+      ∷ []
+
+  rest-exact : n ≤ 16 → Exact (verdict restTests) (SearchRest rooting n genes count allowed scores splits)
+  rest-exact few =
+      exact-next _ (length-met allowed (2 ^ n)) (λ o.
+      exact-next _ (length-met scores (2 ^ n)) (λ p.
+      exact-next _ (length-met splits (2 ^ n)) (λ q.
+      exact-next _ (records-met n few (recordsIn count genes)) (λ v.
+      exact-next _ (rooted-met rooting n genes count few v) (λ u.
+      exact-next _ (allowed-met n allowed) (λ b.
+      exact-last (tree-met rooting n (recordsIn count genes) allowed few)))))))
+
+  -- ---- the search
 
   abbrev allTests : List Test
   allTests = searchTests rooting n genes count allowed scores splits ++ (treeTest best ∷ [])
@@ -201,56 +242,48 @@ module _ (rooting : Rooting) (n : ℕ) (genes : List ℕ) (count : ℕ) (allowed
       exact-next _ (species-met n) (λ s.
       exact-next _ (count-met count) (λ c.
       exact-next _ (length-met genes (32 * count)) (λ l.
-      exact-next _ (length-met allowed (2 ^ n)) (λ o.
-      exact-next _ (length-met scores (2 ^ n)) (λ p.
-      exact-next _ (length-met splits (2 ^ n)) (λ q.
-      exact-next _ (records-met n (few-species n s) (recordsIn count genes)) (λ v.
-      exact-next _ (rooted-met rooting n genes count (few-species n s) v) (λ u.
-      exact-next _ (allowed-met n allowed) (λ b.
-      exact-last (tree-met rooting n (recordsIn count genes) allowed (few-species n s)))))))))))
-
-  numbered : NoneGives 0 (searchTests rooting n genes count allowed scores splits)
-  unfolding searchTests speciesTest countTest lengthTest recordsTest rootingTest allowedTest NoneGives
-  numbered = (
-    λ z. omega arith,
-    (
-      λ z. omega arith,
-      (λ z. omega arith, (λ z. omega arith, (λ z. omega arith, (λ z. omega arith, (λ z. omega arith, (λ z. omega arith, (λ z. omega arith, tt))))))),
-    ),
-  )
-
-  -- the reply has the number and the place that all tests say
-  reply-said :
-      replied
-      (foundOr (verdict (searchTests rooting n genes count allowed scores splits) .number)
-      (verdict (searchTests rooting n genes count allowed scores splits) .place)
-      (foundBy rooting best (recordsIn count genes)))
-      ≡ verdict allTests
-  unfolding verdict
-  reply-said =
-      go (verdict (searchTests rooting n genes count allowed scores splits) .number)
-      (verdict (searchTests rooting n genes count allowed scores splits) .place) refl
-    where
-      told : (o : Option Binary) → replied (foundBy rooting o (recordsIn count genes)) ≡ verdict (treeTest o ∷ [])
-      told none = refl
-      told (some t) = refl
-
-      go : (k q : ℕ) → verdict (searchTests rooting n genes count allowed scores splits) ≡ said k q
-          → replied (foundOr k q (foundBy rooting best (recordsIn count genes))) ≡ verdict allTests
-      go zero q e =
-          told best
-          ∙ sym (behind-passed (searchTests rooting n genes count allowed scores splits) (treeTest best ∷ []) numbered (ap (λ (v : Verdict). v .number) e))
-      go (suc k) q e = sym (verdict-first (searchTests rooting n genes count allowed scores splits) (treeTest best ∷ []) e (λ z. omega arith))
+      rest-exact (few-species n s))))
 
   -- the same: searching
   pub find-refused-at :
       (r : Found) (s p : List ℕ) → Finds rooting n genes count allowed scores splits r s p → (number place : ℕ)
       → ((r .number ≡ number) × (r .place ≡ place) × (number ≡ 0 → ⊥)) ↔ SearchFault rooting n genes count allowed scores splits number place
   find-refused-at r s p f =
-      let e = ap replied (f .reply) ∙ reply-said in
+      let never = none-gives rooting n genes count allowed scores splits 0 (inl refl) in
+      let e = ap replied (f .reply) ∙ reply-said (searchTests rooting n genes count allowed scores splits) never rooting best (recordsIn count genes) in
       refused-at search-exact (ap (λ (v : Verdict). v .number) e) (ap (λ (v : Verdict). v .place) e)
 
   pub one-search-fault :
       {k p k′ p′ : ℕ} → SearchFault rooting n genes count allowed scores splits k p → SearchFault rooting n genes count allowed scores splits k′ p′
       → (k ≡ k′) × (p ≡ p′)
   one-search-fault = one-fault search-exact
+
+  -- ---- the search with ties
+
+  module _ (ties : List ℕ) where
+    abbrev allTiesTests : List Test
+    allTiesTests = tiesTests rooting n genes count allowed scores splits ties ++ (treeTest best ∷ [])
+
+    pub ties-exact : Exact (verdict allTiesTests) (TiesFault rooting n genes count allowed scores splits ties)
+    unfolding tiesTests
+    ties-exact =
+        exact-next _ (species-met n) (λ s.
+        exact-next _ (count-met count) (λ c.
+        exact-next _ (length-met genes (32 * count)) (λ l.
+        exact-next _ (length-met ties (2 ^ n)) (λ t.
+        rest-exact (few-species n s)))))
+
+    -- the same: searching with ties
+    pub ties-refused-at :
+        (r : Tied) (s p t : List ℕ) → FindsTies rooting n genes count allowed scores splits ties r s p t → (number place : ℕ)
+        → ((r .number ≡ number) × (r .place ≡ place) × (number ≡ 0 → ⊥)) ↔ TiesFault rooting n genes count allowed scores splits ties number place
+    ties-refused-at r s p t f =
+        let never = none-gives-ties rooting n genes count allowed scores splits ties 0 (none-gives rooting n genes count allowed scores splits 0 (inl refl)) in
+        let e = ap (λ (r : Tied). replied (withoutTies r)) (f .reply)
+        ∙ reply-said (tiesTests rooting n genes count allowed scores splits ties) never rooting best (recordsIn count genes) in
+        refused-at ties-exact (ap (λ (v : Verdict). v .number) e) (ap (λ (v : Verdict). v .place) e)
+
+    pub one-ties-fault :
+        {k p k′ p′ : ℕ} → TiesFault rooting n genes count allowed scores splits ties k p → TiesFault rooting n genes count allowed scores splits ties k′ p′
+        → (k ≡ k′) × (p ≡ p′)
+    one-ties-fault = one-fault ties-exact

@@ -1,15 +1,15 @@
--- The rows of 01's table that are marked P, and rows of #104, #113 and #106, under one claim.
+-- The rows of 01's table that are marked P, and rows of #104, #113, #106 and #111, under one claim.
 use Prim.Native.Nat.{ℕ}
 use mathlib.Core.Path.{_≡_, refl}
 use mathlib.Core.Bool.{true}
-use mathlib.Core.List.{List, [], _∷_}
+use mathlib.Core.List.{List, [], _∷_, _++_}
 use lib.Count.{ones, onesIn, trailingZeros}
 use lib.ListN.{replicate}
 use Rattle.demands.specs.Examples.{Row}
-use Rattle.demands.specs.Examples.Row.{recorded, counted, scored, searched, readBelow, valued}
+use Rattle.demands.specs.Examples.Row.{recorded, counted, scored, searched, readBelow, valued, tied, printed}
 use Rattle.demands.specs.Examples.Allowed.{every, own, only}
 use Rattle.clusters.specs.Sets.{whole, single, union, has, within, apart, size, lowest}
-use Rattle.demands.specs.Examples.{recordIn, foundIn, readingBelow, holds, allHold}
+use Rattle.demands.specs.Examples.{recordIn, foundIn, tiesIn, readingBelow, holds, allHold}
 use Rattle.weights.specs.declared.Rooting.the-variants.{Rooted, Unrooted}
 use Rattle.weights.specs.Count.{unrootedHas, unrootedClusters, maximalWithin, kDrawn, kOf, extra, weight, score}
 use Rattle.weights.specs.Marks.{shown}
@@ -26,6 +26,7 @@ use Rattle.labels.specs.Writing.{labelOf, mayBeBare}
 use Rattle.roster.specs.Roster.{same, position, inQuotes, begins, beginnings, nameAt, names, strayAt, longAt, manyAt, againAt, openAt, faultAt, least, firstFault, faulty}
 use Rattle.splits.specs.BinaryTrees.{clustersIn, isLow, lows, each, forks, treesTo, treesOn}
 use Rattle.splits.specs.Least.{those, all, scoreOf, treesOver, leastTrees, best}
+use Rattle.splits.specs.Ties.{tieEntry}
 use Rattle.terms.specs.Allowed.{allowedIn}
 use Rattle.splits.specs.Best.{bestFor}
 use Rattle.trees.specs.Drawn.{properly, maximal, placed, byLowest, children, drawnTo, drawn}
@@ -35,8 +36,16 @@ use Rattle.trees.specs.Tree.{cluster, clusters}
 use Rattle.trees.specs.Thinned.{leftBelow, clustersLeft}
 use Rattle.trees.specs.Valid.{every as every-trees, among, rising, singlesFrom}
 use Rattle.texts.specs.Writing.{treeText, written, nodeText}
+use Rattle.printing.specs.Words.{taxaText, genesText, scoreText, tiesText, digitsTo, decimal}
+use Rattle.lineages.specs.Checks.{rootingTest}
+use Rattle.search.specs.TiesPromise.{tiesFor}
+use Rattle.gather.specs.GeneTrees.{gatherTo, walk, gather}
+use Rattle.outcomes.specs.Outcome.{searched as outcome}
+use Rattle.report.specs.Input.{lineLength, firstLine, behindLine, endsInFeed, modePlace, treesPlace, allWord}
+use Rattle.report.specs.Program.{modeOf, program}
+use Rattle.report.specs.Promise.{output}
 
--- 01's rows marked P, in its order, and behind them rows of #104, #113 and #106
+-- 01's rows marked P, in its order, and behind them rows of #104, #113, #106 and #111
 pub examples : List Row
 examples =
     -- the rosters, and the texts of the trees
@@ -136,16 +145,24 @@ examples =
     ∷ scored Unrooted abcd ab-cd ac-bd 2
     -- `((a,b),c,d);` without a root, the clusters that it shows | 0, `(a,(b,(c,d)));` (#106)
     ∷ searched Unrooted abcd (ab-star ∷ []) own 0 0 a-b-cd
+    -- one of each three-species binary tree, all | 3 trees as good; `((a,b),c,d);`, its own clusters | none; without a root, all | 5, its drawings (#111)
+    ∷ tied Rooted abc (ab-c ∷ ac-b ∷ bc-a ∷ []) every 3
+    ∷ tied Rooted abcd (ab-star ∷ []) own 0
+    ∷ tied Unrooted abcd (ab-star ∷ []) every 5
+    -- the program's example: "01's example then has `ties 2`" (#111)
+    ∷ printed (abc ++ 10 ∷ allWord ++ 10 ∷ ab-c ++ 10 ∷ ac-b ++ 10 ∷ [])
+    (taxaText ++ 51 ∷ genesText ++ 50 ∷ 10 ∷ scoreText ++ 49 ∷ 10 ∷ tiesText ++ 50 ∷ 10 ∷ ab-c ++ 10 ∷ [])
     ∷ []
 
 -- every one of them holds, by the definitions that the promises cite
 pub examples-hold : allHold examples ≡ true
-unfolding examples ones onesIn trailingZeros whole single union has within apart size lowest recordIn foundIn readingBelow holds allHold unrootedHas
+unfolding examples ones onesIn trailingZeros whole single union has within apart size lowest recordIn foundIn tiesIn readingBelow holds allHold unrootedHas
     unrootedClusters maximalWithin kDrawn kOf extra total weight
     score pieces shown marks answerTo leafBy closingBy readTreeToBy readTreeBy readNodeBy nextIs nextLabel blanks skip number numberBehind numbers supported
     name innerName run bareLetters letters lettersFrom doubled rawTo told padded upTo same position inQuotes begins beginnings nameAt names strayAt
     longAt manyAt againAt openAt faultAt least firstFault faulty clustersIn isLow lows each forks treesTo treesOn those all scoreOf treesOver
     leastTrees best allowedIn bestFor properly maximal placed byLowest children drawnTo drawn keep some insert sorted recordOf cluster clusters
     every-trees among rising singlesFrom treeText written nodeText labelOf mayBeBare
-    tooFine decimals leading thousandths writtenBehind writes filled clustersLeft leftBelow
+    tooFine decimals leading thousandths writtenBehind writes filled clustersLeft leftBelow tieEntry tiesFor
+    lineLength firstLine behindLine endsInFeed modePlace treesPlace modeOf gatherTo walk gather rootingTest outcome program digitsTo decimal output
 examples-hold = refl

@@ -1,7 +1,7 @@
 -- The first demand: "Every text, roster, table and number handed over gets a reply", and what a call that turns something away leaves behind.
-use Prim.Native.Nat.{ℕ, zero, suc, _-_, _^_}
-use mathlib.Core.Path.{_≡_, refl, sym, ap, ap₂, _∙_}
-use mathlib.Core.Logic.{_⊎_, inl, inr}
+use Prim.Native.Nat.{ℕ, zero, suc, _-_, _^_, _≤_}
+use mathlib.Core.Path.{_≡_, refl, ap, ap₂, _∙_}
+use mathlib.Core.Logic.{inl, inr}
 use mathlib.Core.Bool.{Bool, true, false}
 use mathlib.Core.Option.{Option, some, none}
 use mathlib.Core.List.{List, [], _∷_, _++_, map, List·Memᴰ·head as here, List·Memᴰ·tail as there, Memᴰ·append-left}
@@ -12,7 +12,7 @@ use Rattle.trees.specs.Lists.{Among, upTo}
 use Rattle.trees.specs.Tree.{Tree}
 use Rattle.roster.specs.Roster.{names, faulty, firstFault}
 use Rattle.roster.specs.Judged.{Judged, judgedBy, speciesMost}
-use Rattle.roster.specs.Verdict.{Test, Verdict, verdict, lengthTest, replyOf}
+use Rattle.roster.specs.Verdict.{Test, Verdict, verdict, lengthTest, valueBy, replyOf}
 use Rattle.roster.specs.declared.Reply.{Reply}
 use Rattle.tokens.specs.declared.answer.Threshold.{Threshold}
 use Rattle.tokens.specs.Answers.{Answer}
@@ -35,14 +35,18 @@ use Rattle.search.specs.Promise.{searchTests, filledBy, Finds}
 use Rattle.terms.specs.Answers.{foundOr}
 use Rattle.splits.specs.Best.{bestFor, foundBy}
 use Rattle.terms.specs.declared.Found.{Found}
-use Rattle.search.proofs.Accepted.{NoneGives, no-fourteen}
+use Rattle.search.specs.TiesPromise.{tiesFor, tiesTests, withTies, withoutTies, FindsTies}
+use Rattle.search.specs.declared.tied.Tied.{Tied}
+use Rattle.search.proofs.Accepted.{NoneGives, none-gives}
+use Rattle.search.proofs.Tying.{tests-passed}
+use Rattle.search.proofs.Ties.{is-a-search, some-tie-exactly}
 use Rattle.report.specs.Promise.{output, Reports}
-use Rattle.demands.specs.Outcomes.{Replies, TurnedAway, NotFound}
+use Rattle.demands.specs.Outcomes.{Replies, TurnedAway, NotFound, NotTied}
 use Rattle.demands.specs.TextFaults.{TextFault}
-use Rattle.demands.proofs.Refusals.{verdict-listed, among-once, among-behind, replyOf-refused, outBy-refused, markedBy-refused, filledBy-refused, filled, Refused, refused-ways, replyOf-done}
-use Rattle.demands.proofs.Refusals.Refused.{no-tree, by-test}
+use Rattle.demands.proofs.Refusals.{among-once, among-behind, replyOf-refused, outBy-refused, markedBy-refused, filledBy-refused, filled, replyOf-done}
+use Rattle.demands.proofs.Refusals.{Refused, refused-ways, refused-not-found, refused-by-test, refused-by-none}
 use Rattle.demands.proofs.TextFaults.{fault-of-refusal, fault-numbers}
-use Rattle.demands.proofs.OneOutcome.{judge-once, read-once, write-once, weigh-once, score-once, mark-once, find-once, report-once}
+use Rattle.demands.proofs.OneOutcome.{judge-once, read-once, write-once, weigh-once, score-once, mark-once, find-once, tie-once, report-once}
 
 -- ---- "Every text, roster, table and number handed over gets a reply. .. No caller has to check first."
 
@@ -116,6 +120,30 @@ replies-find rooting n genes count allowed scores splits =
       only = λ o f.
           let e = find-once rooting n genes count allowed scores splits (o .0) reply (o .1) s (o .2) p f meets in
           ap (λ (r : Found). (r, o .1, o .2)) (e .0) ∙ ap₂ (λ (l k : List ℕ). (reply, l, k)) (e .1) (e .2);
+    }
+
+-- and a third one (#111)
+pub replies-tie :
+    (rooting : Rooting) (n : ℕ) (genes : List ℕ) (count : ℕ) (allowed scores splits ties : List ℕ)
+    → Replies (λ (o : Tied × List ℕ × List ℕ × List ℕ). FindsTies rooting n genes count allowed scores splits ties (o .0) (o .1) (o .2) (o .3))
+replies-tie rooting n genes count allowed scores splits ties =
+    let said : Verdict = verdict (tiesTests rooting n genes count allowed scores splits ties) in
+    let trees : ℕ → Option Binary = bestFor rooting n (recordsIn count genes) allowed in
+    let number : ℕ → ℕ = tiesFor rooting n (recordsIn count genes) allowed in
+    let found : Found = foundOr (said .number) (said .place) (foundBy rooting (trees (whole n)) (recordsIn count genes)) in
+    let reply : Tied = withTies found (valueBy (said .number) (number (whole n))) in
+    let s : List ℕ = filledBy (said .number) n (λ a. scoreEntry (weight rooting (recordsIn count genes)) (trees a)) scores in
+    let p : List ℕ = filledBy (said .number) n (λ a. splitEntry (trees a)) splits in
+    let t : List ℕ = filledBy (said .number) n (λ a. number a) ties in
+    let meets : FindsTies rooting n genes count allowed scores splits ties reply s p t =
+    record { reply = refl; scoreTable = refl; splitTable = refl; tieTable = refl }
+    in
+    record {
+      outcome = (reply, s, p, t);
+      meets = meets;
+      only = λ o f.
+          let e = tie-once rooting n genes count allowed scores splits ties (o .0) reply (o .1) s (o .2) p (o .3) t f meets in
+          ap₂ (λ (r : Tied) (l : List ℕ). (r, l, o .2, o .3)) (e .0) (e .1) ∙ ap₂ (λ (l k : List ℕ). (reply, s, l, k)) (e .2) (e .3);
     }
 
 -- "Every text": any input of the program
@@ -196,41 +224,31 @@ mark-refused rooting n genes count out r after p f =
       p .bytes ∙ markedBy-refused rooting (verdict l .number) n (recordsIn count genes) out (λ z. f (ap (λ (r : Reply). r .number) (p .reply) ∙ z)),
     )
 
+-- the numbers of the search's tests, in their order: 12 stands four times among them
+search-listed : {x : ℕ} → Among x (1 ∷ 11 ∷ 12 ∷ 12 ∷ 12 ∷ 12 ∷ 15 ∷ 19 ∷ 13 ∷ []) → Among x (1 ∷ 11 ∷ 12 ∷ 15 ∷ 19 ∷ 13 ∷ 14 ∷ [])
+search-listed m = Memᴰ·append-left (14 ∷ []) (among-behind (among-behind (λ k. among-once (among-once (among-once k)))) m)
+
+fourteen-listed : Among 14 (1 ∷ 11 ∷ 12 ∷ 15 ∷ 19 ∷ 13 ∷ 14 ∷ [])
+fourteen-listed = there (there (there (there (there (there (here refl))))))
+
 module _ (rooting : Rooting) (n : ℕ) (genes : List ℕ) (count : ℕ) (allowed scores splits : List ℕ) (r : Found) (s p : List ℕ)
     (found : Finds rooting n genes count allowed scores splits r s p) (refusal : r .number ≡ 0 → ⊥) where
   abbrev said : Verdict
   said = verdict (searchTests rooting n genes count allowed scores splits)
 
   ways : Refused said r
-  ways = refused-ways rooting n genes count allowed scores splits r s p found refusal
+  ways = refused-ways said rooting (bestFor rooting n (recordsIn count genes) allowed (whole n)) (recordsIn count genes) r (found .reply) refusal
 
   -- "All others: 1, 11, 12, 16, 15, 13, 14, each where it applies": "A refused call returns score 0, .. an all-zero record"
   pub find-refused : NotFound (1 ∷ 11 ∷ 12 ∷ 15 ∷ 19 ∷ 13 ∷ 14 ∷ []) r
   unfolding searchTests speciesTest countTest lengthTest recordsTest rootingTest allowedTest
-  find-refused = go ways (verdict-listed (searchTests rooting n genes count allowed scores splits))
-    where
-      -- 12 stands four times among the tests, 14 comes last
-      once : {x : ℕ} → Among x (1 ∷ 11 ∷ 12 ∷ 12 ∷ 12 ∷ 12 ∷ 15 ∷ 19 ∷ 13 ∷ []) → Among x (1 ∷ 11 ∷ 12 ∷ 15 ∷ 19 ∷ 13 ∷ 14 ∷ [])
-      once m =
-          Memᴰ·append-left (14 ∷ []) (among-behind (among-behind (λ k. among-once (among-once (among-once k)))) m)
-
-      go : Refused said r → (said .number ≡ 0) ⊎ Among (said .number) (map (λ (t : Test). t .number) (searchTests rooting n genes count allowed scores splits))
-          → NotFound (1 ∷ 11 ∷ 12 ∷ 15 ∷ 19 ∷ 13 ∷ 14 ∷ []) r
-      go (no-tree z e) m = rw e (record { listed = there (there (there (there (there (there (here refl)))))); score = refl; numbers-zero = refl })
-      go (by-test f e) (inl z) = absurd (f z)
-      go (by-test f e) (inr m) = rw e (record { listed = once m; score = refl; numbers-zero = refl })
+  find-refused = refused-not-found (searchTests rooting n genes count allowed scores splits) _ ways (λ x m. search-listed m) fourteen-listed
 
   -- "Lent slices keep every byte, with one exception"
   pub find-keeps-tables : (r .number ≡ 14 → ⊥) → (s ≡ scores) × (p ≡ splits)
-  find-keeps-tables other = go ways
-    where
-      go : Refused said r → (s ≡ scores) × (p ≡ splits)
-      go (no-tree z e) = absurd (other (ap (λ (r : Found). r .number) e))
-      go (by-test f e) = (
-        found .scoreTable ∙ filledBy-refused (said .number) n
-            (λ a. scoreEntry (weight rooting (recordsIn count genes)) (bestFor rooting n (recordsIn count genes) allowed a)) scores f,
-        found .splitTable ∙ filledBy-refused (said .number) n (λ a. splitEntry (bestFor rooting n (recordsIn count genes) allowed a)) splits f,
-      )
+  find-keeps-tables other =
+      let f = refused-by-test ways other in
+      (found .scoreTable ∙ filledBy-refused (said .number) n _ scores f, found .splitTable ∙ filledBy-refused (said .number) n _ splits f)
 
   -- "on 14 both tables are filled as above": "Entries from 2^n on stay"
   pub find-fills-tables :
@@ -238,18 +256,51 @@ module _ (rooting : Rooting) (n : ℕ) (genes : List ℕ) (count : ℕ) (allowed
       → (s ≡ map (λ a. scoreEntry (weight rooting (recordsIn count genes)) (bestFor rooting n (recordsIn count genes) allowed a))
       (upTo (2 ^ n)) ++ drop (2 ^ n) scores)
       × (p ≡ map (λ a. splitEntry (bestFor rooting n (recordsIn count genes) allowed a)) (upTo (2 ^ n)) ++ drop (2 ^ n) splits)
-  find-fills-tables e = go ways
-    where
-      go : Refused said r
-          → (s ≡ map (λ a. scoreEntry (weight rooting (recordsIn count genes)) (bestFor rooting n (recordsIn count genes) allowed a))
-          (upTo (2 ^ n)) ++ drop (2 ^ n) scores)
-          × (p ≡ map (λ a. splitEntry (bestFor rooting n (recordsIn count genes) allowed a)) (upTo (2 ^ n)) ++ drop (2 ^ n) splits)
-      go (no-tree z i) = (
-        filled (said .number) n
-            (λ a. scoreEntry (weight rooting (recordsIn count genes)) (bestFor rooting n (recordsIn count genes) allowed a)) scores s (found .scoreTable) z,
-        filled (said .number) n (λ a. splitEntry (bestFor rooting n (recordsIn count genes) allowed a)) splits p (found .splitTable) z,
+  find-fills-tables e =
+      let never = none-gives rooting n genes count allowed scores splits 14 (inr refl) in
+      let z = refused-by-none (searchTests rooting n genes count allowed scores splits) never ways e in
+      (filled (said .number) n _ scores s (found .scoreTable) z, filled (said .number) n _ splits p (found .splitTable) z)
+
+module _ (rooting : Rooting) (n : ℕ) (genes : List ℕ) (count : ℕ) (allowed scores splits ties : List ℕ) (r : Tied) (s p t : List ℕ)
+    (found : FindsTies rooting n genes count allowed scores splits ties r s p t) (refusal : r .number ≡ 0 → ⊥) where
+  abbrev tiesSaid : Verdict
+  tiesSaid = verdict (tiesTests rooting n genes count allowed scores splits ties)
+
+  tiesWays : Refused tiesSaid (withoutTies r)
+  tiesWays =
+      refused-ways tiesSaid rooting (bestFor rooting n (recordsIn count genes) allowed (whole n)) (recordsIn count genes) (withoutTies r)
+      (ap withoutTies (found .reply)) refusal
+
+  -- the same of the search with ties (#111), and no ties
+  pub ties-refused : NotTied (1 ∷ 11 ∷ 12 ∷ 15 ∷ 19 ∷ 13 ∷ 14 ∷ []) r
+  unfolding tiesTests speciesTest countTest lengthTest recordsTest rootingTest allowedTest
+  ties-refused = record {
+    not-found =
+        refused-not-found (tiesTests rooting n genes count allowed scores splits ties) _ tiesWays
+        (λ x m. search-listed (among-behind (among-behind among-once) m)) fourteen-listed;
+    ties-zero = let f : 1 ≤ r .ties → ⊥ = λ h. refusal (some-tie-exactly found .0 h) in omega (arith, f);
+  }
+
+  -- "Lent slices keep every byte, with one exception": all three tables
+  pub ties-keep-tables : (r .number ≡ 14 → ⊥) → (s ≡ scores) × (p ≡ splits) × (t ≡ ties)
+  ties-keep-tables other =
+      let f = refused-by-test tiesWays other in (
+        found .scoreTable ∙ filledBy-refused (tiesSaid .number) n _ scores f,
+        found .splitTable ∙ filledBy-refused (tiesSaid .number) n _ splits f,
+        found .tieTable ∙ filledBy-refused (tiesSaid .number) n _ ties f,
       )
-      go (by-test f i) = absurd (no-fourteen rooting n genes count allowed scores splits (sym (ap (λ (r : Found). r .number) i) ∙ e))
+
+  -- on 14 all three are filled, both tables as by the search
+  pub ties-fill-tables :
+      r .number ≡ 14
+      → (s ≡ map (λ a. scoreEntry (weight rooting (recordsIn count genes)) (bestFor rooting n (recordsIn count genes) allowed a))
+      (upTo (2 ^ n)) ++ drop (2 ^ n) scores)
+      × (p ≡ map (λ a. splitEntry (bestFor rooting n (recordsIn count genes) allowed a)) (upTo (2 ^ n)) ++ drop (2 ^ n) splits)
+      × (t ≡ map (λ a. tiesFor rooting n (recordsIn count genes) allowed a) (upTo (2 ^ n)) ++ drop (2 ^ n) ties)
+  ties-fill-tables e =
+      let z = tests-passed rooting n genes count allowed scores splits ties found (inr e) in
+      let both = find-fills-tables rooting n genes count allowed scores splits (withoutTies r) s p (is-a-search found (inr e)) refusal e in
+      (both .0, both .1, filled (tiesSaid .number) n _ ties t (found .tieTable) z)
 
 -- ---- "0 | done | 0": no call that is not refused has another place
 
@@ -326,3 +377,10 @@ find-done rooting n genes count allowed scores splits r s p found z =
     go : (k q : ℕ) → r ≡ foundOr k q (foundBy rooting tree (recordsIn count genes)) → r .place ≡ 0
     go zero q e = ap (λ (r : Found). r .place) e ∙ there-is tree
     go (suc k) q e = absurd (omega (arith, ap (λ (r : Found). r .number) e))
+
+-- "done | 0": searching with ties
+pub tie-done :
+    (rooting : Rooting) (n : ℕ) (genes : List ℕ) (count : ℕ) (allowed scores splits ties : List ℕ) (r : Tied) (s p t : List ℕ)
+    → FindsTies rooting n genes count allowed scores splits ties r s p t → r .number ≡ 0 → r .place ≡ 0
+tie-done rooting n genes count allowed scores splits ties r s p t found z =
+    find-done rooting n genes count allowed scores splits (withoutTies r) s p (is-a-search found (inl z)) z

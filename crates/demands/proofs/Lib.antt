@@ -27,6 +27,8 @@ pub mod ProgramFaults
 pub mod Locality
 pub mod Lots
 pub mod LotsExample
+pub mod Ties
+pub mod TiesExample
 pub mod OfLetters
 pub mod Thresholds
 pub mod Redrawn

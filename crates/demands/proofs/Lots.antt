@@ -18,7 +18,8 @@ use Rattle.splits.proofs.Membership.{among-each, each-among}
 use Rattle.search.specs.Candidates.{Accepted, Candidate, SameAllowed}
 use Rattle.search.proofs.Demand.{Replied, replied, accepted-of, zero-exactly, fourteen-exactly}
 use Rattle.search.proofs.Demand.Replied.{answered, nothing as none-there}
-use Rattle.search.proofs.Lots.{AddedUp, some-member, least-exactly, sum-le-whole, sum-reached-exactly, least-shared-exactly, score-of-lots, reply-is-least}
+use Rattle.search.proofs.Lots.{AddedUp, least-exactly, sum-le-whole, sum-reached-exactly, least-shared-exactly, score-of-lots, reply-is-least}
+use Rattle.search.proofs.HowMany.{some-member}
 use Rattle.search.proofs.Lots.{competes-too, zeros-and-ones-too}
 use Rattle.search.proofs.Unread.{first-bytes-same}
 use Rattle.demands.specs.Lots.{Searched, records, LotsOf, Passed, LeastIn, LeastInEach, sumOfLeast}
@@ -99,11 +100,11 @@ module _ {rooting : Rooting} {n : ℕ} {lots : List (Searched rooting n)} {whole
   whole-count = sym (length-recordsIn (whole .count) (whole .genes)) ∙ sym (any-order-length (parted .gathered)) ∙ length-of-lots lots
 
   -- what a lot's search allows the whole's does, and the other way
-  as-the-whole : (s : Searched rooting n) → List·Memᴰ s lots → SameAllowed n (s .allowed) (whole .allowed)
+  pub as-the-whole : (s : Searched rooting n) → List·Memᴰ s lots → SameAllowed n (s .allowed) (whole .allowed)
   as-the-whole s m =
       first-bytes-same n (s .allowed) (whole .allowed) (parted .lots-lent s m .allowed-long) (parted .whole-lent .allowed-long) (parted .one-allowed-set s m)
 
-  as-the-lot : (s : Searched rooting n) → List·Memᴰ s lots → SameAllowed n (whole .allowed) (s .allowed)
+  pub as-the-lot : (s : Searched rooting n) → List·Memᴰ s lots → SameAllowed n (whole .allowed) (s .allowed)
   as-the-lot s m =
       first-bytes-same n (whole .allowed) (s .allowed) (parted .whole-lent .allowed-long) (parted .lots-lent s m .allowed-long) (sym (parted .one-allowed-set s m))
 
@@ -188,16 +189,21 @@ module _ {rooting : Rooting} {n : ℕ} {lots : List (Searched rooting n)} {whole
       go z s (inl e) = ap (λ (x : Searched rooting n). x .reply .number) e ∙ z
       go z s (inr m) = numbers-equal p s m ∙ z
 
+  -- the scores of the lots add up to those of the whole
+  pub scores-add-up : (c : List ℕ) → score rooting (records whole) c ≡ total (map (λ (s : Searched rooting n). score rooting (records s) c) lots)
+  scores-add-up c = sym (score-reordered rooting c (parted .gathered)) ∙ score-of-lots rooting (λ (s : Searched rooting n). records s) lots c
+
   -- ---- where there is a tree
 
   module _ (found : whole .reply .number ≡ 0) where
-    added :
+    -- and the least of them are the replies' scores
+    pub added :
         AddedUp (λ (s : Searched rooting n). Candidate n (s .allowed)) (λ (s : Searched rooting n). score rooting (records s))
         (λ (s : Searched rooting n). s .reply .score) lots whole
     added = record {
       some-lot = parted .some-lot;
       same-compete = same-compete;
-      adds-up = λ c. sym (score-reordered rooting c (parted .gathered)) ∙ score-of-lots rooting (λ (s : Searched rooting n). records s) lots c;
+      adds-up = scores-add-up;
       of-whole = reply-is-least (whole .finds) found;
       of-lots = λ s m. reply-is-least (s .finds) (numbers-equal (inl found) s m ∙ found);
     }
@@ -232,7 +238,7 @@ module _ {rooting : Rooting} {n : ℕ} (first second : Searched rooting n) where
   both : (c : List ℕ) → LeastInEach (first ∷ second ∷ []) c ↔ (LeastIn first c × LeastIn second c)
   both c = (λ f. (f first (here refl), f second (there (here refl))), λ q. of-both (λ (s : Searched rooting n). LeastIn s c) (q .0) (q .1))
 
-  sum-of-both : sumOfLeast (first ∷ second ∷ []) ≡ first .reply .score + second .reply .score
+  pub sum-of-both : sumOfLeast (first ∷ second ∷ []) ≡ first .reply .score + second .reply .score
   unfolding total
   sum-of-both = omega arith
 

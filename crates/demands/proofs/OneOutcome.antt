@@ -17,6 +17,9 @@ use Rattle.lineages.proofs.Outcomes.{weighs-once, scores-once, marks-once}
 use Rattle.search.specs.Promise.{Finds}
 use Rattle.terms.specs.declared.Found.{Found}
 use Rattle.search.proofs.Demand.{finds-once}
+use Rattle.search.specs.TiesPromise.{FindsTies}
+use Rattle.search.specs.declared.tied.Tied.{Tied}
+use Rattle.search.proofs.Ties.{ties-once}
 use Rattle.report.specs.Promise.{Reports}
 
 -- "it is proved that the promise admits a single outcome": for a roster line
@@ -59,6 +62,13 @@ pub find-once :
     (rooting : Rooting) (n : ℕ) (genes : List ℕ) (count : ℕ) (allowed scores splits : List ℕ) (r r′ : Found) (s s′ p p′ : List ℕ)
     → Finds rooting n genes count allowed scores splits r s p → Finds rooting n genes count allowed scores splits r′ s′ p′ → (r ≡ r′) × (s ≡ s′) × (p ≡ p′)
 find-once rooting n genes count allowed scores splits r r′ s s′ p p′ f g = finds-once f g
+
+-- for the search with ties (#111): the reply and all three tables
+pub tie-once :
+    (rooting : Rooting) (n : ℕ) (genes : List ℕ) (count : ℕ) (allowed scores splits ties : List ℕ) (r r′ : Tied) (s s′ p p′ t t′ : List ℕ)
+    → FindsTies rooting n genes count allowed scores splits ties r s p t → FindsTies rooting n genes count allowed scores splits ties r′ s′ p′ t′
+    → (r ≡ r′) × (s ≡ s′) × (p ≡ p′) × (t ≡ t′)
+tie-once rooting n genes count allowed scores splits ties r r′ s s′ p p′ t t′ f g = ties-once f g
 
 -- for the program's report
 pub report-once : (input : List ℕ) (r r′ : _) → Reports input r → Reports input r′ → r ≡ r′

@@ -37,6 +37,7 @@ use Rattle.report.specs.declared.modes.Mode.{Mode}
 use Rattle.report.specs.declared.modes.Mode.the-variants.{Another, Over}
 use Rattle.report.specs.Promise.{output, Reports}
 use Rattle.report.specs.Program.{modeOf, onMode, onFeeds, onSpecies, onRoster, onText, program}
+use Rattle.search.specs.TiesPromise.{tiesFor, withTies}
 use Rattle.outcomes.specs.Outcome.{Outcome, programMost, outcomeOf, searched, allowedBy, treePlace, onRooting, withGenes, onTrees, printed}
 use Rattle.outcomes.specs.Outcome.Outcome.{refused, solved}
 use Rattle.demands.specs.CallFaults.{_before_, RosterFault}
@@ -88,7 +89,10 @@ searched-fourteen :
 unfolding searched
 searched-fourteen rooting n genes allowed {k} {p} e = go (bestFor rooting n genes allowed (whole n)) e
   where
-    go : (o : Option Binary) → outcomeOf (foundBy rooting o genes .number) n (length genes) (foundBy rooting o genes) ≡ refused k p → (k ≡ 14) × (p ≡ 0)
+    go :
+        (o : Option Binary)
+        → outcomeOf (foundBy rooting o genes .number) n (length genes) (withTies (foundBy rooting o genes) (tiesFor rooting n genes allowed (whole n)))
+        ≡ refused k p → (k ≡ 14) × (p ≡ 0)
     go none e = (let a : 14 ≡ k = cc in sym a, let b : 0 ≡ p = cc in sym b)
     go (some t) e = absurd (refused-solved (sym e))
 
@@ -352,7 +356,7 @@ module _ (input : List ℕ) where
           let s = small f in
           let one = one-refusal k p number place (omega arith) (omega arith) few near t in
           subst₂ (ProgramFault input) (one .0) (one .1) f
-      back (solved n m s r) e t = absurd (omega (arith, ap (λ (l : List ℕ). getD l 0 0) t))
+      back (solved n m s ties r) e t = absurd (omega (arith, ap (λ (l : List ℕ). getD l 0 0) t))
 
   -- the same of any report that meets the promise
   pub report-refused-at :
@@ -381,7 +385,7 @@ module _ (input : List ℕ) where
       go (refused k p) e t =
           let s = small (refused-exactly k p .0 e) in
           program-never-nine input e (same-number k p 9 (omega arith) (omega arith) (t ∙ grouped refusedText (decimal 9) atText rest) .0)
-      go (solved n m s r) e t = omega (arith, ap (λ (l : List ℕ). getD l 0 0) t)
+      go (solved n m s ties r) e t = omega (arith, ap (λ (l : List ℕ). getD l 0 0) t)
 
   -- the same of any report that meets the promise
   pub report-never-nine : (reply : Report) → Reports input reply → (rest : List ℕ) → take (reply .len) (reply .text) ≡ refusedText ++ decimal 9 ++ atText ++ rest → ⊥
@@ -396,10 +400,10 @@ module _ (input : List ℕ) where
   -- an input without a fault is one for which a tree is printed, and the other way round
   pub solvable-without-fault : Solvable input ↔ ((number place : ℕ) → ProgramFault input number place → ⊥)
   solvable-without-fault = (
-    λ q k p f. refused-solved (sym (refused-exactly k p .1 f) ∙ solved-exactly input .1 q .4),
+    λ q k p f. refused-solved (sym (refused-exactly k p .1 f) ∙ solved-exactly input .1 q .5),
     λ free. go (program input) refl free,
   )
     where
       go : (o : Outcome) → program input ≡ o → NoFault (ProgramFault input) → Solvable input
       go (refused k p) e free = absurd (free k p (refused-exactly k p .0 e))
-      go (solved n m s r) e free = solved-exactly input .0 (n, m, s, r, e)
+      go (solved n m s t r) e free = solved-exactly input .0 (n, m, s, t, r, e)

@@ -16,7 +16,7 @@ use Rattle.trees.specs.Unrooted.{mayUnroot, Redrawn}
 use Rattle.trees.specs.Valid.{among}
 use Rattle.trees.proofs.Redrawing.{redrawn-sym, redrawn-on, redrawn-rooted}
 use Rattle.roster.specs.Roster.{names}
-use Rattle.roster.specs.Verdict.{Test, Verdict, verdict, verdictBy, lengthTest, replyOf}
+use Rattle.roster.specs.Verdict.{Test, Verdict, verdict, verdictBy, lengthTest, replyOf, valueBy}
 use Rattle.roster.specs.declared.Reply.{Reply}
 use Rattle.weights.specs.declared.Rooting.the-variants.{Unrooted}
 use Rattle.weights.specs.Count.{weight, score}
@@ -31,13 +31,16 @@ use Rattle.splits.specs.BinaryTrees.{Binary, clustersIn}
 use Rattle.splits.specs.Least.{best, scoreOf, scoreEntry, splitEntry}
 use Rattle.terms.specs.Allowed.{allowedIn}
 use Rattle.splits.specs.Best.{bestFor, foundBy}
+use Rattle.splits.specs.Ties.{tieEntry}
 use Rattle.terms.specs.declared.Found.{Found}
 use Rattle.search.specs.Promise.{searchTests, filledBy, Finds}
+use Rattle.search.specs.TiesPromise.{tiesFor, tiesTests, withTies, FindsTies}
+use Rattle.search.specs.declared.tied.Tied.{Tied}
 use Rattle.terms.specs.Answers.{foundOr}
 use Rattle.search.proofs.Accepted.{verdict-passed}
 use Rattle.search.proofs.Unread.{both-fit}
 use Rattle.search.proofs.Dropped.{valid-fit}
-use Rattle.outcomes.specs.Outcome.{Outcome, outcomeOf, searched, allowedBy, printed}
+use Rattle.outcomes.specs.Outcome.{Outcome, outcomeOf, foundWithTies, searched, allowedBy, printed}
 use Rattle.report.specs.Program.{program}
 use Rattle.report.specs.Promise.{output}
 use Rattle.demands.specs.GeneTrees.{OnSome, Enters}
@@ -149,6 +152,15 @@ module _ {n : ℕ} {gs gs′ : List (List ℕ)} (twice : DrawnTwice n gs gs′) 
     unfolding bestFor
     same-best allowed a = ap (λ (w : ℕ → ℕ). best w (allowedIn n allowed) a) (fun-ext redrawn-weights)
 
+    -- what both tables have of it
+    same-score-entry :
+        (allowed : List ℕ) (a : ℕ)
+        → scoreEntry (weight Unrooted gs) (bestFor Unrooted n gs allowed a) ≡ scoreEntry (weight Unrooted gs′) (bestFor Unrooted n gs′ allowed a)
+    same-score-entry allowed a = ap₂ (λ (w : ℕ → ℕ) (o : Option Binary). scoreEntry w o) (fun-ext redrawn-weights) (same-best allowed a)
+
+    same-split-entry : (allowed : List ℕ) (a : ℕ) → splitEntry (bestFor Unrooted n gs allowed a) ≡ splitEntry (bestFor Unrooted n gs′ allowed a)
+    same-split-entry allowed a = ap splitEntry (same-best allowed a)
+
     same-found :
         (allowed : List ℕ) → foundBy Unrooted (bestFor Unrooted n gs allowed (whole n)) gs ≡ foundBy Unrooted (bestFor Unrooted n gs′ allowed (whole n)) gs′
     same-found allowed = ap (λ (o : Option Binary). foundBy Unrooted o gs) (same-best allowed (whole n)) ∙ go (bestFor Unrooted n gs′ allowed (whole n))
@@ -157,6 +169,14 @@ module _ {n : ℕ} {gs gs′ : List (List ℕ)} (twice : DrawnTwice n gs gs′) 
         go none = refl
         go (some t) =
             ap (λ (w : ℕ → ℕ). foundWith t w) (fun-ext redrawn-weights)
+
+    -- as many trees are as good (#111)
+    same-ties : (allowed : List ℕ) (a : ℕ) → tiesFor Unrooted n gs allowed a ≡ tiesFor Unrooted n gs′ allowed a
+    unfolding tiesFor
+    same-ties allowed a = ap (λ (w : ℕ → ℕ). tieEntry w (allowedIn n allowed) a) (fun-ext redrawn-weights)
+
+    same-found-with-ties : (allowed : List ℕ) → foundWithTies Unrooted n gs allowed ≡ foundWithTies Unrooted n gs′ allowed
+    same-found-with-ties allowed = ap₂ withTies (same-found allowed) (same-ties allowed (whole n))
 
 -- ---- two calls
 
@@ -176,6 +196,12 @@ reply-alike v same = go (v .number) (v .place) same
     go : (k p : ℕ) {w w′ : ℕ} → (k ≡ 0 → w ≡ w′) → replyOf (record { number = k; place = p }) w ≡ replyOf (record { number = k; place = p }) w′
     go zero p same = ap (λ (w : ℕ). replyOf (record { number = 0; place = p }) w) (same refl)
     go (suc k) p same = refl
+
+-- a table is kept, or filled with the same entries
+filled-alike :
+    (k n : ℕ) {entry entry′ : ℕ → ℕ} (lent : List ℕ) → (k ≡ 0 → (a : ℕ) → entry a ≡ entry′ a) → filledBy k n entry lent ≡ filledBy k n entry′ lent
+filled-alike zero n lent same = ap (λ (entry : ℕ → ℕ). filledBy 0 n entry lent) (fun-ext (same refl))
+filled-alike (suc k) n lent same = refl
 
 passed-few : (n : ℕ) (l : List Test) → verdict (speciesTest n ∷ l) .number ≡ 0 → n ≤ 16
 unfolding speciesTest
@@ -251,11 +277,11 @@ module _ (n count : ℕ) (genes genes′ : List ℕ) (twice : DrawnTwice n (reco
             ∙ sym (f′ .reply),
         f .scoreTable
             ∙ ap (λ (v : Verdict). filledBy (v .number) n (λ a. scoreEntry (weight Unrooted gs) (bestFor Unrooted n gs allowed a)) scores) tests
-            ∙ scored (verdict (searchTests Unrooted n genes′ count allowed scores splits) .number) (λ z. small z)
+            ∙ filled-alike (verdict (searchTests Unrooted n genes′ count allowed scores splits) .number) n scores (λ z. same-score-entry twice (small z) allowed)
             ∙ sym (f′ .scoreTable),
         f .splitTable
             ∙ ap (λ (v : Verdict). filledBy (v .number) n (λ a. splitEntry (bestFor Unrooted n gs allowed a)) splits) tests
-            ∙ split (verdict (searchTests Unrooted n genes′ count allowed scores splits) .number) (λ z. small z)
+            ∙ filled-alike (verdict (searchTests Unrooted n genes′ count allowed scores splits) .number) n splits (λ z. same-split-entry twice (small z) allowed)
             ∙ sym (f′ .splitTable),
       )
     where
@@ -266,21 +292,42 @@ module _ (n count : ℕ) (genes genes′ : List ℕ) (twice : DrawnTwice n (reco
       replied zero q small = same-found twice (small refl) allowed
       replied (suc k) q small = refl
 
-      scored :
-          (k : ℕ) → (k ≡ 0 → n ≤ 16)
-          → filledBy k n (λ a. scoreEntry (weight Unrooted gs) (bestFor Unrooted n gs allowed a)) scores
-          ≡ filledBy k n (λ a. scoreEntry (weight Unrooted gs′) (bestFor Unrooted n gs′ allowed a)) scores
-      scored zero small =
-          ap (λ (entry : ℕ → ℕ). filledBy 0 n entry scores)
-          (fun-ext (λ a. ap₂ (λ (w : ℕ → ℕ) (o : Option Binary). scoreEntry w o) (fun-ext (redrawn-weights twice (small refl)))
-          (same-best twice (small refl) allowed a)))
-      scored (suc k) small = refl
-
-      split :
-          (k : ℕ) → (k ≡ 0 → n ≤ 16)
-          → filledBy k n (λ a. splitEntry (bestFor Unrooted n gs allowed a)) splits ≡ filledBy k n (λ a. splitEntry (bestFor Unrooted n gs′ allowed a)) splits
-      split zero small = ap (λ (entry : ℕ → ℕ). filledBy 0 n entry splits) (fun-ext (λ a. ap splitEntry (same-best twice (small refl) allowed a)))
-      split (suc k) small = refl
+  -- so do two searches with ties, and leave the same three tables (#111)
+  pub redrawn-tie-alike :
+      (allowed scores splits ties : List ℕ) (r r′ : Tied) (s p t s′ p′ t′ : List ℕ)
+      → FindsTies Unrooted n genes count allowed scores splits ties r s p t → FindsTies Unrooted n genes′ count allowed scores splits ties r′ s′ p′ t′
+      → (r ≡ r′) × (s ≡ s′) × (p ≡ p′) × (t ≡ t′)
+  unfolding tiesTests
+  redrawn-tie-alike allowed scores splits ties r r′ s p t s′ p′ t′ f f′ =
+      let tests : verdict (tiesTests Unrooted n genes count allowed scores splits ties) ≡ verdict (tiesTests Unrooted n genes′ count allowed scores splits ties) =
+      verdict-alike (speciesTest n) _ _ (λ e. let few = few-species n e in rw (same-lent few, same-records twice few, same-rooting twice few) refl)
+      in
+      let small = passed-few n _ in (
+        f .reply
+            ∙ ap (λ (v : Verdict). withTies (foundOr (v .number) (v .place) (foundBy Unrooted (bestFor Unrooted n gs allowed (whole n)) gs))
+            (valueBy (v .number) (tiesFor Unrooted n gs allowed (whole n)))) tests
+            ∙ replied (verdict (tiesTests Unrooted n genes′ count allowed scores splits ties) .number) _ (λ z. small z)
+            ∙ sym (f′ .reply),
+        f .scoreTable
+            ∙ ap (λ (v : Verdict). filledBy (v .number) n (λ a. scoreEntry (weight Unrooted gs) (bestFor Unrooted n gs allowed a)) scores) tests
+            ∙ filled-alike (verdict (tiesTests Unrooted n genes′ count allowed scores splits ties) .number) n scores (λ z. same-score-entry twice (small z) allowed)
+            ∙ sym (f′ .scoreTable),
+        f .splitTable
+            ∙ ap (λ (v : Verdict). filledBy (v .number) n (λ a. splitEntry (bestFor Unrooted n gs allowed a)) splits) tests
+            ∙ filled-alike (verdict (tiesTests Unrooted n genes′ count allowed scores splits ties) .number) n splits (λ z. same-split-entry twice (small z) allowed)
+            ∙ sym (f′ .splitTable),
+        f .tieTable
+            ∙ ap (λ (v : Verdict). filledBy (v .number) n (λ a. tiesFor Unrooted n gs allowed a) ties) tests
+            ∙ filled-alike (verdict (tiesTests Unrooted n genes′ count allowed scores splits ties) .number) n ties (λ z. same-ties twice (small z) allowed)
+            ∙ sym (f′ .tieTable),
+      )
+    where
+      replied :
+          (k q : ℕ) → (k ≡ 0 → n ≤ 16)
+          → withTies (foundOr k q (foundBy Unrooted (bestFor Unrooted n gs allowed (whole n)) gs)) (valueBy k (tiesFor Unrooted n gs allowed (whole n)))
+          ≡ withTies (foundOr k q (foundBy Unrooted (bestFor Unrooted n gs′ allowed (whole n)) gs′)) (valueBy k (tiesFor Unrooted n gs′ allowed (whole n)))
+      replied zero q small = same-found-with-ties twice (small refl) allowed
+      replied (suc k) q small = refl
 
 -- ---- two inputs of the program
 
@@ -302,7 +349,8 @@ module _ {input input′ line : List ℕ} {all : Bool} {trees others : List Tree
       → searched Unrooted (length (names line)) (recordsOf trees) allowed ≡ searched Unrooted (length (names line)) (recordsOf others) allowed
   unfolding searched
   same-search allowed =
-      ap₂ (λ (found : Found) (m : ℕ). outcomeOf (found .number) (length (names line)) m found) (same-found standing-twice few-enough allowed)
+      ap₂ (λ (found : Tied) (m : ℕ). outcomeOf (found .number) (length (names line)) m found)
+      (same-found-with-ties standing-twice few-enough allowed)
       (many standing-twice)
 
   -- two inputs that hold what they should, with the same roster line and mode line, without a root, whose gene trees differ only in where their roots were drawn, print the same

@@ -6,22 +6,20 @@ use mathlib.Core.Bool.{Bool, true, false}
 use mathlib.Core.Option.{Option, some, none}
 use mathlib.Core.List.{List, [], _∷_, _++_, map, List·Memᴰ·head as here, List·Memᴰ·tail as there, List·Memᴰ·cases-cons}
 use native.Mathlib.Omega.{arith}
-use lib.ListN.{drop, replicate}
-use Rattle.clusters.specs.Sets.{whole}
+use lib.ListN.{drop}
 use Rattle.trees.specs.Lists.{Among, upTo}
 use Rattle.roster.specs.Verdict.{Test, Verdict, verdict, verdictBy, replyOf}
 use Rattle.roster.specs.declared.Reply.{Reply}
 use Rattle.writer.specs.Promise.{outBy}
-use Rattle.trees.specs.Records.{recordsIn}
 use Rattle.weights.specs.declared.Rooting.{Rooting}
 use Rattle.lineages.specs.Promise.{markedBy}
 use Rattle.splits.specs.BinaryTrees.{Binary}
-use Rattle.search.specs.Promise.{searchTests, filledBy, Finds}
-use Rattle.terms.specs.Answers.{foundOr}
-use Rattle.splits.specs.Best.{bestFor, foundBy}
+use Rattle.search.specs.Promise.{filledBy}
+use Rattle.terms.specs.Answers.{without, foundOr}
+use Rattle.splits.specs.Best.{foundBy}
 use Rattle.terms.specs.declared.Found.{Found}
-use Rattle.search.proofs.Accepted.{NoneGives}
-use Rattle.demands.specs.Outcomes.{TurnedAway}
+use Rattle.search.proofs.Accepted.{NoneGives, verdict-never}
+use Rattle.demands.specs.Outcomes.{TurnedAway, NotFound}
 
 -- ---- the first test that finds a fault
 
@@ -87,10 +85,6 @@ filledBy-refused (suc k) n entry lent f = refl
 
 -- ---- the search
 
--- the search's reply without a tree, by number and place
-abbrev pub without : ℕ → ℕ → Found
-without number place = record { number = number; place = place; score = 0; numbers = replicate 32 0 }
-
 -- 14
 missed : (rooting : Rooting) (o : Option Binary) (genes : List (List ℕ)) → (foundBy rooting o genes .number ≡ 0 → ⊥) → foundBy rooting o genes ≡ without 14 0
 missed rooting none genes f = refl
@@ -106,20 +100,35 @@ pub filled : (k n : ℕ) (entry : ℕ → ℕ) (lent after : List ℕ) → after
 filled zero n entry lent after e z = e
 filled (suc k) n entry lent after e z = absurd (omega arith)
 
-module _ (rooting : Rooting) (n : ℕ) (genes : List ℕ) (count : ℕ) (allowed scores splits : List ℕ) (r : Found) (s p : List ℕ)
-    (found : Finds rooting n genes count allowed scores splits r s p) (refusal : r .number ≡ 0 → ⊥) where
-  -- a refusal comes in one of these two ways
-  pub refused-ways : Refused (verdict (searchTests rooting n genes count allowed scores splits)) r
-  refused-ways =
-      go (verdict (searchTests rooting n genes count allowed scores splits) .number)
-      (verdict (searchTests rooting n genes count allowed scores splits) .place) (found .reply)
-    where
-      tree : Option Binary
-      tree = bestFor rooting n (recordsIn count genes) allowed (whole n)
+-- a refusal comes in one of these two ways
+pub refused-ways :
+    (said : Verdict) (rooting : Rooting) (tree : Option Binary) (genes : List (List ℕ)) (r : Found)
+    → r ≡ foundOr (said .number) (said .place) (foundBy rooting tree genes) → (r .number ≡ 0 → ⊥) → Refused said r
+refused-ways said rooting tree genes r told refusal = go (said .number) (said .place) told
+  where
+    go : (k q : ℕ) → r ≡ foundOr k q (foundBy rooting tree genes) → Refused (record { number = k; place = q }) r
+    go zero q e = no-tree refl (e ∙ missed rooting tree genes (λ z. refusal (ap (λ (r : Found). r .number) e ∙ z)))
+    go (suc k) q e = by-test (λ z. omega arith) e
 
-      go : (k q : ℕ) → r ≡ foundOr k q (foundBy rooting tree (recordsIn count genes)) → Refused (record { number = k; place = q }) r
-      go zero q e = no-tree refl (e ∙ missed rooting tree (recordsIn count genes) (λ z. refusal (ap (λ (r : Found). r .number) e ∙ z)))
-      go (suc k) q e = by-test (λ z. omega arith) e
+-- its number is that of a test, or 14; "score 0 .. an all-zero record"
+pub refused-not-found :
+    (l : List Test) (numbers : List ℕ) {r : Found} → Refused (verdict l) r → ((x : ℕ) → Among x (map (λ (t : Test). t .number) l) → Among x numbers)
+    → Among 14 numbers → NotFound numbers r
+refused-not-found l numbers {r} ways listed fourteen = go ways (verdict-listed l)
+  where
+    go : Refused (verdict l) r → (verdict l .number ≡ 0) ⊎ Among (verdict l .number) (map (λ (t : Test). t .number) l) → NotFound numbers r
+    go (no-tree z e) m = rw e (record { listed = fourteen; score = refl; numbers-zero = refl })
+    go (by-test f e) (inl z) = absurd (f z)
+    go (by-test f e) (inr m) = rw e (record { listed = listed (verdict l .number) m; score = refl; numbers-zero = refl })
+
+-- another number than 14 comes from a test, and 14 from none
+pub refused-by-test : {said : Verdict} {r : Found} → Refused said r → (r .number ≡ 14 → ⊥) → said .number ≡ 0 → ⊥
+refused-by-test (no-tree z e) other = absurd (other (ap (λ (r : Found). r .number) e))
+refused-by-test (by-test f e) other = f
+
+pub refused-by-none : (l : List Test) {r : Found} → NoneGives 14 l → Refused (verdict l) r → r .number ≡ 14 → verdict l .number ≡ 0
+refused-by-none l never (no-tree z e) is = z
+refused-by-none l never (by-test f e) is = absurd (verdict-never 14 l (λ z. omega arith) never (sym (ap (λ (r : Found). r .number) e) ∙ is))
 
 -- ---- "0 | done | 0"
 

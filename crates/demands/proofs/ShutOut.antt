@@ -2,6 +2,7 @@
 use Prim.Native.Nat.{ℕ, _-_, _^_, _≤_, _<_}
 use mathlib.Core.Path.{_≡_, refl, sym, ap, _∙_}
 use mathlib.Core.List.{List, [], _∷_, _++_}
+use mathlib.Core.Logic.{inl}
 use mathlib.Core.Bool.{true}
 use native.Mathlib.Omega.{arith}
 use lib.Count.{ones, onesIn, trailingZeros}
@@ -14,7 +15,7 @@ use Rattle.labels.specs.Labels.{bareLetters, letters, lettersFrom, doubled, raw
 use Rattle.labels.specs.Writing.{labelOf, mayBeBare}
 use Rattle.trees.specs.Drawn.{properly, maximal, placed, byLowest, children, drawnTo, drawn}
 use Rattle.trees.specs.Lists.{keep, some, insert, sorted, pieces, total, upTo}
-use Rattle.trees.specs.Records.{recordOf}
+use Rattle.trees.specs.Records.{recordOf, recordsIn}
 use Rattle.trees.specs.Tree.{cluster, clusters}
 use Rattle.trees.specs.Unrooted.{resolved, mayUnroot}
 use Rattle.trees.specs.Thinned.{leftBelow, clustersLeft}
@@ -48,16 +49,22 @@ use Rattle.search.proofs.BestTrees.{every-among}
 use Rattle.terms.specs.Allowed.{firstStrange, allowedTest}
 use Rattle.search.specs.Promise.{searchTests, Finds}
 use Rattle.splits.specs.Best.{bestFor}
+use Rattle.splits.specs.Ties.{tieEntry}
+use Rattle.search.specs.TiesPromise.{tiesFor, withoutTies, FindsTies}
+use Rattle.search.specs.declared.tied.Tied.{Tied}
+use Rattle.search.proofs.Tying.{ties-find}
+use Rattle.search.proofs.Ties.{ties-told}
 use Rattle.terms.specs.declared.Found.{Found}
 use Rattle.printing.specs.Texts.{reportBytes}
-use Rattle.printing.specs.Words.{taxaText, genesText, scoreText, refusedText, atText, digitsTo, decimal}
+use Rattle.printing.specs.Words.{taxaText, genesText, scoreText, tiesText, refusedText, atText, digitsTo, decimal}
 use Rattle.gather.specs.GeneTrees.{gatherTo, walk, gather}
 use Rattle.report.specs.Input.{lineLength, firstLine, behindLine, endsInFeed, modePlace, treesPlace}
 use Rattle.report.specs.Program.{modeOf, program}
 use Rattle.outcomes.specs.Outcome.{searched}
 use Rattle.report.specs.Promise.{output, Reports}
-use Rattle.demands.specs.Handed.{Slice, Bytes, AnyRecord, ToRead, ToWrite, GeneTrees, ToWeigh, ToScore, ToMark, ToSearch}
+use Rattle.demands.specs.Handed.{Slice, Bytes, AnyRecord, ToRead, ToWrite, GeneTrees, ToWeigh, ToScore, ToMark, ToSearch, ToTie}
 use Rattle.demands.proofs.SmallInputs.{ab-cd, ac-bd, every-of-four, lent-of-four}
+use Rattle.demands.proofs.Ties.{entry-of-no-species}
 
 -- ---- what is computed: small inputs and their replies
 
@@ -240,11 +247,38 @@ unfolding ab-cd every-of-four lent-of-four ones onesIn trailingZeros whole singl
 find-tables Rooted r s p f = (ap (λ (l : List ℕ). getD l 0 0) (f .scoreTable), ap (λ (l : List ℕ). getD l 0 0) (f .splitTable))
 find-tables Unrooted r s p f = (ap (λ (l : List ℕ). getD l 0 0) (f .scoreTable), ap (λ (l : List ℕ). getD l 0 0) (f .splitTable))
 
--- the input `a`, `all`, `a;` prints three lines, the empty one `refused 1 at 0`
+-- how many trees are as good for the first gene tree, and for both
+abbrev ties-of-one : Rooting → ℕ
+ties-of-one Rooted = 1
+ties-of-one Unrooted = 5
+
+abbrev ties-of-both : Rooting → ℕ
+ties-of-both Rooted = 2
+ties-of-both Unrooted = 8
+
+count-ties :
+    (rooting : Rooting) → (tiesFor rooting 4 (recordsIn 1 ab-cd) every-of-four (whole 4) ≡ ties-of-one rooting)
+    × (tiesFor rooting 4 (recordsIn 2 (ab-cd ++ ac-bd)) every-of-four (whole 4) ≡ ties-of-both rooting)
+unfolding ab-cd ac-bd every-of-four ones onesIn trailingZeros whole single union has within apart size lowest keep some insert
+    sorted recordOf
+    properly maximal every among rising singlesFrom nested valid validGene binary unrootedHas unrootedClusters maximalWithin kDrawn
+    kOf placed byLowest
+    children extra total weight score pieces upTo least clustersIn isLow lows
+    each forks treesTo treesOn those all scoreOf treesOver leastTrees allowedIn tieEntry tiesFor
+count-ties Rooted = (refl, refl)
+count-ties Unrooted = (refl, refl)
+
+ties-differ :
+    (rooting : Rooting) → tiesFor rooting 4 (recordsIn 1 ab-cd) every-of-four (whole 4) ≡ tiesFor rooting 4 (recordsIn 2 (ab-cd ++ ac-bd)) every-of-four (whole 4)
+    → ⊥
+ties-differ Rooted e = omega (arith, sym (count-ties Rooted .0) ∙ e ∙ count-ties Rooted .1)
+ties-differ Unrooted e = omega (arith, sym (count-ties Unrooted .0) ∙ e ∙ count-ties Unrooted .1)
+
+-- the input `a`, `all`, `a;` prints four lines, the empty one `refused 1 at 0`
 a-input : List ℕ
 a-input = 97 ∷ 10 ∷ 97 ∷ 108 ∷ 108 ∷ 10 ∷ 97 ∷ 59 ∷ 10 ∷ []
 
-a-output : output a-input ≡ taxaText ++ 49 ∷ genesText ++ 49 ∷ 10 ∷ scoreText ++ 48 ∷ 10 ∷ 97 ∷ 59 ∷ 10 ∷ []
+a-output : output a-input ≡ taxaText ++ 49 ∷ genesText ++ 49 ∷ 10 ∷ scoreText ++ 48 ∷ 10 ∷ tiesText ++ 49 ∷ 10 ∷ 97 ∷ 59 ∷ 10 ∷ []
 unfolding a-input lineLength firstLine behindLine endsInFeed modePlace treesPlace modeOf gatherTo walk gather rootingTest searched program digitsTo
     decimal output ones onesIn
     trailingZeros whole single union has within apart size lowest keep some insert sorted recordOf properly maximal every among rising singlesFrom
@@ -252,7 +286,7 @@ unfolding a-input lineLength firstLine behindLine endsInFeed modePlace treesPlac
     least clustersIn isLow lows each forks treesTo treesOn those all scoreOf treesOver leastTrees best allowedIn bestFor answerTo leafBy closingBy
     readTreeToBy readTreeBy readNodeBy nextIs nextLabel blanks skip number numberBehind numbers supported name innerName run bareLetters letters lettersFrom
     doubled rawTo told padded same position inQuotes begins beginnings nameAt names strayAt longAt manyAt againAt openAt faultAt firstFault faulty
-    cluster clusters placed byLowest children drawnTo drawn treeText written nodeText labelOf mayBeBare
+    cluster clusters placed byLowest children drawnTo drawn treeText written nodeText labelOf mayBeBare tieEntry tiesFor
 a-output = refl
 
 no-output : output [] ≡ refusedText ++ 49 ∷ atText ++ 48 ∷ 10 ∷ []
@@ -588,6 +622,94 @@ module _ (rooting : Rooting) (f : ℕ → List ℕ → ℕ → List ℕ → List
       let e = first-only 4 ab-cd (ab-cd ++ ac-bd) 1 2 every-of-four lent-of-four lent-of-four to-search-ab-cd to-search-both refl
       (ap (λ (r : Found). r .number) found-ab-cd) (ap (λ (r : Found). r .number) found-both) in
       omega (arith, both-score-something rooting, ap (λ (r : Found). r .score) found-ab-cd, ap (λ (r : Found). r .score) found-both, e)
+
+-- ---- the search with ties (#111)
+
+-- with a third table
+to-tie : {genes : List ℕ} {count : ℕ} → ToSearch 4 genes count every-of-four lent-of-four lent-of-four
+    → ToTie 4 genes count every-of-four lent-of-four lent-of-four lent-of-four
+unfolding lent-of-four every
+to-tie h = record { to-search = h; ties-numbers = slice-told (2 ^ 64) lent-of-four refl (omega arith) }
+
+module _ (rooting : Rooting) (f : ℕ → List ℕ → ℕ → List ℕ → List ℕ → List ℕ → List ℕ → Tied)
+    (s p t : ℕ → List ℕ → ℕ → List ℕ → List ℕ → List ℕ → List ℕ → List ℕ)
+    (meets : (n : ℕ) (genes : List ℕ) (count : ℕ) (allowed scores splits ties : List ℕ) → ToTie n genes count allowed scores splits ties
+    → FindsTies rooting n genes count allowed scores splits ties (f n genes count allowed scores splits ties) (s n genes count allowed scores splits ties)
+    (p n genes count allowed scores splits ties) (t n genes count allowed scores splits ties)) where
+  tied-by : (genes : List ℕ) (count : ℕ) → ToSearch 4 genes count every-of-four lent-of-four lent-of-four
+      → FindsTies rooting 4 genes count every-of-four lent-of-four lent-of-four lent-of-four (f 4 genes count every-of-four lent-of-four lent-of-four lent-of-four)
+      (s 4 genes count every-of-four lent-of-four lent-of-four lent-of-four) (p 4 genes count every-of-four lent-of-four lent-of-four lent-of-four)
+      (t 4 genes count every-of-four lent-of-four lent-of-four lent-of-four)
+  tied-by genes count h = meets 4 genes count every-of-four lent-of-four lent-of-four lent-of-four (to-tie h)
+
+  -- but for the ties it replies as the search does
+  searched-by : (genes : List ℕ) (count : ℕ) → ToSearch 4 genes count every-of-four lent-of-four lent-of-four
+      → Finds rooting 4 genes count every-of-four lent-of-four lent-of-four
+      (withoutTies (f 4 genes count every-of-four lent-of-four lent-of-four lent-of-four))
+      (s 4 genes count every-of-four lent-of-four lent-of-four lent-of-four) (p 4 genes count every-of-four lent-of-four lent-of-four lent-of-four)
+  unfolding lent-of-four
+  searched-by genes count h =
+      ties-find rooting 4 genes count every-of-four lent-of-four lent-of-four lent-of-four (tied-by genes count h) (omega arith)
+
+  tied-ab-cd :
+      withoutTies (f 4 ab-cd 1 every-of-four lent-of-four lent-of-four lent-of-four)
+      ≡ record { number = 0; place = 0; score = 0; numbers = first-tree rooting }
+  tied-ab-cd = find-ab-cd rooting _ _ _ (searched-by ab-cd 1 to-search-ab-cd)
+
+  tied-both :
+      withoutTies (f 4 (ab-cd ++ ac-bd) 2 every-of-four lent-of-four lent-of-four lent-of-four)
+      ≡ record { number = 0; place = 0; score = score-of-both rooting; numbers = first-tree rooting }
+  tied-both = find-both rooting _ _ _ (searched-by (ab-cd ++ ac-bd) 2 to-search-both)
+
+  -- "one that turns everything away"
+  pub tie-does-not-refuse-all :
+      ((n : ℕ) (genes : List ℕ) (count : ℕ) (allowed scores splits ties : List ℕ) → ToTie n genes count allowed scores splits ties
+      → f n genes count allowed scores splits ties .number ≡ 0 → ⊥) → ⊥
+  tie-does-not-refuse-all away =
+      away 4 ab-cd 1 every-of-four lent-of-four lent-of-four lent-of-four (to-tie to-search-ab-cd) (ap (λ (r : Found). r .number) tied-ab-cd)
+
+  -- "one that does nothing (1, which fixes every buffer ..)": it leaves the third table as it was lent
+  pub tie-fills-the-third-table :
+      ((n : ℕ) (genes : List ℕ) (count : ℕ) (allowed scores splits ties : List ℕ) → ToTie n genes count allowed scores splits ties
+      → t n genes count allowed scores splits ties ≡ ties) → ⊥
+  unfolding lent-of-four
+  tie-fills-the-third-table keeps =
+      let e = entry-of-no-species (tied-by ab-cd 1 to-search-ab-cd) (inl (ap (λ (r : Found). r .number) tied-ab-cd)) in
+      omega (arith, e, ap (λ (l : List ℕ). getD l 0 0) (keeps 4 ab-cd 1 every-of-four lent-of-four lent-of-four lent-of-four (to-tie to-search-ab-cd)))
+
+  -- "one that reports an invented score": the same for all
+  pub tie-has-no-invented-score :
+      (c : ℕ)
+      → ((n : ℕ) (genes : List ℕ) (count : ℕ) (allowed scores splits ties : List ℕ) → ToTie n genes count allowed scores splits ties
+      → f n genes count allowed scores splits ties .number ≡ 0 → f n genes count allowed scores splits ties .score ≡ c) → ⊥
+  tie-has-no-invented-score c always =
+      let e = always 4 ab-cd 1 every-of-four lent-of-four lent-of-four lent-of-four (to-tie to-search-ab-cd) (ap (λ (r : Found). r .number) tied-ab-cd) in
+      let d = always 4 (ab-cd ++ ac-bd) 2 every-of-four lent-of-four lent-of-four lent-of-four (to-tie to-search-both)
+      (ap (λ (r : Found). r .number) tied-both) in
+      omega (arith, both-score-something rooting, ap (λ (r : Found). r .score) tied-ab-cd, ap (λ (r : Found). r .score) tied-both, e, d)
+
+  -- "one that counts the first gene tree and passes over the others": its number of ties is then the same
+  pub tie-counts-every-gene-tree :
+      ((n : ℕ) (genes genes′ : List ℕ) (count count′ : ℕ) (allowed scores splits ties : List ℕ)
+      → ToTie n genes count allowed scores splits ties → ToTie n genes′ count′ allowed scores splits ties → take 32 genes ≡ take 32 genes′
+      → f n genes count allowed scores splits ties .number ≡ 0 → f n genes′ count′ allowed scores splits ties .number ≡ 0
+      → f n genes count allowed scores splits ties .ties ≡ f n genes′ count′ allowed scores splits ties .ties) → ⊥
+  unfolding ab-cd ac-bd recordOf sorted insert
+  tie-counts-every-gene-tree first-only =
+      let z = ap (λ (r : Found). r .number) tied-ab-cd in
+      let z′ = ap (λ (r : Found). r .number) tied-both in
+      let e = first-only 4 ab-cd (ab-cd ++ ac-bd) 1 2 every-of-four lent-of-four lent-of-four lent-of-four (to-tie to-search-ab-cd) (to-tie to-search-both)
+      refl z z′ in
+      ties-differ rooting (sym (ties-told (tied-by ab-cd 1 to-search-ab-cd) (inl z)) ∙ e ∙ ties-told (tied-by (ab-cd ++ ac-bd) 2 to-search-both) (inl z′))
+
+  -- so it is not the same for all
+  pub tie-has-no-fixed-number :
+      (m : ℕ)
+      → ((n : ℕ) (genes : List ℕ) (count : ℕ) (allowed scores splits ties : List ℕ) → ToTie n genes count allowed scores splits ties
+      → f n genes count allowed scores splits ties .number ≡ 0 → f n genes count allowed scores splits ties .ties ≡ m) → ⊥
+  tie-has-no-fixed-number m always =
+      tie-counts-every-gene-tree (λ n genes genes′ count count′ allowed scores splits ties h h′ same z z′.
+      always n genes count allowed scores splits ties h z ∙ sym (always n genes′ count′ allowed scores splits ties h′ z′))
 
 -- ---- the program
 

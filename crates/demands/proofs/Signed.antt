@@ -1,10 +1,12 @@
 -- What the clerk signs: "I must be able to say that the tree in it is the right one".
 use Prim.Native.Nat.{ℕ, _≤_}
 use mathlib.Core.Path.{_≡_, refl, sym, ap, _∙_, subst}
+use mathlib.Core.Logic.{_↔_}
 use mathlib.Core.Bool.{Bool, false}
 use mathlib.Core.List.{List, _∷_, _++_, append-assoc}
 use native.Mathlib.Omega.{arith}
 use lib.ListN.{length, getD, take, drop, length-map}
+use Rattle.clusters.specs.Sets.{whole}
 use Rattle.clusters.proofs.Sets.{below-of-within}
 use Rattle.trees.specs.Tree.{Tree, clusters}
 use Rattle.trees.specs.Records.{recordOf, largest, SpeciesValid, GeneValid}
@@ -21,14 +23,19 @@ use Rattle.reader.specs.declared.Reading.{Reading}
 use Rattle.texts.specs.Writing.{written}
 use Rattle.writer.proofs.RoundTrip.{reads-back}
 use Rattle.weights.specs.declared.Rooting.{Rooting}
-use Rattle.weights.specs.Count.{weight}
+use Rattle.weights.specs.Count.{weight, score}
 use Rattle.lineages.specs.Checks.{rootingTest}
 use Rattle.lineages.proofs.FirstBad.{none-unresolved}
 use Rattle.splits.specs.BinaryTrees.{clustersIn}
 use Rattle.splits.specs.Least.{scoreOf}
 use Rattle.search.specs.Candidates.{Candidate}
+use Rattle.search.specs.LeastAmong.{LeastNumber, LeastFor}
+use Rattle.search.specs.TiesPromise.{tiesFor}
 use Rattle.search.proofs.Demand.{found-answers}
-use Rattle.printing.specs.Words.{taxaText, genesText, scoreText, newline, decimal}
+use Rattle.search.proofs.HowMany.{number-same, number-one}
+use Rattle.search.proofs.Lots.{least-exactly, answer-is-least}
+use Rattle.search.proofs.Ties.{tied-number}
+use Rattle.printing.specs.Words.{taxaText, genesText, scoreText, tiesText, newline, decimal}
 use Rattle.report.specs.Input.{firstLine, behindLine, treesPlace}
 use Rattle.report.specs.Program.{program}
 use Rattle.outcomes.specs.Outcome.{Outcome, allowedBy, printed}
@@ -37,7 +44,7 @@ use Rattle.report.specs.Promise.{output, Reports}
 use Rattle.report.proofs.Outcomes.{reported-text}
 use Rattle.demands.specs.GeneTrees.{RecordsOf}
 use Rattle.demands.specs.Input.{Holds}
-use Rattle.demands.specs.Signed.{Eligible, Signed}
+use Rattle.demands.specs.Signed.{Eligible, Reaches, Signed}
 use Rattle.demands.proofs.GeneTrees.{trees-enter, score-drawn}
 use Rattle.demands.proofs.Gathering.{GatheredFrom, gathered-from}
 use Rattle.demands.proofs.TwoLines.{feed-splits, trees-behind}
@@ -63,6 +70,19 @@ module _ {n : ℕ} {genes : List (List ℕ)} {trees : List Tree} (all : Bool) (r
     allowed = λ a m. byte-allows rooting r a (below-of-within n (k .valid .inside a m .1)) all (k .over a m);
   }
 
+-- ---- those that reach the least score
+
+module _ {n : ℕ} {genes : List (List ℕ)} {trees : List Tree} (all : Bool) (rooting : Rooting) (r : RecordsOf n genes trees) {s : ℕ}
+    (least : LeastNumber (Candidate n (allowedBy all rooting n genes)) (score rooting genes) s) (c : List ℕ) where
+  -- where s is the least score of those that compete, a least one reaches it, and one that reaches it is least
+  least-reaches : LeastFor rooting n (allowedBy all rooting n genes) genes c → Reaches n all rooting trees s c
+  least-reaches h =
+      let k = least-exactly least c .0 h in
+      record { eligible = competitor-eligible all rooting r c (k .0); counted = sym (score-drawn r rooting c) ∙ k .1 }
+
+  reaches-least : Reaches n all rooting trees s c → LeastFor rooting n (allowedBy all rooting n genes) genes c
+  reaches-least h = least-exactly least c .1 (eligible-competes all rooting r c (h .eligible), score-drawn r rooting c ∙ h .counted)
+
 -- ---- the tree's text
 
 -- the text of a species record is read back as species text, and as a gene tree too
@@ -78,21 +98,22 @@ species-reads-back line {r} good v kind h = reads-back line good gene kind (spec
     species Species = largest-of-valid v
     species Gene = gene .of-roster
 
--- ---- the three lines
+-- ---- the four lines
 
 regroup :
-    (a b c d e f g h i j : List ℕ)
-    → a ++ b ++ c ++ d ++ e ++ f ++ g ++ h ++ i ++ j ≡ (a ++ b ++ c ++ d ++ e) ++ (f ++ g ++ h) ++ (i ++ j)
-regroup a b c d e f g h i j = simp append-assoc
+    (a b c d e f g h i j k l m : List ℕ)
+    → a ++ b ++ c ++ d ++ e ++ f ++ g ++ h ++ i ++ j ++ k ++ l ++ m ≡ (a ++ b ++ c ++ d ++ e) ++ (f ++ g ++ h) ++ (i ++ j ++ k) ++ (l ++ m)
+regroup a b c d e f g h i j k l m = simp append-assoc
 
-three-lines :
-    (input : List ℕ) (n m s : ℕ) (r : List ℕ) → program input ≡ solved n m s r
-    → output input ≡ (taxaText ++ decimal n ++ genesText ++ decimal m ++ newline) ++ (scoreText ++ decimal s ++ newline)
+four-lines :
+    (input : List ℕ) (n m s t : ℕ) (r : List ℕ) → program input ≡ solved n m s t r
+    → output input ≡ (taxaText ++ decimal n ++ genesText ++ decimal m ++ newline) ++ (scoreText ++ decimal s ++ newline) ++ (tiesText ++ decimal t ++ newline)
     ++ (written (names (firstLine input)) r ++ newline)
 unfolding output
-three-lines input n m s r e =
+four-lines input n m s t r e =
     ap (printed (names (firstLine input))) e
-    ∙ regroup taxaText (decimal n) genesText (decimal m) newline scoreText (decimal s) newline (written (names (firstLine input)) r) newline
+    ∙ regroup taxaText (decimal n) genesText (decimal m) newline scoreText (decimal s) newline tiesText (decimal t) newline (written (names (firstLine input)) r)
+    newline
 
 -- ---- the theorem
 
@@ -123,24 +144,24 @@ module _ (input : List ℕ) {o : Outcome} (v : Reached input o) where
   }
 
 -- for an input that the program solves
-pub signed : (input : List ℕ) (n m s : ℕ) (r : List ℕ) → program input ≡ solved n m s r → Signed input n m s r
-signed input n m s r e =
+pub signed : (input : List ℕ) (n m s t : ℕ) (r : List ℕ) → program input ≡ solved n m s t r → Signed input n m s t r
+signed input n m s t r e =
     let v = program-reached input a-tree e in go v
     (searched-best (v .rooting) (speciesIn input) (v .genes) (allowedBy (v .all) (v .rooting) (speciesIn input) (v .genes)) (v .result))
   where
     go :
-        (v : Reached input (solved n m s r))
-        → Best (v .rooting) (speciesIn input) (v .genes) (allowedBy (v .all) (v .rooting) (speciesIn input) (v .genes)) n m s r → Signed input n m s r
+        (v : Reached input (solved n m s t r))
+        → Best (v .rooting) (speciesIn input) (v .genes) (allowedBy (v .all) (v .rooting) (speciesIn input) (v .genes)) n m s t r → Signed input n m s t r
     go v b =
         let g = gathered-trees input v in
-        let k = v .few in
-        let a = found-answers (v .rooting) (speciesIn input) (v .genes) (allowedBy (v .all) (v .rooting) (speciesIn input) (v .genes)) (omega arith)
-        (b .tree) (b .is-best) in
-        let told : program input
-        ≡ solved (speciesIn input) (length (v .genes)) (scoreOf (weight (v .rooting) (v .genes)) (b .tree)) (recordOf (clustersIn (b .tree))) =
-        cc (e, b .species, b .count, b .scored, b .recorded)
-        in
-        rw (← b .species, ← b .count, ← b .scored, ← b .recorded) (record {
+        let allowed = allowedBy (v .all) (v .rooting) (speciesIn input) (v .genes) in
+        let tree = recordOf (clustersIn (b .tree)) in
+        let best = scoreOf (weight (v .rooting) (v .genes)) (b .tree) in
+        let ties = tiesFor (v .rooting) (speciesIn input) (v .genes) allowed (whole (speciesIn input)) in
+        let a = found-answers (v .rooting) (speciesIn input) (v .genes) allowed (few input v) (b .tree) (b .is-best) in
+        let least = answer-is-least a in
+        let told : program input ≡ solved (speciesIn input) (length (v .genes)) best ties tree = cc (e, b .species, b .count, b .scored, b .tied, b .recorded) in
+        rw (← b .species, ← b .count, ← b .scored, ← b .tied, ← b .recorded) (record {
           line = firstLine input;
           all = v .all;
           rooting = v .rooting;
@@ -148,31 +169,43 @@ signed input n m s r e =
           holds = input-holds input v;
           species = refl;
           count = as-many input v;
-          eligible = competitor-eligible (v .all) (v .rooting) (g .records) (recordOf (clustersIn (b .tree))) (a .competes);
-          counted = sym (score-drawn (g .records) (v .rooting) (recordOf (clustersIn (b .tree)))) ∙ a .counted;
+          reaches = record {
+            eligible = competitor-eligible (v .all) (v .rooting) (g .records) tree (a .competes);
+            counted = sym (score-drawn (g .records) (v .rooting) tree) ∙ a .counted;
+          };
           least =
-              λ c h. subst (λ (x : ℕ). scoreOf (weight (v .rooting) (v .genes)) (b .tree) ≤ x) (score-drawn (g .records) (v .rooting) c)
+              λ c h. subst (λ (x : ℕ). best ≤ x) (score-drawn (g .records) (v .rooting) c)
               (a .least c (eligible-competes (v .all) (v .rooting) (g .records) c h));
+          ties = number-same (tied-number (v .rooting) (speciesIn input) (v .genes) allowed (few input v))
+              (least-reaches (v .all) (v .rooting) (g .records) least) (reaches-least (v .all) (v .rooting) (g .records) least);
           reads-back = λ kind q. species-reads-back (firstLine input) (v .good) (a .competes .valid) kind;
-          lines =
-              three-lines input (speciesIn input) (length (v .genes)) (scoreOf (weight (v .rooting) (v .genes)) (b .tree))
-              (recordOf (clustersIn (b .tree))) told;
+          lines = four-lines input (speciesIn input) (length (v .genes)) best ties tree told;
         })
+
+-- and t is 1 exactly where the tree is the only one of its score
+pub signed-alone :
+    {input : List ℕ} {n m s t : ℕ} {r : List ℕ} (q : Signed input n m s t r)
+    → (t ≡ 1) ↔ ((c : List ℕ) → Reaches n (q .all) (q .rooting) (q .trees) s c → c ≡ r)
+signed-alone q = number-one (q .ties) (q .reaches)
 
 -- ---- what is printed
 
 -- an output that begins with a `t` is that of a tree
-pub printed-solved : (input : List ℕ) → getD (output input) 0 0 ≡ 116 → (n : ℕ) × (m : ℕ) × (s : ℕ) × (r : List ℕ) × (program input ≡ solved n m s r)
+pub printed-solved :
+    (input : List ℕ) → getD (output input) 0 0 ≡ 116 → (n : ℕ) × (m : ℕ) × (s : ℕ) × (t : ℕ) × (r : List ℕ) × (program input ≡ solved n m s t r)
 unfolding output
-printed-solved input t = go (program input) refl
+printed-solved input begins = go (program input) refl
   where
-    go : (o : Outcome) → program input ≡ o → (n : ℕ) × (m : ℕ) × (s : ℕ) × (r : List ℕ) × (program input ≡ solved n m s r)
-    go (refused number place) e = absurd (omega (arith, ap (λ (o : Outcome). getD (printed (names (firstLine input)) o) 0 0) e, t))
-    go (solved n m s r) e = (n, m, s, r, e)
+    go : (o : Outcome) → program input ≡ o → (n : ℕ) × (m : ℕ) × (s : ℕ) × (t : ℕ) × (r : List ℕ) × (program input ≡ solved n m s t r)
+    go (refused number place) e = absurd (omega (arith, ap (λ (o : Outcome). getD (printed (names (firstLine input)) o) 0 0) e, begins))
+    go (solved n m s t r) e = (n, m, s, t, r, e)
 
--- "prints species and gene trees read, the score, and the tree": and so it is signed
-pub printed-is-signed : (input : List ℕ) → getD (output input) 0 0 ≡ 116 → (n : ℕ) × (m : ℕ) × (s : ℕ) × (r : List ℕ) × Signed input n m s r
-printed-is-signed input t = let p = printed-solved input t in (p .0, p .1, p .2, p .3, signed input (p .0) (p .1) (p .2) (p .3) (p .4))
+-- "prints species and gene trees read, the score, and the tree", and the ties (#111): and so it is signed
+pub printed-is-signed :
+    (input : List ℕ) → getD (output input) 0 0 ≡ 116 → (n : ℕ) × (m : ℕ) × (s : ℕ) × (t : ℕ) × (r : List ℕ) × Signed input n m s t r
+printed-is-signed input begins =
+    let p = printed-solved input begins in
+    (p .0, p .1, p .2, p .3, p .4, signed input (p .0) (p .1) (p .2) (p .3) (p .4) (p .5))
 
 -- the first bytes of the reply's text, as many as it says, are the output
 pub report-is-the-output : (input : List ℕ) (reply : _) → Reports input reply → take (reply .len) (reply .text) ≡ output input

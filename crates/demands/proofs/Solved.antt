@@ -18,6 +18,7 @@ use Rattle.lineages.specs.Checks.{rootingTest}
 use Rattle.splits.specs.BinaryTrees.{Binary, clustersIn}
 use Rattle.splits.specs.Least.{scoreOf}
 use Rattle.splits.specs.Best.{bestFor, foundBy}
+use Rattle.search.specs.TiesPromise.{tiesFor, withTies}
 use Rattle.reader.specs.Promise.{textMost}
 use Rattle.gather.specs.GeneTrees.{Gathered, gather}
 use Rattle.gather.specs.GeneTrees.Gathered.{gathered, stopped}
@@ -30,32 +31,33 @@ use Rattle.outcomes.specs.Outcome.Outcome.{refused, solved}
 use Rattle.demands.proofs.TreesFaults.{stopped-early}
 use Rattle.demands.proofs.TwoLines.{ModeTold, mode-told}
 
-pub refused-solved : {number place n m s : ℕ} {r : List ℕ} → refused number place ≡ solved n m s r → ⊥
+pub refused-solved : {number place n m s t : ℕ} {r : List ℕ} → refused number place ≡ solved n m s t r → ⊥
 refused-solved e = let z : _≡_ {A = ℕ} 0 1 = cc in omega arith
 
 -- ---- the search
 
 -- the best tree on n species for these gene trees, and what is said of it
-pub record Best (rooting : Rooting) (n : ℕ) (genes : List (List ℕ)) (allowed : List ℕ) (n′ m s : ℕ) (r : List ℕ) : Type 0 where
+pub record Best (rooting : Rooting) (n : ℕ) (genes : List (List ℕ)) (allowed : List ℕ) (n′ m s t : ℕ) (r : List ℕ) : Type 0 where
   pub tree : Binary
   pub is-best : bestFor rooting n genes allowed (whole n) ≡ some tree
   pub species : n ≡ n′
   pub count : length genes ≡ m
   pub scored : scoreOf (weight rooting genes) tree ≡ s
+  pub tied : tiesFor rooting n genes allowed (whole n) ≡ t
   pub recorded : recordOf (clustersIn tree) ≡ r
 
 pub searched-best :
-    (rooting : Rooting) (n : ℕ) (genes : List (List ℕ)) (allowed : List ℕ) {n′ m s : ℕ} {r : List ℕ} → searched rooting n genes allowed ≡ solved n′ m s r
-    → Best rooting n genes allowed n′ m s r
+    (rooting : Rooting) (n : ℕ) (genes : List (List ℕ)) (allowed : List ℕ) {n′ m s t : ℕ} {r : List ℕ}
+    → searched rooting n genes allowed ≡ solved n′ m s t r → Best rooting n genes allowed n′ m s t r
 unfolding searched
-searched-best rooting n genes allowed {n′} {m} {s} {r} e = go (bestFor rooting n genes allowed (whole n)) refl e
+searched-best rooting n genes allowed {n′} {m} {s} {t} {r} e = go (bestFor rooting n genes allowed (whole n)) refl e
   where
     go :
         (o : Option Binary) → bestFor rooting n genes allowed (whole n) ≡ o
-        → outcomeOf (foundBy rooting o genes .number) n (length genes) (foundBy rooting o genes) ≡ solved n′ m s r
-        → Best rooting n genes allowed n′ m s r
+        → outcomeOf (foundBy rooting o genes .number) n (length genes) (withTies (foundBy rooting o genes) (tiesFor rooting n genes allowed (whole n)))
+        ≡ solved n′ m s t r → Best rooting n genes allowed n′ m s t r
     go none b e = absurd (refused-solved e)
-    go (some t) b e = record { tree = t; is-best = b; species = cc; count = cc; scored = cc; recorded = cc }
+    go (some u) b e = record { tree = u; is-best = b; species = cc; count = cc; scored = cc; tied = cc; recorded = cc }
 
 pub searched-none :
     (rooting : Rooting) (n : ℕ) (genes : List (List ℕ)) (allowed : List ℕ) {number place : ℕ} → searched rooting n genes allowed ≡ refused number place
@@ -65,8 +67,8 @@ searched-none rooting n genes allowed {number} {place} e = go (bestFor rooting n
   where
     go :
         (o : Option Binary) → bestFor rooting n genes allowed (whole n) ≡ o
-        → outcomeOf (foundBy rooting o genes .number) n (length genes) (foundBy rooting o genes) ≡ refused number place
-        → bestFor rooting n genes allowed (whole n) ≡ none
+        → outcomeOf (foundBy rooting o genes .number) n (length genes) (withTies (foundBy rooting o genes) (tiesFor rooting n genes allowed (whole n)))
+        ≡ refused number place → bestFor rooting n genes allowed (whole n) ≡ none
     go none b e = b
     go (some t) b e = absurd (refused-solved (sym e))
 
@@ -78,7 +80,7 @@ speciesIn input = length (names (firstLine input))
 
 -- an outcome that only the search gives: a tree, or 14
 pub data Late : Outcome → Type 0 where
-  a-tree : {n m s : ℕ} {r : List ℕ} → Late (solved n m s r)
+  a-tree : {n m s t : ℕ} {r : List ℕ} → Late (solved n m s t r)
   no-tree : {place : ℕ} → Late (refused 14 place)
 
 early : {o : Outcome} {number place : ℕ} → Late o → (number ≡ 14 → ⊥) → refused number place ≡ o → ⊥

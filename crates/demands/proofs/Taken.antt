@@ -20,6 +20,7 @@ use Rattle.lineages.proofs.FirstBad.{all-resolved}
 use Rattle.splits.specs.BinaryTrees.{Binary, clustersIn}
 use Rattle.splits.specs.Least.{scoreOf}
 use Rattle.splits.specs.Best.{bestFor}
+use Rattle.search.specs.TiesPromise.{tiesFor}
 use Rattle.search.proofs.Demand.{found-answers, none-competes}
 use Rattle.reader.specs.Promise.{textMost}
 use Rattle.gather.specs.GeneTrees.{Gathered, gather}
@@ -126,8 +127,11 @@ module _ {input line : List ℕ} {all : Bool} {rooting : Rooting} {trees : List 
   abbrev found-tree : Option Binary
   found-tree = bestFor rooting (length (names line)) genes allowed (whole (length (names line)))
 
+  abbrev found-ties : ℕ
+  found-ties = tiesFor rooting (length (names line)) genes allowed (whole (length (names line)))
+
   found : (t : Binary) → found-tree ≡ some t
-      → program input ≡ solved (length (names line)) (length trees) (scoreOf (weight rooting genes) t) (recordOf (clustersIn t))
+      → program input ≡ solved (length (names line)) (length trees) (scoreOf (weight rooting genes) t) found-ties (recordOf (clustersIn t))
   unfolding searched
   found t b = searches ∙ rw (b, length-map trees (λ (t : Tree). recordOf (clusters t))) refl
 
@@ -144,10 +148,10 @@ module _ {input line : List ℕ} {all : Bool} {rooting : Rooting} {trees : List 
 
   solves :
       (c : List ℕ) → Eligible (length (names line)) all rooting trees c
-      → (s : ℕ) × (r : List ℕ) × (program input ≡ solved (length (names line)) (length trees) s r)
+      → (s : ℕ) × (r : List ℕ) × (program input ≡ solved (length (names line)) (length trees) s found-ties r)
   solves c e = go found-tree refl
     where
-      go : (o : Option Binary) → found-tree ≡ o → (s : ℕ) × (r : List ℕ) × (program input ≡ solved (length (names line)) (length trees) s r)
+      go : (o : Option Binary) → found-tree ≡ o → (s : ℕ) × (r : List ℕ) × (program input ≡ solved (length (names line)) (length trees) s found-ties r)
       go (some t) b = (scoreOf (weight rooting genes) t, recordOf (clustersIn t), found t b)
       go none b = absurd (missed-eligible b c e)
 
@@ -161,19 +165,19 @@ module _ {input line : List ℕ} {all : Bool} {rooting : Rooting} {trees : List 
 -- ---- the theorems
 
 -- "prints species and gene trees read, the score, and the tree": exactly where there is one
-pub solved-exactly : (input : List ℕ) → ((n : ℕ) × (m : ℕ) × (s : ℕ) × (r : List ℕ) × (program input ≡ solved n m s r)) ↔ Solvable input
+pub solved-exactly : (input : List ℕ) → ((n : ℕ) × (m : ℕ) × (s : ℕ) × (t : ℕ) × (r : List ℕ) × (program input ≡ solved n m s t r)) ↔ Solvable input
 solved-exactly input = (
-  λ p. let q = signed input (p .0) (p .1) (p .2) (p .3) (p .4) in record {
+  λ p. let q = signed input (p .0) (p .1) (p .2) (p .3) (p .4) (p .5) in record {
     line = q .line;
     all = q .all;
     rooting = q .rooting;
     trees = q .trees;
     holds = q .holds;
-    tree = p .3;
-    eligible = subst (λ (n : ℕ). Eligible n (q .all) (q .rooting) (q .trees) (p .3)) (q .species) (q .eligible);
+    tree = p .4;
+    eligible = subst (λ (n : ℕ). Eligible n (q .all) (q .rooting) (q .trees) (p .4)) (q .species) (q .reaches .eligible);
   },
   λ q. let z = solves (q .holds) (q .tree) (q .eligible) in
-      (length (names (q .line)), length (q .trees), z .0, z .1, z .2),
+      (length (names (q .line)), length (q .trees), z .0, found-ties (q .holds), z .1, z .2),
 )
 
 -- "she is told there is none exactly when none exists"
@@ -193,10 +197,10 @@ none-exactly input = (
   λ q. says-none (q .holds) (q .none),
 )
 
--- the three lines are printed exactly where there is such a tree
+-- the four lines are printed exactly where there is such a tree
 pub printed-exactly : (input : List ℕ) → (getD (output input) 0 0 ≡ 116) ↔ Solvable input
 unfolding output
 printed-exactly input = (
   λ t. let q = printed-solved input t in solved-exactly input .0 q,
-  λ q. let z = solved-exactly input .1 q in ap (λ (o : Outcome). getD (printed (names (firstLine input)) o) 0 0) (z .4),
+  λ q. let z = solved-exactly input .1 q in ap (λ (o : Outcome). getD (printed (names (firstLine input)) o) 0 0) (z .5),
 )

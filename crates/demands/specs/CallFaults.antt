@@ -101,12 +101,22 @@ MarkFault rooting n genes count out =
     before RecordsFault n (recordsIn count genes)
     before RootingFault rooting n (recordsIn count genes)
 
--- the same of the search: "fewer than 2^n for an allowed set or a table"
-abbrev pub SearchFault : Rooting → ℕ → List ℕ → ℕ → List ℕ → List ℕ → List ℕ → ℕ → ℕ → Type 0
-SearchFault rooting n genes count allowed scores splits =
-    SpeciesFault n before CountFault count before LengthFault genes (32 * count) before LengthFault allowed (2 ^ n) before LengthFault scores (2 ^ n)
-    before LengthFault splits (2 ^ n)
+-- what is judged of a search behind its gene entries: "fewer than 2^n for an allowed set or a table", then 15, 19, 13 and 14
+abbrev pub SearchRest : Rooting → ℕ → List ℕ → ℕ → List ℕ → List ℕ → List ℕ → ℕ → ℕ → Type 0
+SearchRest rooting n genes count allowed scores splits =
+    LengthFault allowed (2 ^ n) before LengthFault scores (2 ^ n) before LengthFault splits (2 ^ n)
     before RecordsFault n (recordsIn count genes)
     before RootingFault rooting n (recordsIn count genes)
     before AllowedFault n allowed
     before NoTreeFault n allowed
+
+-- the same of the search
+abbrev pub SearchFault : Rooting → ℕ → List ℕ → ℕ → List ℕ → List ℕ → List ℕ → ℕ → ℕ → Type 0
+SearchFault rooting n genes count allowed scores splits =
+    SpeciesFault n before CountFault count before LengthFault genes (32 * count) before SearchRest rooting n genes count allowed scores splits
+
+-- the same of the search with ties (#111): "fewer than 2^n for .. a table", the third
+abbrev pub TiesFault : Rooting → ℕ → List ℕ → ℕ → List ℕ → List ℕ → List ℕ → List ℕ → ℕ → ℕ → Type 0
+TiesFault rooting n genes count allowed scores splits ties =
+    SpeciesFault n before CountFault count before LengthFault genes (32 * count) before LengthFault ties (2 ^ n)
+    before SearchRest rooting n genes count allowed scores splits

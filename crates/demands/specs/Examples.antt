@@ -22,6 +22,8 @@ use Rattle.weights.specs.Count.{kBy, score}
 use Rattle.lineages.specs.Promise.{marks}
 use Rattle.weights.specs.Marks.{flag}
 use Rattle.splits.specs.Best.{bestFor, foundBy}
+use Rattle.search.specs.TiesPromise.{tiesFor}
+use Rattle.report.specs.Promise.{output}
 use Rattle.terms.specs.declared.Found.{Found}
 
 -- the allowed clusters of a row: all, those that the gene trees show, or these only
@@ -31,7 +33,7 @@ pub data Allowed : Type 0 where
   only : List ℕ → Allowed
 
 -- a row: a text's record, all 32 numbers of it; k of a cluster in a tree; a gene tree scored on a species tree; gene trees searched. The first part is the roster, behind how the gene trees are counted (#106).
--- A gene tree read on a roster with a threshold: number, place and record; what a number's bytes are worth (#113)
+-- A gene tree read on a roster with a threshold: number, place and record; what a number's bytes are worth (#113). How many trees a search finds as good; an input of the program and its output (#111)
 pub data Row : Type 0 where
   recorded : List ℕ → List ℕ → List ℕ → Row
   counted : Rooting → List ℕ → List ℕ → ℕ → ℕ → Row
@@ -39,6 +41,8 @@ pub data Row : Type 0 where
   searched : Rooting → List ℕ → List (List ℕ) → Allowed → ℕ → ℕ → List ℕ → Row
   readBelow : List ℕ → List ℕ → ℕ → ℕ → ℕ → List ℕ → Row
   valued : List ℕ → Value → Row
+  tied : Rooting → List ℕ → List (List ℕ) → Allowed → ℕ → Row
+  printed : List ℕ → List ℕ → Row
 
 -- the record that a text of the kind reads to
 unfoldable pub recordIn : Kind → List ℕ → List ℕ → List ℕ
@@ -60,6 +64,11 @@ unfoldable pub foundIn : Rooting → List ℕ → List (List ℕ) → Allowed �
 foundIn rooting line genes allowed =
     foundBy rooting (bestFor rooting (length (names line)) genes (bytesOf rooting allowed (length (names line)) genes) (whole (length (names line)))) genes
 
+-- how many trees it finds as good (#111)
+unfoldable pub tiesIn : Rooting → List ℕ → List (List ℕ) → Allowed → ℕ
+tiesIn rooting line genes allowed =
+    tiesFor rooting (length (names line)) genes (bytesOf rooting allowed (length (names line)) genes) (whole (length (names line)))
+
 -- two values are the same
 abbrev pub sameValue : Value → Value → Bool
 sameValue NoValue NoValue = true
@@ -73,7 +82,7 @@ readingBelow amount line text = readingOf (Below amount) 0 (answerTo Gene (Below
 
 -- the row says what the definitions give
 unfoldable pub holds : Row → Bool
-unfolding recordIn foundIn readingBelow
+unfolding recordIn foundIn tiesIn readingBelow
 holds (recorded line text numbers) = same (recordIn Species line text) numbers
 holds (counted rooting line text a k) = eqb (kBy rooting (recordIn Gene line text) a) k
 holds (scored rooting line gene species s) = eqb (score rooting (recordIn Gene line gene ∷ []) (recordIn Species line species)) s
@@ -88,6 +97,8 @@ holds (readBelow line text amount number place numbers) =
     eqb (readingBelow amount line text .number) number && eqb (readingBelow amount line text .place) place
     && same (readingBelow amount line text .numbers) numbers
 holds (valued bytes value) = sameValue (thousandths bytes) value
+holds (tied rooting line genes allowed ties) = eqb (tiesIn rooting line (map (recordIn Gene line) genes) allowed) ties
+holds (printed input text) = same (output input) text
 
 -- every row of a table holds
 unfoldable pub allHold : List Row → Bool

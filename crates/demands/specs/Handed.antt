@@ -1,4 +1,4 @@
--- What a machine can hand over to each call: bytes, sixteen-bit and 32-bit numbers, sizes, and slices and records of them.
+-- What a machine can hand over to each call: bytes, numbers of sixteen, 32 and 64 bits, sizes, and slices and records of them.
 use Prim.Native.Nat.{ℕ, _^_, _<_}
 use mathlib.Core.Path.{_≡_}
 use mathlib.Core.List.{List}
@@ -25,6 +25,10 @@ Numbers l = Slice (2 ^ 16) l
 -- a slice of 32-bit numbers
 abbrev pub WideNumbers : List ℕ → Type 0
 WideNumbers l = Slice (2 ^ 32) l
+
+-- a slice of 64-bit numbers
+abbrev pub WidestNumbers : List ℕ → Type 0
+WidestNumbers l = Slice (2 ^ 64) l
 
 -- "A tree's record is 32 sixteen-bit numbers", valid or not
 pub record AnyRecord (r : List ℕ) : Type 0 where
@@ -70,3 +74,8 @@ pub record ToSearch (n : ℕ) (genes : List ℕ) (count : ℕ) (allowed scores s
   pub allowed-bytes : Bytes allowed
   pub scores-numbers : WideNumbers scores
   pub splits-numbers : Numbers splits
+
+-- for the search with ties, which is lent a third table (#111)
+pub record ToTie (n : ℕ) (genes : List ℕ) (count : ℕ) (allowed scores splits ties : List ℕ) : Type 0 where
+  pub to-search : ToSearch n genes count allowed scores splits
+  pub ties-numbers : WidestNumbers ties

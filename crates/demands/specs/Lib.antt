@@ -12,6 +12,7 @@ pub mod InOrder
 pub mod ProgramFaults
 pub mod Deciding
 pub mod Lots
+pub mod Ties
 pub mod Letters
 pub mod Thresholds
 pub mod Redrawn

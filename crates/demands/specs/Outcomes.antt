@@ -6,6 +6,8 @@ use lib.ListN.{replicate}
 use Rattle.trees.specs.Lists.{Among}
 use Rattle.roster.specs.declared.Reply.{Reply}
 use Rattle.terms.specs.declared.Found.{Found}
+use Rattle.search.specs.TiesPromise.{withoutTies}
+use Rattle.search.specs.declared.tied.Tied.{Tied}
 
 -- "gets a reply": some outcome meets the promise; "a single outcome": no other does
 pub record Replies {A : Type 0} (promise : A → Type 0) : Type 0 where
@@ -23,3 +25,8 @@ pub record NotFound (numbers : List ℕ) (r : Found) : Type 0 where
   pub listed : Among (r .number) numbers
   pub score : r .score ≡ 0
   pub numbers-zero : r .numbers ≡ replicate 32 0
+
+-- the same from the search with ties (#111): no ties besides
+pub record NotTied (numbers : List ℕ) (r : Tied) : Type 0 where
+  pub not-found : NotFound numbers (withoutTies r)
+  pub ties-zero : r .ties ≡ 0

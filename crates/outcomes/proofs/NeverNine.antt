@@ -14,6 +14,7 @@ use Rattle.splits.specs.Best.{bestFor, foundBy}
 use Rattle.gather.specs.GeneTrees.{Gathered, gather}
 use Rattle.gather.specs.GeneTrees.Gathered.{gathered, stopped}
 use Rattle.gather.proofs.GeneTrees.{stopped-never-nine}
+use Rattle.search.specs.TiesPromise.{tiesFor, withTies}
 use Rattle.outcomes.specs.Outcome.{outcomeOf, searched, allowedBy, treePlace, onRooting, onTrees}
 use Rattle.outcomes.specs.Outcome.Outcome.{refused}
 
@@ -26,11 +27,13 @@ searched-never-nine :
     (rooting : Rooting) (n : ℕ) (genes : List (List ℕ)) (allowed : List ℕ) {number place : ℕ} → searched rooting n genes allowed
     ≡ refused number place → number ≡ 9 → ⊥
 unfolding searched
-searched-never-nine rooting n genes allowed {number} {place} = go (bestFor rooting n genes allowed (whole n))
+searched-never-nine rooting n genes allowed {number} {place} = go (bestFor rooting n genes allowed (whole n)) (tiesFor rooting n genes allowed (whole n))
   where
-    go : (o : Option Binary) → outcomeOf (foundBy rooting o genes .number) n (length genes) (foundBy rooting o genes) ≡ refused number place → number ≡ 9 → ⊥
-    go (some t) e nine = let z : _≡_ {A = ℕ} 0 1 = cc in omega arith
-    go none e nine = other-number (λ k. omega arith) e nine
+    go :
+        (o : Option Binary) (k : ℕ)
+        → outcomeOf (foundBy rooting o genes .number) n (length genes) (withTies (foundBy rooting o genes) k) ≡ refused number place → number ≡ 9 → ⊥
+    go (some t) k e nine = let z : _≡_ {A = ℕ} 0 1 = cc in omega arith
+    go none k e nine = other-number (λ k. omega arith) e nine
 
 -- nor does the check of the rooting
 rooted-never-nine :

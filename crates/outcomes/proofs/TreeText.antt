@@ -40,7 +40,7 @@ module _ {line r : List ℕ} {n : ℕ} (good : Roster line n) (tree : SpeciesVal
   pub tree-length : length (written (names line) r) ≤ 558
   tree-length = let g = good-names line (good .good) in text-most (names line) (g .few) on-names (g .each)
 
-  module _ {l after : List ℕ} {at : ℕ} {reply : Reply} (room : Room 80 at l) (w : Writes line r (take (reportBytes - at) (drop at l)) reply after) where
+  module _ {l after : List ℕ} {at : ℕ} {reply : Reply} (room : Room 106 at l) (w : Writes line r (take (reportBytes - at) (drop at l)) reply after) where
     outcome : (reply .value ≡ length (written (names line) r)) × (after ≡ written (names line) r ++ drop (length (written (names line) r)) (drop at l))
     outcome =
         let part = part-behind reportBytes at l (room .bytes) in

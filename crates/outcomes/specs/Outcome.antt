@@ -8,32 +8,36 @@ use Rattle.weights.specs.declared.Rooting.{Rooting}
 use Rattle.lineages.specs.Checks.{rootingTest}
 use Rattle.lineages.specs.Promise.{marks}
 use Rattle.splits.specs.Best.{bestFor, foundBy}
-use Rattle.terms.specs.declared.Found.{Found}
+use Rattle.search.specs.TiesPromise.{tiesFor, withTies}
+use Rattle.search.specs.declared.tied.Tied.{Tied}
 use Rattle.gather.specs.GeneTrees.{Gathered, beginsAt}
 use Rattle.gather.specs.GeneTrees.Gathered.{gathered, stopped}
-use Rattle.printing.specs.Words.{taxaText, genesText, scoreText, newline, decimal}
+use Rattle.printing.specs.Words.{taxaText, genesText, scoreText, tiesText, newline, decimal}
 use Rattle.printing.specs.Texts.{refusalText}
 use Rattle.texts.specs.Writing.{written}
 
--- a refusal with its number and place, or species, gene trees, score and the record of the tree
+-- a refusal with its number and place, or species, gene trees, score, ties and the record of the tree
 pub data Outcome : Type 0 where
   refused : ℕ → ℕ → Outcome
-  solved : ℕ → ℕ → ℕ → List ℕ → Outcome
+  solved : ℕ → ℕ → ℕ → ℕ → List ℕ → Outcome
 
 -- "program: 12"
 abbrev pub programMost : ℕ
 programMost = 12
 
 -- what the search found: a tree, or 14
-abbrev pub outcomeOf : ℕ → ℕ → ℕ → Found → Outcome
-outcomeOf zero n m found = solved n m (found .score) (found .numbers)
+abbrev pub outcomeOf : ℕ → ℕ → ℕ → Tied → Outcome
+outcomeOf zero n m found = solved n m (found .score) (found .ties) (found .numbers)
 outcomeOf (suc number) n m found = refused (suc number) (found .place)
 
--- the search over these gene trees and this allowed set
+-- what the search with its ties (#111) finds of these gene trees over this allowed set
+abbrev pub foundWithTies : Rooting → ℕ → List (List ℕ) → List ℕ → Tied
+foundWithTies rooting n genes allowed =
+    withTies (foundBy rooting (bestFor rooting n genes allowed (whole n)) genes) (tiesFor rooting n genes allowed (whole n))
+
+-- what the program finds of them
 unfoldable pub searched : Rooting → ℕ → List (List ℕ) → List ℕ → Outcome
-searched rooting n genes allowed =
-    outcomeOf (foundBy rooting (bestFor rooting n genes allowed (whole n)) genes .number) n (length genes)
-    (foundBy rooting (bestFor rooting n genes allowed (whole n)) genes)
+searched rooting n genes allowed = outcomeOf (foundWithTies rooting n genes allowed .number) n (length genes) (foundWithTies rooting n genes allowed)
 
 -- the allowed clusters of a mode: `all` clusters, or those that the gene trees show
 abbrev pub allowedBy : Bool → Rooting → ℕ → List (List ℕ) → List ℕ
@@ -60,8 +64,11 @@ abbrev pub onTrees : Gathered → List ℕ → List ℕ → ℕ → Bool → Roo
 onTrees (stopped number place) line trees shift all rooting n = refused number (shift + place)
 onTrees (gathered genes) line trees shift all rooting n = withGenes genes (λ i. treePlace line trees shift i) all rooting n
 
--- "prints species and gene trees read, the score, and the tree"; "A refusal prints one line .. : the number and the place"
+-- "prints species and gene trees read, the score, and the tree", and "after the score" how many trees have it, "as `ties` and the number" (#111);
+-- "A refusal prints one line .. : the number and the place"
 abbrev pub printed : List (List ℕ) → Outcome → List ℕ
 printed ns (refused number place) = refusalText number place
-printed ns (solved n m score r) =
-    taxaText ++ decimal n ++ genesText ++ decimal m ++ newline ++ scoreText ++ decimal score ++ newline ++ written ns r ++ newline
+printed ns (solved n m score ties r) =
+    taxaText ++ decimal n ++ genesText ++ decimal m ++ newline ++ scoreText ++ decimal score ++ newline ++ tiesText ++ decimal ties ++ newline
+    ++ written ns r
+    ++ newline

@@ -9,14 +9,21 @@ use printing::counts;
 use printing::word;
 use trees::Record;
 
-// Species and gene trees read, the score, and the tree.
-pub(crate) fn solved(line: &[u8], n: usize, count: usize, score: usize, tree: Record) -> Report
+// Species and gene trees read, the score, the ties and the tree.
+pub(crate) fn solved(
+    line: &[u8],
+    n: usize,
+    count: usize,
+    score: usize,
+    ties: u64,
+    tree: Record,
+) -> Report
     requires { ⌜ Roster (now line) n ⌝ }
     requires { ⌜ SpeciesValid n (tree .numbers) ⌝ }
-    ensures { λ r. ⌜ r ≡ told (names (now (line .entry))) (Outcome·solved n count score (tree .numbers)) ⌝ }
+    ensures { λ r. ⌜ r ≡ told (names (now (line .entry))) (Outcome·solved n count score ties (tree .numbers)) ⌝ }
 {
     let mut text = [0u8; 1024];
-    let at = counts(&mut text, n, count, score);
+    let at = counts(&mut text, n, count, score, ties);
     let written = writer::write(line, tree, &mut text[at..]);
     let len = word(&mut text, at + written.value, b"\n");
     Report { len, text }

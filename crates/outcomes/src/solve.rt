@@ -2,15 +2,13 @@
 ghost use mathlib.Core.Path.{_≡_};
 ghost use Prim.Native.Nat.{_+_, _^_, _≤_};
 ghost use lib.ListN.{length, replicate};
-ghost use Rattle.clusters.specs.Sets.{whole};
 ghost use Rattle.roster.specs.Roster.{names};
 ghost use Rattle.reader.specs.Promise.{textMost};
 ghost use Rattle.trees.specs.Records.{recordsIn};
 ghost use Rattle.gather.specs.GeneTrees.{gather as GeneTrees·gather};
-ghost use Rattle.splits.specs.Best.{bestFor, foundBy};
 ghost use Rattle.weights.specs.declared.Rooting.the-variants.{Rooted};
 ghost use Rattle.gather.specs.GeneTrees.Gathered.{gathered};
-ghost use Rattle.outcomes.specs.Outcome.{searched, allowedBy, treePlace, withGenes, onTrees};
+ghost use Rattle.outcomes.specs.Outcome.{foundWithTies, searched, allowedBy, treePlace, withGenes, onTrees};
 ghost use Rattle.outcomes.specs.Work.{told, Roster, Genes, Marked};
 use crate::print::solved;
 use gather::Trees;
@@ -19,7 +17,8 @@ use gather::place;
 use lineages::checks::judge_genes;
 use printing::Report;
 use printing::refusal;
-use search::Found;
+use search::Tied;
+use search::search_ties;
 use trees::Record;
 use weights::Rooting;
 
@@ -47,15 +46,25 @@ fn allow(all: bool, rooting: Rooting, n: usize, genes: &[u16], count: usize, all
     lineages::mark(rooting, n, genes, count, allowed);
 }
 
-// The search, with tables of its own.
-fn find(rooting: Rooting, n: usize, genes: &[u16], count: usize, allowed: &[u8]) -> Found
+// The search with its ties, with tables of its own.
+fn find(rooting: Rooting, n: usize, genes: &[u16], count: usize, allowed: &[u8]) -> Tied
     requires { ⌜ Genes rooting n count (now genes) ⌝ }
     requires { ⌜ Marked n (now allowed) ⌝ }
-    ensures { λ r. ⌜ r ≡ foundBy rooting (bestFor rooting n (recordsIn count (now (genes .entry))) (now (allowed .entry)) (whole n)) (recordsIn count (now (genes .entry))) ⌝ }
+    ensures { λ r. ⌜ r ≡ foundWithTies rooting n (recordsIn count (now (genes .entry))) (now (allowed .entry)) ⌝ }
 {
     let mut scores = [0u32; 4096];
     let mut splits = [0u16; 4096];
-    search::search(rooting, n, genes, count, allowed, &mut scores, &mut splits)
+    let mut ties = [0u64; 4096];
+    search_ties(
+        rooting,
+        n,
+        genes,
+        count,
+        allowed,
+        &mut scores,
+        &mut splits,
+        &mut ties,
+    )
 }
 
 // The least tree over the allowed clusters, or the refusal.
@@ -72,7 +81,7 @@ fn solve(line: &[u8], n: usize, genes: &[u16], count: usize, all: bool, rooting:
         return refusal(found.number, found.place);
     }
     let numbers = found.numbers;
-    solved(line, n, count, found.score, Record { numbers })
+    solved(line, n, count, found.score, found.ties, Record { numbers })
 }
 
 // The gene trees that were read, 1 or more: 19 at the first that may not be counted by the rooting, else what is found of them.

@@ -94,18 +94,19 @@ refused-length number place =
     let b = decimal-length place in
     simp length-append (omega arith)
 
-pub counts-length : (n m score : ℕ) → length (countsText n m score) ≤ 80
-counts-length n m score =
+pub counts-length : (n m score ties : ℕ) → length (countsText n m score ties) ≤ 106
+counts-length n m score ties =
     let a = decimal-length n in
     let b = decimal-length m in
     let c = decimal-length score in
+    let d = decimal-length ties in
     simp length-append (omega arith)
 
-pub answer-length : (n m score : ℕ) (text : List ℕ) → length text ≤ 558 → length (countsText n m score ++ text ++ newline) ≤ reportBytes
-answer-length n m score text h =
-    let a = counts-length n m score in
-    let b = length-append (countsText n m score ++ text) newline in
-    let c = length-append (countsText n m score) text in
+pub answer-length : (n m score ties : ℕ) (text : List ℕ) → length text ≤ 558 → length (countsText n m score ties ++ text ++ newline) ≤ reportBytes
+answer-length n m score ties text h =
+    let a = counts-length n m score ties in
+    let b = length-append (countsText n m score ties ++ text) newline in
+    let c = length-append (countsText n m score ties) text in
     omega arith
 
 -- ---- room for what is put next

@@ -2,7 +2,7 @@
 use Prim.Native.Nat.{ℕ, _-_}
 use mathlib.Core.List.{List, _++_}
 use lib.ListN.{length, replicate}
-use Rattle.printing.specs.Words.{taxaText, genesText, scoreText, refusedText, atText, newline, decimal}
+use Rattle.printing.specs.Words.{taxaText, genesText, scoreText, tiesText, refusedText, atText, newline, decimal}
 use Rattle.printing.specs.declared.Report.{Report}
 
 -- how many bytes a report has room for
@@ -17,6 +17,7 @@ reportOf text = record { len = length text; text = text ++ replicate (reportByte
 abbrev pub refusalText : ℕ → ℕ → List ℕ
 refusalText number place = refusedText ++ decimal number ++ atText ++ decimal place ++ newline
 
--- the first two of the three lines of an answer
-abbrev pub countsText : ℕ → ℕ → ℕ → List ℕ
-countsText n m score = taxaText ++ decimal n ++ genesText ++ decimal m ++ newline ++ scoreText ++ decimal score ++ newline
+-- the first three of the four lines of an answer; "prints it after the score as `ties` and the number" (#111)
+abbrev pub countsText : ℕ → ℕ → ℕ → ℕ → List ℕ
+countsText n m score ties =
+    taxaText ++ decimal n ++ genesText ++ decimal m ++ newline ++ scoreText ++ decimal score ++ newline ++ tiesText ++ decimal ties ++ newline

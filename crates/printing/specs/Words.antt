@@ -16,6 +16,10 @@ genesText = 32 ∷ 103 ∷ 101 ∷ 110 ∷ 101 ∷ 115 ∷ 32 ∷ []
 abbrev pub scoreText : List ℕ
 scoreText = 115 ∷ 99 ∷ 111 ∷ 114 ∷ 101 ∷ 32 ∷ []
 
+-- `ties `
+abbrev pub tiesText : List ℕ
+tiesText = 116 ∷ 105 ∷ 101 ∷ 115 ∷ 32 ∷ []
+
 -- `refused `
 abbrev pub refusedText : List ℕ
 refusedText = 114 ∷ 101 ∷ 102 ∷ 117 ∷ 115 ∷ 101 ∷ 100 ∷ 32 ∷ []

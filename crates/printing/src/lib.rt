@@ -60,13 +60,14 @@ pub fn refusal(number: u32, place: usize) -> Report
     Report { len, text }
 }
 
-// The lines of species and gene trees read, and of the score; answers where they end. `outcomes` calls it, with the bytes of a report.
-pub fn counts(out: &mut [u8], n: usize, count: usize, score: usize) -> usize
+// The lines of species and gene trees read, of the score and of the ties; answers where they end. `outcomes` calls it, with the bytes of a report.
+pub fn counts(out: &mut [u8], n: usize, count: usize, score: usize, ties: u64) -> usize
     requires { ⌜ length (now out) ≡ reportBytes ⌝ }
-    ensures { λ end. ⌜ Put (now (out .entry)) 0 (countsText n count score) end (now (out .exit)) ⌝ }
+    ensures { λ end. ⌜ Put (now (out .entry)) 0 (countsText n count score ties) end (now (out .exit)) ⌝ }
 {
     let at = labelled(out, 0, b"taxa ", n);
     let at = labelled(out, at, b" genes ", count);
     let at = labelled(out, at, b"\nscore ", score);
+    let at = labelled(out, at, b"\nties ", ties as usize);
     word(out, at, b"\n")
 }

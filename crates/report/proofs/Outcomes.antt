@@ -1,4 +1,4 @@
--- What every report is: one outcome for an input, a line that refuses, never by 9, or three that answer, and never more than its bytes.
+-- What every report is: one outcome for an input, a line that refuses, never by 9, or four that answer, and never more than its bytes.
 use Prim.Native.Nat.{ℕ, _-_, _≤_}
 use mathlib.Core.Path.{_≡_, refl, sym, ap, _∙_}
 use mathlib.Core.Bool.{Bool, true, false}
@@ -43,14 +43,14 @@ reported-text input r e = rw e (take-at (output input) (replicate (reportBytes -
 
 -- ---- what it says
 
--- `refused N at P`, or species and gene trees read, the score, and the tree's text
+-- `refused N at P`, or species and gene trees read, the score, the ties, and the tree's text
 pub output-form : (input : List ℕ) → Form (names (firstLine input)) (output input)
 unfolding output
 output-form input = go (program input)
   where
     go : (outcome : Outcome) → Form (names (firstLine input)) (printed (names (firstLine input)) outcome)
     go (refused number place) = refusal number place
-    go (solved n m score r) = answer n m score r
+    go (solved n m score ties r) = answer n m score ties r
 
 -- ---- 9
 

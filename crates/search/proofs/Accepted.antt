@@ -1,6 +1,7 @@
 -- When the tests before the search all pass, and which numbers they can give.
 use Prim.Native.Nat.{ℕ, _*_, _^_, _≤_, _<_}
-use mathlib.Core.Path.{_≡_, refl, ap}
+use mathlib.Core.Path.{_≡_, refl, ap, _∙_}
+use mathlib.Core.Logic.{_⊎_, inl, inr}
 use mathlib.Core.Bool.{Bool, true, false, not, _&&_, true≢false}
 use mathlib.Core.List.{List, [], _∷_}
 use native.Mathlib.Omega.{arith}
@@ -36,7 +37,7 @@ unfoldable pub NoneGives : ℕ → List Test → Type 0
 NoneGives m [] = Unit {0}
 NoneGives m (t ∷ l) = (t .number ≡ m → ⊥) × NoneGives m l
 
-verdict-never : (m : ℕ) (l : List Test) → (0 ≡ m → ⊥) → NoneGives m l → verdict l .number ≡ m → ⊥
+pub verdict-never : (m : ℕ) (l : List Test) → (0 ≡ m → ⊥) → NoneGives m l → verdict l .number ≡ m → ⊥
 unfolding verdict NoneGives
 verdict-never m [] z n e = z e
 verdict-never m (t ∷ l) z n e = go (t .fault) e (λ k. verdict-never m l z (n .1) k)
@@ -117,18 +118,25 @@ module _ (rooting : Rooting) (n : ℕ) (genes : List ℕ) (count : ℕ) (allowed
         le-ltb (firstStrange n allowed) (2 ^ n) (none-strange n allowed (a .allowed-bytes)),
       )
 
-  -- 14 is no number of these tests: it comes from the search alone
-  pub no-fourteen : verdict (searchTests rooting n genes count allowed scores splits) .number ≡ 14 → ⊥
+  -- neither 0 nor 14 is a number of these tests
+  pub none-gives : (m : ℕ) → (m ≡ 0) ⊎ (m ≡ 14) → NoneGives m (searchTests rooting n genes count allowed scores splits)
   unfolding searchTests speciesTest countTest lengthTest recordsTest rootingTest allowedTest NoneGives
-  no-fourteen e =
-      verdict-never 14 (searchTests rooting n genes count allowed scores splits) (λ z. omega arith) (
-        λ z. omega arith,
-        (
-          λ z. omega arith,
-          (
-            λ z. omega arith,
-            (λ z. omega arith, (λ z. omega arith, (λ z. omega arith, (λ z. omega arith, (λ z. omega arith, (λ z. omega arith, tt)))))),
-          ),
-        ),
-      )
-      e
+  none-gives m d =
+      let one = other 1 (omega arith) (λ z. omega arith) in
+      let eleven = other 11 (omega arith) (λ z. omega arith) in
+      let twelve = other 12 (omega arith) (λ z. omega arith) in
+      let fifteen = other 15 (omega arith) (λ z. omega arith) in
+      let nineteen = other 19 (omega arith) (λ z. omega arith) in
+      let thirteen = other 13 (omega arith) (λ z. omega arith) in
+      (one, (eleven, (twelve, (twelve, (twelve, (twelve, (fifteen, (nineteen, (thirteen, tt)))))))))
+    where
+      other : (k : ℕ) → 1 ≤ k → (k ≡ 14 → ⊥) → k ≡ m → ⊥
+      other k some f e = go d
+        where
+          go : (m ≡ 0) ⊎ (m ≡ 14) → ⊥
+          go (inl z) = omega arith
+          go (inr z) = f (e ∙ z)
+
+  -- 14 comes from the search alone
+  pub no-fourteen : verdict (searchTests rooting n genes count allowed scores splits) .number ≡ 14 → ⊥
+  no-fourteen = verdict-never 14 (searchTests rooting n genes count allowed scores splits) (λ z. omega arith) (none-gives 14 (inr refl))

@@ -1,13 +1,13 @@
--- What the best tree is, for any weights and any allowed set: over allowed clusters, least, the first of the least; and how it changes with both.
+-- What the best tree is, for any weights and any allowed set: over allowed clusters, least, the first of the least; that only the clusters within its own are
+-- asked for; and the source's Lemma 2.
 use Prim.Native.Nat.{ℕ, _+_, _-_, _^_, _≤_, _<_}
 use mathlib.Core.Path.{_≡_, refl, sym, ap, ap₂, _∙_, subst}
 use mathlib.Core.Logic.{_⊎_, inl, inr}
-use mathlib.Core.Bool.{Bool, true, false, _&&_, true≢false, false≢true}
+use mathlib.Core.Bool.{Bool, true, false, _&&_, false≢true}
 use mathlib.Core.Option.{Option, some, none}
 use mathlib.Core.List.{List, [], _∷_, List·Memᴰ, List·Memᴰ·head as here, List·Memᴰ·tail as there, List·Memᴰ·not-nil, List·Memᴰ·cases-cons}
 use native.Mathlib.Omega.{arith}
-use lib.Dec.{leb}
-use borrow.Author.Tests.{leb-false}
+use lib.ListN.{length}
 use native.Mathlib.Nat.{add-comm}
 use Rattle.clusters.specs.Sets.{Has, Within, size, lowest}
 use Rattle.clusters.proofs.Members.{has-dec}
@@ -20,13 +20,15 @@ use Rattle.splits.specs.BinaryTrees.Binary.{fork}
 use Rattle.splits.specs.WellFormed.{LowPart, TreeOn}
 use Rattle.splits.specs.WellFormed.TreeOn.{two}
 use Rattle.splits.specs.Order.{Earlier, Ordered}
-use Rattle.splits.specs.Least.{scoreOf, best, scoreEntry, splitEntry}
-use Rattle.splits.proofs.FirstLeast.{chosen, pick, pickAll, pickAll-same, gateBy, pickAll-least, pickAll-missed, pickAll-scores}
+use Rattle.splits.specs.Least.{first, scoreOf, treesOver, leastTrees, best, splitEntry}
+use Rattle.splits.specs.Ties.{tieEntry}
+use Rattle.splits.proofs.FirstLeast.{those-same}
 use Rattle.splits.proofs.LowParts.{low-some}
-use Rattle.splits.proofs.Membership.{listed-well-formed, well-formed-listed, tree-root}
-use Rattle.splits.proofs.Enumeration.{treesOn-ordered}
-use Rattle.trees.proofs.Totals.{total-same}
-use Rattle.splits.proofs.Recurrence.{gated, gated-same, best-choice, best-listed, best-on, best-fork, allowed-of-best, score-fork}
+use Rattle.splits.proofs.Membership.{listed-well-formed, tree-root}
+use Rattle.splits.proofs.OverAllowed.{over, treesOver-among}
+use Rattle.splits.proofs.LeastTrees.{leastTrees-all, best-is-least, none-over}
+use Rattle.splits.proofs.Ties.{least-score, score-least}
+use Rattle.splits.proofs.Recurrence.{best-listed, best-on, best-fork, allowed-of-best, score-fork}
 use Rattle.splits.proofs.DrawnBinary.{InFork, among-fork, tree-inside}
 use Rattle.splits.proofs.DrawnBinary.InFork.{at-root, in-low, in-other}
 
@@ -54,31 +56,18 @@ every-same ok may (y ∷ l) h = ap₂ _&&_ (h y (here refl)) (every-same ok may 
 
 -- ---- the first of the least
 
-pub pickAll-first : (s : Binary → ℕ) (test : Binary → Bool) (R : Binary → Binary → Type 0) (l : List Binary) → Ordered R l
-    → (t : Binary) → pickAll s (λ t. gateBy (test t) t) l ≡ some t → (u : Binary) → List·Memᴰ u l → test u ≡ true → s u ≡ s t → (t ≡ u) ⊎ R t u
-unfolding pickAll pick Ordered
-pickAll-first s test R [] o t e u m p q = absurd (List·Memᴰ·not-nil m)
-pickAll-first s test R (x ∷ l) o t e u m p q =
-    go (test x) refl (pickAll s (λ t. gateBy (test t) t) l) refl e (List·Memᴰ·cases-cons m) (λ v r k j. pickAll-first s test R l (o .1) v r u k p j)
+-- the first of a list in order is what stands there, or earlier
+first-of-all : (R : Binary → Binary → Type 0) (l : List Binary) (t : Binary) → Ordered R l → first l ≡ some t → (u : Binary) → List·Memᴰ u l → (t ≡ u) ⊎ R t u
+unfolding Ordered
+first-of-all R [] t o e u m = absurd (List·Memᴰ·not-nil m)
+first-of-all R (x ∷ l) t o e u m = go (List·Memᴰ·cases-cons m)
   where
-    front : x ≡ t → (u ≡ x) ⊎ List·Memᴰ u l → (t ≡ u) ⊎ R t u
-    front r (inl k) = inl (sym r ∙ sym k)
-    front r (inr k) = inr (subst (λ v. R v u) r (o .0 u k))
+    is : x ≡ t
+    is = cc
 
-    by : (b : Bool) (v : Binary) → leb (s x) (s v) ≡ b → pickAll s (λ t. gateBy (test t) t) l ≡ some v → chosen b x v ≡ some t → (u ≡ x) ⊎ List·Memᴰ u l
-        → ((v : Binary) → pickAll s (λ t. gateBy (test t) t) l ≡ some v → List·Memᴰ u l → s u ≡ s v → (v ≡ u) ⊎ R v u) → (t ≡ u) ⊎ R t u
-    by true v c r e d ih = front (cc) d
-    by false v c r e (inl k) ih =
-        let i : v ≡ t = cc in
-        absurd (omega (arith, leb-false (s x) (s v) c, ap s i, ap s k))
-    by false v c r e (inr k) ih = ih t (r ∙ e) k q
-
-    go : (b : Bool) → test x ≡ b → (c : Option Binary) → pickAll s (λ t. gateBy (test t) t) l ≡ c → pick s (gateBy b x) c ≡ some t → (u ≡ x) ⊎ List·Memᴰ u l
-        → ((v : Binary) → pickAll s (λ t. gateBy (test t) t) l ≡ some v → List·Memᴰ u l → s u ≡ s v → (v ≡ u) ⊎ R v u) → (t ≡ u) ⊎ R t u
-    go true b none r e d ih = front (cc) d
-    go true b (some v) r e d ih = by (leb (s x) (s v)) v refl r e d ih
-    go false b c r e (inl k) ih = absurd (true≢false (sym p ∙ ap test k ∙ b))
-    go false b c r e (inr k) ih = ih t (r ∙ e) k q
+    go : (u ≡ x) ⊎ List·Memᴰ u l → (t ≡ u) ⊎ R t u
+    go (inl k) = inl (sym is ∙ sym k)
+    go (inr k) = inr (subst (λ v. R v u) is (o .0 u k))
 
 -- ---- the best tree
 
@@ -86,31 +75,26 @@ pickAll-first s test R (x ∷ l) o t e u m p q =
 abbrev pub Over : (ℕ → Bool) → Binary → Type 0
 Over ok t = (x : ℕ) → Among x (clustersIn t) → ok x ≡ true
 
-gated-over : (ok : ℕ → Bool) (t : Binary) → Over ok t → gated ok t ≡ some t
-unfolding gated
-gated-over ok t h = ap (λ b. gateBy b t) (among-every ok (clustersIn t) h)
-
 module _ (w : ℕ → ℕ) (ok : ℕ → Bool) (a : ℕ) where
   pub best-over : (t : Binary) → best w ok a ≡ some t → Over ok t
   best-over t e = every-among ok (clustersIn t) (best-listed w ok a t e .1)
 
   -- "least score": no binary tree on a over allowed clusters scores less
   pub best-least : (t : Binary) → best w ok a ≡ some t → (u : Binary) → TreeOn a u → Over ok u → scoreOf w t ≤ scoreOf w u
-  best-least t e u v h = pickAll-least (scoreOf w) (gated ok) (treesOn a) t (sym (best-choice w ok a) ∙ e) u (well-formed-listed v) u (gated-over ok u h)
+  best-least t e u v h = best-is-least w ok a t e .least u v (among-every ok (clustersIn u) h)
 
   -- "The first least-scoring tree is the answer"
   pub best-first : (t : Binary) → best w ok a ≡ some t → (u : Binary) → TreeOn a u → Over ok u → scoreOf w u ≡ scoreOf w t → (t ≡ u) ⊎ Earlier t u
-  unfolding gated
+  unfolding best
   best-first t e u v h q =
-      pickAll-first (scoreOf w) (λ x. every ok (clustersIn x)) Earlier (treesOn a) (treesOn-ordered a) t (sym (best-choice w ok a) ∙ e) u (well-formed-listed v)
-      (among-every ok (clustersIn u) h) q
+      let all = leastTrees-all w ok a in
+      let least = score-least w ok a u v (among-every ok (clustersIn u) h) (omega (arith, least-score w ok a t (best-is-least w ok a t e))) in
+      first-of-all Earlier (leastTrees w (treesOver ok a)) t (all .rising) e u (all .every u least)
 
   -- there is none exactly where there is no tree over allowed clusters
   pub best-missed : best w ok a ≡ none → (u : Binary) → TreeOn a u → Over ok u → ⊥
   best-missed e u v h =
-      let n = pickAll-missed (scoreOf w) (gated ok) (treesOn a) (sym (best-choice w ok a) ∙ e) u (well-formed-listed v) in
-      let k = gated-over ok u h in
-      let z : _≡_ {A = ℕ} 0 1 = cc in omega arith
+      List·Memᴰ·not-nil (subst (λ l. List·Memᴰ u l) (none-over w ok a e) (treesOver-among ok a v (among-every ok (clustersIn u) h)))
 
   pub best-there : (u : Binary) → TreeOn a u → Over ok u → (t : Binary) × (best w ok a ≡ some t)
   best-there u v h = go (best w ok a) refl
@@ -129,32 +113,19 @@ module _ (w : ℕ → ℕ) (ok : ℕ → Bool) (a : ℕ) where
 -- ---- other allowed sets
 
 -- only the clusters within a are asked for
+pub trees-local : (ok may : ℕ → Bool) (a : ℕ) → ((x : ℕ) → 1 ≤ x → Within x a → ok x ≡ may x) → treesOver ok a ≡ treesOver may a
+unfolding treesOver
+trees-local ok may a h =
+    those-same (over ok) (over may) (treesOn a)
+    (λ t m. every-same ok may (clustersIn t) (λ x k. let i = tree-inside (listed-well-formed t a m) x k in h x (i .0) (i .1)))
+
 pub best-local : (w : ℕ → ℕ) (ok may : ℕ → Bool) (a : ℕ) → ((x : ℕ) → 1 ≤ x → Within x a → ok x ≡ may x) → best w ok a ≡ best w may a
-unfolding gated
-best-local w ok may a h =
-    best-choice w ok a
-    ∙ pickAll-same (scoreOf w) (gated ok) (gated may) (treesOn a)
-    (λ t m. ap (λ b. gateBy b t) (every-same ok may (clustersIn t) (λ x k. let i = tree-inside (listed-well-formed t a m) x k in h x (i .0) (i .1))))
-    ∙ sym (best-choice w may a)
+unfolding best
+best-local w ok may a h = ap (λ l. first (leastTrees w l)) (trees-local ok may a h)
 
--- and only their weights
-pub score-local : (w v : ℕ → ℕ) {a : ℕ} {t : Binary} → TreeOn a t → ((x : ℕ) → Within x a → w x ≡ v x) → scoreOf w t ≡ scoreOf v t
-unfolding scoreOf
-score-local w v {a} {t} o h = total-same w v (clustersIn t) (λ x m. h x (tree-inside o x m .1))
-
-pub weights-local : (w v : ℕ → ℕ) (ok : ℕ → Bool) (a : ℕ) → ((x : ℕ) → Within x a → w x ≡ v x) → best w ok a ≡ best v ok a
-weights-local w v ok a h =
-    best-choice w ok a
-    ∙ pickAll-scores (scoreOf w) (scoreOf v) (gated ok) (treesOn a)
-    (λ x m t e. let i = gated-same ok x t e .0 in score-local w v (subst (TreeOn a) i (listed-well-formed x a m)) h)
-    ∙ sym (best-choice v ok a)
-
-pub entry-local : (w v : ℕ → ℕ) (ok : ℕ → Bool) (a : ℕ) → ((x : ℕ) → Within x a → w x ≡ v x) → scoreEntry w (best w ok a) ≡ scoreEntry v (best v ok a)
-entry-local w v ok a h = go (best w ok a) refl ∙ ap (scoreEntry v) (weights-local w v ok a h)
-  where
-    go : (o : Option Binary) → best w ok a ≡ o → scoreEntry w o ≡ scoreEntry v o
-    go none e = refl
-    go (some t) e = score-local w v (best-on w ok a t e) h
+pub ties-local : (w : ℕ → ℕ) (ok may : ℕ → Bool) (a : ℕ) → ((x : ℕ) → 1 ≤ x → Within x a → ok x ≡ may x) → tieEntry w ok a ≡ tieEntry w may a
+unfolding tieEntry
+ties-local w ok may a h = ap (λ l. length (leastTrees w l)) (trees-local ok may a h)
 
 -- ---- source document 001, Lemma 2
 

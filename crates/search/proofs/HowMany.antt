@@ -1,13 +1,14 @@
 -- How many there are of a kind: by lists that have each of them once.
 use Prim.Native.Nat.{ℕ, suc, _≤_}
 use mathlib.Core.Path.{_≡_, refl, sym, ap, _∙_}
-use mathlib.Core.Logic.{_⊎_, inl, inr}
+use mathlib.Core.Logic.{_⊎_, inl, inr, _↔_}
 use mathlib.Core.List.{List, [], _∷_, map, List·Memᴰ, List·Memᴰ·head as here, List·Memᴰ·tail as there, List·Memᴰ·not-nil, List·Memᴰ·cases-cons}
+use mathlib.Core.List.{List·Memᴰ·eq-of-singleton}
 use native.Mathlib.Omega.{arith}
 use lib.ListN.{length}
 use Rattle.splits.specs.Order.{Ordered}
 use Rattle.splits.proofs.Membership.{among-map}
-use Rattle.search.specs.LeastAmong.{NumberOf}
+use Rattle.search.specs.LeastAmong.{AllOf, NumberOf}
 
 -- ---- lists without doubles
 
@@ -40,6 +41,17 @@ module _ {A : Type 0} where
       let o = without-one k (h x (here refl)) in
       omega (arith, o .1, once-le l (o .0) (once .1) (λ y m. o .2 y (once .0 y m) (h y (there m))))
 
+-- a list that has something has a member
+pub some-member : {A : Type 0} (l : List A) → 1 ≤ length l → (x : A) × List·Memᴰ x l
+some-member [] h = absurd (omega arith)
+some-member (x ∷ l) h = (x, here refl)
+
+-- all members of a list of one are the same
+same-member : {A : Type 0} {x y : A} (l : List A) → length l ≡ 1 → List·Memᴰ x l → List·Memᴰ y l → y ≡ x
+same-member [] e m n = absurd (omega arith)
+same-member (z ∷ []) e m n = List·Memᴰ·eq-of-singleton n ∙ sym (List·Memᴰ·eq-of-singleton m)
+same-member (z ∷ v ∷ l) e m n = absurd (omega arith)
+
 -- no doubles where no two are sent to the same one
 pub once-map : {A B : Type 0} (f : A → B) (l : List A) → ((x y : A) → List·Memᴰ x l → List·Memᴰ y l → f x ≡ f y → x ≡ y)
     → Ordered (λ (x y : A). x ≡ y → ⊥) l → Ordered (λ (x y : B). x ≡ y → ⊥) (map f l)
@@ -67,3 +79,36 @@ module _ {A : Type 0} {Kind Other : A → Type 0} where
     all = record { only = λ x m. h x (p .all .only x m); every = λ x o. p .all .every x (back x o); once = p .all .once };
     is = p .is;
   }
+
+module _ {A : Type 0} {Kind : A → Type 0} {m : ℕ} (p : NumberOf Kind m) where
+  -- every list of all of a kind is that long
+  pub number-is : (l : List A) → AllOf Kind l → length l ≡ m
+  number-is l all =
+      let other : NumberOf Kind (length l) = record { list = l; all = all; is = refl } in
+      omega (arith, number-le other p (λ x k. k), number-le p other (λ x k. k))
+
+  -- there is one of a kind exactly where the number is at least 1
+  pub number-some : (1 ≤ m) ↔ ((x : A) × Kind x)
+  number-some = (
+    λ h. let e = p .is in let x = some-member (p .list) (omega arith) in (x .0, p .all .only (x .0) (x .1)),
+    λ k. let e = p .is in go (p .list) (p .all .every (k .0) (k .1)) e,
+  )
+    where
+      go : {x : A} (l : List A) → List·Memᴰ x l → length l ≡ m → 1 ≤ m
+      go [] n e = absurd (List·Memᴰ·not-nil n)
+      go (y ∷ l) n e = omega arith
+
+  -- one of a kind is the only one exactly where the number is 1
+  pub number-one : {x : A} → Kind x → (m ≡ 1) ↔ ((y : A) → Kind y → y ≡ x)
+  unfolding Ordered
+  number-one {x} k = (
+    λ e y j. same-member (p .list) (p .is ∙ e) (p .all .every x k) (p .all .every y j),
+    λ alone. omega (arith, number-le p just-one alone, number-some .1 (x, k)),
+  )
+    where
+      just-one : NumberOf (λ y. y ≡ x) 1
+      just-one = record {
+        list = x ∷ [];
+        all = record { only = λ y n. List·Memᴰ·eq-of-singleton n; every = λ y e. here e; once = (λ y n. absurd (List·Memᴰ·not-nil n), tt) };
+        is = refl;
+      }

@@ -1,8 +1,8 @@
 -- Numbers added up over lots: the whole's least number against the sum of the lots' least numbers, and what is least; then the scores of lots of gene trees.
 use Prim.Native.Nat.{ℕ, zero, suc, _^_, _≤_, _<_}
-use mathlib.Core.Path.{_≡_, refl, sym, _∙_}
+use mathlib.Core.Path.{_≡_, sym, _∙_}
 use mathlib.Core.Logic.{_↔_}
-use mathlib.Core.List.{List, [], _∷_, map, List·Memᴰ, List·Memᴰ·head as here}
+use mathlib.Core.List.{List, [], _∷_, map, List·Memᴰ}
 use native.Mathlib.Omega.{arith}
 use lib.ListN.{length, getD}
 use Rattle.clusters.proofs.Sets.{below-of-within}
@@ -14,9 +14,9 @@ use Rattle.weights.proofs.Sums.{score-append}
 use Rattle.splits.specs.BinaryTrees.{each}
 use Rattle.terms.specs.declared.Found.{Found}
 use Rattle.search.specs.Promise.{Finds}
-use Rattle.search.specs.Candidates.{Candidate, SameAllowed}
+use Rattle.search.specs.Candidates.{Candidate, Answer, SameAllowed}
 use Rattle.search.specs.LeastAmong.{LeastAmong, LeastNumber, NumberOf}
-use Rattle.search.proofs.HowMany.{number-same, number-le}
+use Rattle.search.proofs.HowMany.{some-member, number-same, number-le}
 use Rattle.search.proofs.Demand.{answer}
 use Rattle.search.proofs.Unread.{same-allowed-in}
 use Rattle.weights.specs.declared.Rooting.{Rooting}
@@ -43,10 +43,6 @@ pub record AddedUp {A Lot : Type 0} (Competes : Lot → A → Type 0) (number : 
   pub adds-up : (c : A) → number whole c ≡ total (map (λ (l : Lot). number l c) lots)
   pub of-whole : LeastNumber (Competes whole) (number whole) (least whole)
   pub of-lots : (l : Lot) → List·Memᴰ l lots → LeastNumber (Competes l) (number l) (least l)
-
-pub some-member : {A : Type 0} (l : List A) → 1 ≤ length l → (x : A) × List·Memᴰ x l
-some-member [] h = absurd (omega arith)
-some-member (x ∷ l) h = (x, here refl)
 
 module _ {A Lot : Type 0} {Competes : Lot → A → Type 0} {number : Lot → A → ℕ} {least : Lot → ℕ} {lots : List Lot} {whole : Lot}
     (added : AddedUp Competes number least lots whole) where
@@ -129,14 +125,22 @@ unfolding each total
 score-of-lots rooting records [] c = omega (arith, score-append rooting [] [] c)
 score-of-lots rooting records (l ∷ lots) c = omega (arith, score-append rooting (records l) (each records lots) c, score-of-lots rooting records lots c)
 
--- the reply's score is the least score
+-- the score of an answer is the least score
+pub answer-is-least :
+    {rooting : Rooting} {n : ℕ} {genes : List (List ℕ)} {allowed : List ℕ} {r : Found} → Answer rooting n genes allowed r
+    → LeastNumber (Candidate n allowed) (score rooting genes) (r .score)
+answer-is-least {r = r} a = record {
+  holder = r .numbers;
+  least = record { competes = a .competes; least = λ d k. let e = a .counted in let p = a .least d k in omega arith };
+  is = a .counted;
+}
+
+-- and so is the reply's
 pub reply-is-least :
     {rooting : Rooting} {n : ℕ} {genes : List ℕ} {count : ℕ} {allowed scores splits : List ℕ} {r : Found} {scoresAfter splitsAfter : List ℕ}
     → Finds rooting n genes count allowed scores splits r scoresAfter splitsAfter → r .number ≡ 0
     → LeastNumber (Candidate n allowed) (score rooting (recordsIn count genes)) (r .score)
-reply-is-least {rooting} {r = r} f z =
-    let a = answer f z in
-    record { holder = r .numbers; least = record { competes = a .competes; least = λ d k. let e = a .counted in let p = a .least d k in omega arith }; is = a .counted }
+reply-is-least f z = answer-is-least (answer f z)
 
 -- ---- allowed sets that say the same
 

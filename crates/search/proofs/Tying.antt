@@ -5,7 +5,7 @@ use mathlib.Core.Logic.{_⊎_, inl, inr}
 use mathlib.Core.List.{List, [], _∷_, _++_}
 use native.Mathlib.Decide.{ℕ-discrete}
 use native.Mathlib.Omega.{arith}
-use lib.ListN.{length, getD}
+use lib.ListN.{length, getD, take, drop}
 use borrow.Author.Tests.{ltb-false, lt-ltb, le-ltb}
 use Rattle.clusters.specs.Sets.{whole}
 use Rattle.clusters.proofs.Sets.{whole-below}
@@ -24,14 +24,14 @@ use Rattle.terms.specs.Allowed.{allowedIn}
 use Rattle.tables.specs.Work.{Tabled, Tieable, FillsTies}
 use Rattle.tables.proofs.TieTable.{filled-at, filled-tabled}
 use Rattle.splits.specs.Best.{bestFor, foundBy}
-use Rattle.terms.specs.Answers.{without}
+use Rattle.terms.specs.Answers.{without, foundOr}
 use Rattle.terms.specs.declared.Found.{Found}
 use Rattle.terms.specs.Allowed.{allowedTest}
 use Rattle.search.specs.Promise.{searchTests, filledBy, Finds}
-use Rattle.search.specs.TiesPromise.{tiesFor, tiesTests, withTies, foundIn, FindsTies}
+use Rattle.search.specs.TiesPromise.{tiesFor, tiesTests, withTies, withoutTies, FindsTies}
 use Rattle.search.specs.Candidates.{Accepted}
 use Rattle.search.specs.declared.tied.Tied.{Tied}
-use Rattle.search.proofs.Accepted.{verdict-passed, accepted, accepts}
+use Rattle.search.proofs.Accepted.{NoneGives, verdict-passed, verdict-never, none-gives, accepted, accepts}
 use Rattle.search.proofs.Demand.{accepted-says, accepted-of}
 use Rattle.terms.proofs.Refusing.{refused-told}
 use Rattle.search.proofs.Finding.{refused-kept}
@@ -67,6 +67,27 @@ module _ (n : ℕ) (genes : List ℕ) (count : ℕ) (ties : List ℕ) where
       let c = verdict-passed _ _ (λ k. omega arith) (b .1) in
       ltb-false (length ties) (2 ^ n) (verdict-passed _ _ (λ k. omega arith) (c .1) .0)
 
+-- ---- a search that has filled both tables
+
+module _ {rooting : Rooting} {n : ℕ} {genes : List ℕ} {count : ℕ} {allowed scores splits : List ℕ} {found : Found} {scoresAfter splitsAfter : List ℕ}
+    (f : Finds rooting n genes count allowed scores splits found scoresAfter splitsAfter) (filled : (found .number ≡ 0) ⊎ (found .number ≡ 14)) where
+  passed : Accepted rooting n genes count allowed scores splits
+  passed = accepted-of f filled
+
+  pub few-species : n ≤ 16
+  few-species = passed .in-order .shaped .few-species
+
+  -- each entry is that of the best tree of its cluster
+  pub tables-filled : Tabled (2 ^ n) (weight rooting (recordsIn count genes)) (allowedIn n allowed) scoresAfter splitsAfter
+  unfolding bestFor
+  tables-filled =
+      let z = accepts rooting n genes count allowed scores splits passed in
+      let order = passed .in-order in
+      filled-tabled n (weight rooting (recordsIn count genes)) (allowedIn n allowed) scores splits
+      (λ b. omega (arith, weight-small rooting genes b (order .shaped .few-genes) (valid-countable few-species (order .valid))))
+      (rw z at (f .scoreTable))
+      (rw z at (f .splitTable))
+
 -- ---- the ways
 
 -- a refusal answers no ties
@@ -74,12 +95,27 @@ refused-none : (k : ℕ) → (k ≡ 0 → ⊥) → (m : ℕ) → 0 ≡ valueBy k
 refused-none zero f m = absurd (f refl)
 refused-none (suc k) f m = refl
 
+-- the tests of the search, with one more behind those of shape
+abbrev pub thirdTable : Test → List Test → List Test
+thirdTable t l = take 3 l ++ (t ∷ drop 3 l)
+
 module _ (rooting : Rooting) (n : ℕ) (genes : List ℕ) (count : ℕ) (allowed scores splits ties : List ℕ) where
+  pub ties-tests : tiesTests rooting n genes count allowed scores splits ties
+      ≡ thirdTable (lengthTest (length ties) (2 ^ n)) (searchTests rooting n genes count allowed scores splits)
+  unfolding tiesTests searchTests
+  ties-tests = refl
+
   -- with a third table that is long enough, the tests say what those of the search say
-  ties-verdict : 2 ^ n ≤ length ties
+  pub ties-verdict : 2 ^ n ≤ length ties
       → verdict (tiesTests rooting n genes count allowed scores splits ties) ≡ verdict (searchTests rooting n genes count allowed scores splits)
   unfolding tiesTests searchTests verdict lengthTest
   ties-verdict l = rw (le-ltb (length ties) (2 ^ n) l)
+
+  -- the third table's test gives no other number than the test of the gene entries
+  pub none-gives-ties : (m : ℕ) → NoneGives m (searchTests rooting n genes count allowed scores splits)
+      → NoneGives m (tiesTests rooting n genes count allowed scores splits ties)
+  unfolding searchTests tiesTests lengthTest NoneGives
+  none-gives-ties m h = (h .0, (h .1 .0, (h .1 .1 .0, (h .1 .1 .0, h .1 .1 .1))))
 
   -- a fault that the first tests find decides
   first-refused : {number place : ℕ} → verdict (tiesShape n genes count ties) ≡ said number place → (number ≡ 0 → ⊥)
@@ -146,35 +182,19 @@ module _ (rooting : Rooting) (n : ℕ) (genes : List ℕ) (count : ℕ) (allowed
 
   module _ {found : Found} {scoresAfter splitsAfter : List ℕ} (f : Finds rooting n genes count allowed scores splits found scoresAfter splitsAfter)
       (filled : (found .number ≡ 0) ⊎ (found .number ≡ 14)) where
-    passed : Accepted rooting n genes count allowed scores splits
-    passed = accepted-of f filled
-
-    few-species : n ≤ 16
-    few-species = passed .in-order .shaped .few-species
-
-    tables-filled : Tabled (2 ^ n) (weight rooting (recordsIn count genes)) (allowedIn n allowed) scoresAfter splitsAfter
-    unfolding bestFor
-    tables-filled =
-        let z = accepts rooting n genes count allowed scores splits passed in
-        let order = passed .in-order in
-        filled-tabled n (weight rooting (recordsIn count genes)) (allowedIn n allowed) scores splits
-        (λ b. omega (arith, weight-small rooting genes b (order .shaped .few-genes) (valid-countable few-species (order .valid))))
-        (rw z at (f .scoreTable))
-        (rw z at (f .splitTable))
-
     -- the ties can be counted
     pub ties-countable : 2 ^ n ≤ length ties → length scoresAfter ≡ length scores → length splitsAfter ≡ length splits → Tieable n scoresAfter splitsAfter ties
     ties-countable l p q =
-        let a = passed .scores-fit in
-        let b = passed .splits-fit in
+        let a = passed f filled .scores-fit in
+        let b = passed f filled .splits-fit in
         record {
-          few = few-species;
+          few = few-species f filled;
           scores-long = omega arith;
           splits-long = omega arith;
           ties-long = l;
           weights = weight rooting (recordsIn count genes);
           allowed = allowedIn n allowed;
-          tabled = tables-filled;
+          tabled = tables-filled f filled;
         }
 
     -- and are
@@ -182,9 +202,9 @@ module _ (rooting : Rooting) (n : ℕ) (genes : List ℕ) (count : ℕ) (allowed
         → r ≡ withTies found (getD tiesAfter all 0) → FindsTies rooting n genes count allowed scores splits ties r scoresAfter splitsAfter tiesAfter
     unfolding tiesFor
     ties-counted {tiesAfter = tiesAfter} {all = all} l fills is p =
-        let z = accepts rooting n genes count allowed scores splits passed in
+        let z = accepts rooting n genes count allowed scores splits (passed f filled) in
         let entry : ℕ → ℕ = λ a. tieEntry (weight rooting (recordsIn count genes)) (allowedIn n allowed) a in
-        let t = fills (weight rooting (recordsIn count genes)) (allowedIn n allowed) tables-filled in
+        let t = fills (weight rooting (recordsIn count genes)) (allowedIn n allowed) (tables-filled f filled) in
         let of-whole : getD tiesAfter all 0 ≡ entry (whole n) = ap₂ (λ k b. getD k b 0) t is ∙ filled-at entry n ties (whole n) (whole-below n) in
         ties-of-found l f p (of-whole ∙ rw z) (t ∙ rw z)
 
@@ -193,7 +213,27 @@ module _ (rooting : Rooting) (n : ℕ) (genes : List ℕ) (count : ℕ) (allowed
   -- with a third table that is long enough, reply and both tables are those of `search`
   pub ties-find : {r : Tied} {scoresAfter splitsAfter tiesAfter : List ℕ}
       → FindsTies rooting n genes count allowed scores splits ties r scoresAfter splitsAfter tiesAfter
-      → 2 ^ n ≤ length ties → Finds rooting n genes count allowed scores splits (foundIn r) scoresAfter splitsAfter
+      → 2 ^ n ≤ length ties → Finds rooting n genes count allowed scores splits (withoutTies r) scoresAfter splitsAfter
   ties-find f l =
       let v = ties-verdict l in
-      record { reply = ap foundIn (f .reply) ∙ rw v; scoreTable = f .scoreTable ∙ rw v; splitTable = f .splitTable ∙ rw v }
+      record { reply = ap withoutTies (f .reply) ∙ rw v; scoreTable = f .scoreTable ∙ rw v; splitTable = f .splitTable ∙ rw v }
+
+  -- 0 and 14 come from the search alone: no test finds a fault
+  pub tests-passed : {r : Tied} {scoresAfter splitsAfter tiesAfter : List ℕ}
+      → FindsTies rooting n genes count allowed scores splits ties r scoresAfter splitsAfter tiesAfter
+      → (r .number ≡ 0) ⊎ (r .number ≡ 14) → verdict (tiesTests rooting n genes count allowed scores splits ties) .number ≡ 0
+  tests-passed {r} f d = go (verdict (tiesTests rooting n genes count allowed scores splits ties) .number) refl d
+    where
+      told : (k : ℕ) → verdict (tiesTests rooting n genes count allowed scores splits ties) .number ≡ suc k → r .number ≡ suc k
+      told k e =
+          let place = verdict (tiesTests rooting n genes count allowed scores splits ties) .place in
+          let found = foundBy rooting (bestFor rooting n (recordsIn count genes) allowed (whole n)) (recordsIn count genes) in
+          ap (λ x. x .number) (f .reply) ∙ ap (λ m. foundOr m place found .number) e
+
+      go : (k : ℕ) → verdict (tiesTests rooting n genes count allowed scores splits ties) .number ≡ k → (r .number ≡ 0) ⊎ (r .number ≡ 14) → k ≡ 0
+      go zero e d = refl
+      go (suc k) e (inl z) = absurd (omega (arith, told k e))
+      go (suc k) e (inr z) =
+          absurd (verdict-never 14 (tiesTests rooting n genes count allowed scores splits ties) (λ z. omega arith)
+          (none-gives-ties 14 (none-gives rooting n genes count allowed scores splits 14 (inr refl)))
+          (omega (arith, told k e)))

@@ -10,7 +10,7 @@ use lib.Dec.{leb, ltb}
 use lib.ListN.{length, getD, take, drop}
 use lib.Seq.{getD-take, take-at, drop-at}
 use borrow.Author.Tests.{le-ltb, lt-ltb, le-leb, lt-leb}
-use Rattle.clusters.specs.Sets.{whole}
+use Rattle.clusters.specs.Sets.{whole, Within}
 use Rattle.clusters.proofs.Sets.{within-le, whole-below}
 use Rattle.trees.specs.Lists.{upTo}
 use Rattle.trees.specs.Records.{recordsIn}
@@ -20,16 +20,20 @@ use Rattle.roster.specs.Roster.{least, firstOr}
 use Rattle.roster.specs.Verdict.{Test, verdict, lengthTest}
 use Rattle.weights.specs.Count.{weight}
 use Rattle.splits.specs.Least.{scoreEntry, splitEntry, best}
+use Rattle.splits.specs.Ties.{tieEntry}
 use Rattle.terms.specs.Allowed.{allowedIn}
 use Rattle.tables.proofs.Written.{same-entries}
 use Rattle.splits.specs.Best.{bestFor}
 use Rattle.terms.specs.declared.Found.{Found}
 use Rattle.terms.specs.Allowed.{firstStrange, allowedTest}
 use Rattle.search.specs.Promise.{searchTests, filledBy, Finds}
+use Rattle.search.specs.TiesPromise.{tiesFor, tiesTests, FindsTies}
 use Rattle.search.specs.Candidates.{SameAllowed, SameTable}
-use Rattle.search.proofs.BestTrees.{best-local}
+use Rattle.search.specs.declared.tied.Tied.{Tied}
+use Rattle.search.proofs.BestTrees.{best-local, ties-local}
 use Rattle.search.proofs.Accepted.{accepts}
 use Rattle.search.proofs.Demand.{accepted-of}
+use Rattle.search.proofs.Tying.{thirdTable, ties-tests, tests-fit, tests-passed, ties-find}
 use Rattle.weights.specs.declared.Rooting.{Rooting}
 
 -- ---- allowed sets that say the same
@@ -126,9 +130,9 @@ module _ (rooting : Rooting) (n count : ℕ) (genes genes′ allowed allowed′ 
       judged zero l = leb-same (getD allowed 0 0) (getD allowed′ 0 0) 1 (same-allowed .byte-0)
       judged (suc a) l = ap (λ b. leb b 1) (same-allowed .clusters (suc a) (omega arith) (omega arith))
 
-  same-verdict : verdict (searchTests rooting n genes count allowed scores splits) ≡ verdict (searchTests rooting n genes′ count allowed′ scores′ splits′)
+  same-tests : searchTests rooting n genes count allowed scores splits ≡ searchTests rooting n genes′ count allowed′ scores′ splits′
   unfolding searchTests allowedTest
-  same-verdict =
+  same-tests =
       rw (
         needed-fit (32 * count) genes genes′ same-genes,
         both-fit (2 ^ n) allowed allowed′ (λ p. same-allowed .other-long, λ p. same-allowed .long),
@@ -138,11 +142,17 @@ module _ (rooting : Rooting) (n count : ℕ) (genes genes′ allowed allowed′ 
         same-strange,
       )
 
+  same-verdict : verdict (searchTests rooting n genes count allowed scores splits) ≡ verdict (searchTests rooting n genes′ count allowed′ scores′ splits′)
+  same-verdict = ap verdict same-tests
+
+  -- what is asked of the allowed set for a cluster
+  same-within : (a : ℕ) → a < 2 ^ n → (x : ℕ) → 1 ≤ x → Within x a → allowedIn n allowed x ≡ allowedIn n allowed′ x
+  same-within a l x s m = same-allowed-in same-allowed x s (let k = within-le m in omega arith)
+
   same-best : (a : ℕ) → a < 2 ^ n → bestFor rooting n (recordsIn count genes) allowed a ≡ bestFor rooting n (recordsIn count genes′) allowed′ a
   unfolding bestFor
   same-best a l =
-      best-local (weight rooting (recordsIn count genes)) (allowedIn n allowed) (allowedIn n allowed′) a
-      (λ x s m. same-allowed-in same-allowed x s (let k = within-le m in omega arith))
+      best-local (weight rooting (recordsIn count genes)) (allowedIn n allowed) (allowedIn n allowed′) a (same-within a l)
       ∙ ap (λ g. best (weight rooting g) (allowedIn n allowed′) a) same-records
 
   -- "byte 0 has no meaning", "Entries beyond the need are not read": their replies are equal, and where the tables are filled so are the entries
@@ -159,6 +169,39 @@ module _ (rooting : Rooting) (n count : ℕ) (genes genes′ allowed allowed′ 
           filled-same n _ _ _ _ splits p splits′ p′ (f .splitTable) (f′ .splitTable) z z′ (λ a l. ap splitEntry (same-best a l)),
         ),
   )
+
+  -- ---- with a third table
+
+  module _ (ties ties′ : List ℕ) (ties-fit : (2 ^ n ≤ length ties) ↔ (2 ^ n ≤ length ties′)) where
+    same-ties-verdict :
+        verdict (tiesTests rooting n genes count allowed scores splits ties) ≡ verdict (tiesTests rooting n genes′ count allowed′ scores′ splits′ ties′)
+    same-ties-verdict =
+        ap verdict
+        (ties-tests rooting n genes count allowed scores splits ties
+        ∙ ap₂ thirdTable (both-fit (2 ^ n) ties ties′ ties-fit) same-tests
+        ∙ sym (ties-tests rooting n genes′ count allowed′ scores′ splits′ ties′))
+
+    same-ties : (a : ℕ) → a < 2 ^ n → tiesFor rooting n (recordsIn count genes) allowed a ≡ tiesFor rooting n (recordsIn count genes′) allowed′ a
+    unfolding tiesFor
+    same-ties a l =
+        ties-local (weight rooting (recordsIn count genes)) (allowedIn n allowed) (allowedIn n allowed′) a (same-within a l)
+        ∙ ap (λ g. tieEntry (weight rooting g) (allowedIn n allowed′) a) same-records
+
+    -- the same of the search with ties (#111), for all three tables
+    pub same-outcome-with-ties :
+        {r q : Tied} {s p t s′ p′ t′ : List ℕ} → FindsTies rooting n genes count allowed scores splits ties r s p t
+        → FindsTies rooting n genes′ count allowed′ scores′ splits′ ties′ q s′ p′ t′
+        → (r ≡ q) × ((r .number ≡ 0) ⊎ (r .number ≡ 14) → SameTable n scores s scores′ s′ × SameTable n splits p splits′ p′ × SameTable n ties t ties′ t′)
+    same-outcome-with-ties {t = t} {t′ = t′} f f′ = (
+      f .reply ∙ rw (same-ties-verdict, same-best (whole n) (whole-below n), same-ties (whole n) (whole-below n), same-records) (sym (f′ .reply)),
+      λ d.
+          let z = tests-passed rooting n genes count allowed scores splits ties f d in
+          let z′ = sym (ap (λ v. v .number) same-ties-verdict) ∙ z in
+          let search = ties-find rooting n genes count allowed scores splits ties f (tests-fit rooting n genes count allowed scores splits ties z) in
+          let search′ = ties-find rooting n genes′ count allowed′ scores′ splits′ ties′ f′ (tests-fit rooting n genes′ count allowed′ scores′ splits′ ties′ z′) in
+          let both = same-outcome search search′ .1 d in
+          (both .0, both .1, filled-same n _ _ _ _ ties t ties′ t′ (f .tieTable) (f′ .tieTable) z z′ same-ties),
+    )
 
 -- two tables lent alike, filled or not alike
 filled-alike :

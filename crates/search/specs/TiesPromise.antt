@@ -39,8 +39,8 @@ abbrev pub withTies : Found → ℕ → Tied
 withTies found ties = record { number = found .number; place = found .place; score = found .score; ties = ties; numbers = found .numbers }
 
 -- an answer without its ties
-abbrev pub foundIn : Tied → Found
-foundIn r = record { number = r .number; place = r .place; score = r .score; numbers = r .numbers }
+abbrev pub withoutTies : Tied → Found
+withoutTies r = record { number = r .number; place = r .place; score = r .score; numbers = r .numbers }
 
 -- the promise of `search_ties`: reply and both tables as those of `search`; "The search is to report how many .." (#111), for the whole set in the reply,
 -- 0 on a refusal, and for each cluster in the third table, which is filled or kept as the other two are

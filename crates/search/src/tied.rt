@@ -16,6 +16,7 @@ ghost use Rattle.lineages.specs.Work.{shapeTests, said};
 ghost use Rattle.search.specs.TiesPromise.{withTies, FindsTies};
 
 // What the search with ties answers: what the search does, and how many trees reach its score.
+#[repr(C)]
 pub struct Tied {
     pub number: u32,
     pub place: usize,

@@ -166,21 +166,6 @@ module _ {A : Type 0} (s : Binary → ℕ) (f : A → Option Binary) where
       go (inr k) none r ih = absurd (let n = pickAll-missed l r x k in let z : _≡_ {A = ℕ} 0 1 = cc in omega arith)
       go (inr k) (some v) r ih = let h = pick-least s (f y) (pickAll s f l) t v e (inr r) in let j = ih v r k in omega arith
 
--- only the scores of the answers matter
-pub pickAll-scores : {A : Type 0} (s r : Binary → ℕ) (f : A → Option Binary) (l : List A)
-    → ((x : A) → List·Memᴰ x l → (t : Binary) → f x ≡ some t → s t ≡ r t) → pickAll s f l ≡ pickAll r f l
-unfolding pickAll pick
-pickAll-scores s r f [] h = refl
-pickAll-scores {A} s r f (x ∷ l) h =
-    go (f x) refl (pickAll s f l) refl (pickAll-scores s r f l (λ y m. h y (there m)))
-  where
-    go : (o : Option Binary) → f x ≡ o → (c : Option Binary) → pickAll s f l ≡ c → pickAll s f l ≡ pickAll r f l → pick s o c ≡ pick r o (pickAll r f l)
-    go none p c q ih = sym q ∙ ih
-    go (some t) p none q ih = rw (sym ih ∙ q)
-    go (some t) p (some u) q ih =
-        let m = pickAll-from s f l u q in
-        rw (sym ih ∙ q, h x (here refl) t p, h (m .0) (there (m .1)) u (m .2))
-
 -- ---- the filter inside the fold
 
 abbrev pub gateBy : Bool → Binary → Option Binary

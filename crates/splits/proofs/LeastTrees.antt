@@ -5,6 +5,7 @@ use mathlib.Core.Logic.{_⊎_, inl, inr}
 use mathlib.Core.Bool.{Bool, true}
 use mathlib.Core.Option.{some, none}
 use mathlib.Core.List.{List, [], _∷_, List·Memᴰ, List·Memᴰ·head as here, List·Memᴰ·tail as there, List·Memᴰ·not-nil, List·Memᴰ·cases-cons}
+use native.Mathlib.Omega.{arith}
 use lib.Dec.{leb}
 use borrow.Author.Tests.{leb-true, le-leb}
 use Rattle.trees.specs.Valid.{every}
@@ -12,7 +13,7 @@ use Rattle.trees.proofs.Booleans.{both}
 use Rattle.splits.specs.BinaryTrees.{Binary, clustersIn}
 use Rattle.splits.specs.WellFormed.{TreeOn}
 use Rattle.splits.specs.Order.{Earlier, Ordered}
-use Rattle.splits.specs.Least.{all, scoreOf, treesOver, leastTrees, best}
+use Rattle.splits.specs.Least.{all, first, scoreOf, treesOver, leastTrees, best}
 use Rattle.splits.proofs.FirstLeast.{pickAll, pickAll-least, pickAll-empty, first-least}
 use Rattle.splits.proofs.Enumeration.{earlier-other, ordered-of}
 use Rattle.splits.proofs.OverAllowed.{among-those, those-among, ordered-those, among-treesOver, treesOver-among, treesOver-ordered}
@@ -96,7 +97,16 @@ leastTrees-all w ok a = record {
 
 -- ---- the best tree is the first of them
 
+first-among : (l : List Binary) (t : Binary) → first l ≡ some t → List·Memᴰ t l
+first-among [] t e = absurd (let z : _≡_ {A = ℕ} 0 1 = cc in omega arith)
+first-among (u ∷ l) t e = let k : t ≡ u = cc in here k
+
 module _ (w : ℕ → ℕ) (ok : ℕ → Bool) (a : ℕ) where
+  -- so it is least
+  pub best-is-least : (t : Binary) → best w ok a ≡ some t → Least w ok a t
+  unfolding best
+  best-is-least t e = among-least w ok a (first-among (leastTrees w (treesOver ok a)) t e)
+
   -- the choice among the trees over allowed clusters
   pub best-of-over : best w ok a ≡ pickAll (scoreOf w) (λ t. some t) (treesOver ok a)
   unfolding best

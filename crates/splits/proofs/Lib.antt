@@ -10,7 +10,7 @@ pub mod TreeCounts
 pub mod OverAllowed
 pub mod LeastTrees
 pub mod Ties
-pub mod TieLaws
+pub mod TieBound
 pub mod SplitChoice
 pub mod TieWalk
 pub mod DrawnBinary

@@ -1,14 +1,14 @@
 -- The binary trees over allowed clusters: those of a list that pass a test, what stands among them, and that they follow from those on both children.
-use Prim.Native.Nat.{ℕ, _+_, _-_, _≤_}
+use Prim.Native.Nat.{ℕ, _-_}
 use mathlib.Core.Path.{_≡_, refl, sym, ap, ap₂, _∙_, subst, subst₂}
-use mathlib.Core.Bool.{Bool, true, false, _&&_}
+use mathlib.Core.Bool.{Bool, true, false}
 use mathlib.Core.List.{List, [], _∷_, _++_, map, List·Memᴰ, List·Memᴰ·head as here, List·Memᴰ·not-nil, List·Memᴰ·eq-of-singleton}
 use native.Mathlib.Omega.{arith}
 use lib.ListN.{length}
 use Rattle.clusters.specs.Sets.{size}
 use Rattle.trees.specs.Lists.{total}
 use Rattle.trees.specs.Valid.{every}
-use Rattle.trees.proofs.Totals.{total-append, total-same, total-le}
+use Rattle.trees.proofs.Totals.{total-append, total-same}
 use Rattle.splits.specs.BinaryTrees.{Binary, clustersIn, lows, each, forks, treesOn}
 use Rattle.splits.specs.BinaryTrees.Binary.{tip, fork}
 use Rattle.splits.specs.WellFormed.{TreeOn}
@@ -84,17 +84,6 @@ unfolding those each
 those-of-each test f [] = refl
 those-of-each test f (x ∷ l) = those-append test (f x) (each f l) ∙ ap (λ r. those test (f x) ++ r) (those-of-each test f l)
 
--- those of the trees that pass one test that pass another pass both
-pub those-those : (f g : Binary → Bool) (l : List Binary) → those f (those g l) ≡ those (λ t. g t && f t) l
-unfolding those
-those-those f g [] = refl
-those-those f g (t ∷ l) = go (g t) (those-those f g l)
-  where
-    go : (b : Bool) → those f (those g l) ≡ those (λ u. g u && f u) l
-        → those f (keepTree b t (those g l)) ≡ keepTree (b && f t) t (those (λ u. g u && f u) l)
-    go true e = ap (keepTree (f t) t) e
-    go false e = e
-
 -- ---- those that pass, counted
 
 -- a sum over lists one after the other
@@ -112,15 +101,6 @@ length-those test l =
     go : (t : Binary) (b : Bool) → length (keepTree b t []) ≡ only b 1
     go t true = refl
     go t false = refl
-
--- where the second test passes all that the first does, no fewer pass it
-pub those-le : (f g : Binary → Bool) (l : List Binary) → ((t : Binary) → List·Memᴰ t l → f t ≡ true → g t ≡ true) → length (those f l) ≤ length (those g l)
-those-le f g l h =
-    omega (arith, length-those f l, length-those g l, total-le (λ t. only (f t) 1) (λ t. only (g t) 1) l (λ t m. go (f t) (g t) (h t m)))
-  where
-    go : (b c : Bool) → (b ≡ true → c ≡ true) → only b 1 ≤ only c 1
-    go true c e = rw (e refl) (omega arith)
-    go false c e = omega arith
 
 -- ---- the trees over allowed clusters
 

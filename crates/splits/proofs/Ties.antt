@@ -43,12 +43,6 @@ unfolding total
 total-times c f [] = omega arith
 total-times c f (x ∷ l) = omega (arith, total-times c f l)
 
--- the sum of what is added to each is added to the sum
-pub total-plus : {A : Type 0} (f g h : A → ℕ) (l : List A) → ((x : A) → h x ≡ f x + g x) → total (map h l) ≡ total (map f l) + total (map g l)
-unfolding total
-total-plus f g h [] e = refl
-total-plus f g h (x ∷ l) e = omega (arith, e x, total-plus f g h l e)
-
 -- ---- the least score of a cluster
 
 module _ (w : ℕ → ℕ) (ok : ℕ → Bool) (a : ℕ) where
@@ -231,8 +225,8 @@ module _ (w : ℕ → ℕ) (ok : ℕ → Bool) where
   tie-zero = tie-none w ok 0 (best-zero w ok)
 
   -- nor for a cluster that is not allowed
-  pub tie-refused : (a : ℕ) → ok a ≡ false → tieEntry w ok a ≡ 0
-  tie-refused a e = tie-none w ok a (best-refused w ok a e)
+  pub tie-not-allowed : (a : ℕ) → ok a ≡ false → tieEntry w ok a ≡ 0
+  tie-not-allowed a e = tie-none w ok a (best-refused w ok a e)
 
   -- an allowed single species has one tree
   pub tie-single : (a : ℕ) → size a ≡ 1 → ok a ≡ true → tieEntry w ok a ≡ 1

@@ -16,7 +16,7 @@ use Rattle.splits.specs.Work.{Light, tiesOver, Counted}
 use Rattle.splits.proofs.Recurrence.{entry, best-fork}
 use Rattle.splits.proofs.LowParts.{low-some}
 use Rattle.splits.proofs.Ties.{tie-none, tie-tip, tie-splits, split-two, mark-none, some-unmarked}
-use Rattle.splits.proofs.TieLaws.{tie-bound}
+use Rattle.splits.proofs.TieBound.{tie-bound}
 use Rattle.splits.proofs.TieWalk.{tiesOver-same}
 use Rattle.tables.specs.Work.{Tabled, TieNext, Tieable, Ties, FillsTies}
 use Rattle.tables.proofs.Reached.{entries-few}

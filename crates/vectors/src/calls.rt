@@ -5,6 +5,7 @@ use crate::reading;
 use crate::reporting;
 use crate::scoring;
 use crate::searching;
+use crate::tying;
 use crate::weighing;
 use crate::writing;
 use cases::fields::byte;
@@ -50,7 +51,9 @@ fn run_with_genes(case: &[u8], letter: u8) {
         b'M' => marking::run(Rooting::Rooted, case, records),
         b'm' => marking::run(Rooting::Unrooted, case, records),
         b'F' => searching::run(Rooting::Rooted, case, records),
-        _ => searching::run(Rooting::Unrooted, case, records),
+        b'f' => searching::run(Rooting::Unrooted, case, records),
+        b'E' => tying::run(Rooting::Rooted, case, records),
+        _ => tying::run(Rooting::Unrooted, case, records),
     }
 }
 
@@ -59,7 +62,9 @@ pub fn run(case: &[u8]) {
     let letter = byte(case, 0);
     match letter {
         b'J' | b'R' | b'G' | b'T' | b'W' | b'P' => run_with_text(case, letter),
-        b'K' | b'S' | b'M' | b'F' | b'k' | b's' | b'm' | b'f' => run_with_genes(case, letter),
+        b'K' | b'S' | b'M' | b'F' | b'E' | b'k' | b's' | b'm' | b'f' | b'e' => {
+            run_with_genes(case, letter)
+        }
         _ => show::text(b"no such call\n"),
     }
 }

@@ -8,6 +8,7 @@ mod replies;
 mod reporting;
 mod scoring;
 mod searching;
+mod tying;
 mod weighing;
 mod writing;
 

@@ -29,6 +29,7 @@ fn search(
     show::answer(found.number, found.place, found.score);
     show::record_start(&entries);
     tables::show(scores, splits);
+    show::byte(b'\n');
 }
 
 // Searches with so many entries in each table.

@@ -1,8 +1,10 @@
 //! The sets of ./bench, and this version's search timed on one: `timing draw SET RECORDS` writes the gene records of a set,
 //! `timing search SET RECORDS ANSWER` searches them with all clusters allowed, writes the answer and prints the microseconds of processor time.
-//! Both files are numbers with the low byte first: sixteen bits each in RECORDS; in ANSWER the score (64), the record (16), the score
-//! table (32) and the split table (16). docs/src/timing.c writes the same of the proved search.
+//! In the set `ties` it is the search with ties (#111), on the gene trees of `binary`. Both files are numbers with the low byte first: sixteen
+//! bits each in RECORDS; in ANSWER the score (64), the number of ties (64), the record (16), the score table (32), the split table (16) and the
+//! table of ties (64), with 0 for all ties in the other sets. docs/src/timing.c writes the same of the proved search.
 use reference::lineages::Rooting;
+use reference::search::{search, search_ties};
 use reference::seeded::Seeded;
 use reference::trees::{record, whole};
 use reference::SPECIES;
@@ -43,11 +45,15 @@ fn unresolved(s: &mut Seeded) -> Vec<u16> {
     clusters
 }
 
-/// Each species is lost with one chance in five.
+/// Each species is lost with one chance in five; where all would be, they are drawn again.
 fn lost(s: &mut Seeded) -> Vec<u16> {
-    let mut kept = all();
-    kept.retain(|_| !s.one_in(5));
-    binary_on(s, kept)
+    loop {
+        let mut kept = all();
+        kept.retain(|_| !s.one_in(5));
+        if !kept.is_empty() {
+            return binary_on(s, kept);
+        }
+    }
 }
 
 /// The root is drawn on a branch or, with one chance in two, at a node, where it has three children.
@@ -61,7 +67,7 @@ fn unrooted(s: &mut Seeded) -> Vec<u16> {
 
 fn draw(set: &str) -> Vec<u16> {
     let (trees, tree): (usize, fn(&mut Seeded) -> Vec<u16>) = match set {
-        "binary" => (2000, binary),
+        "binary" | "ties" => (2000, binary),
         "unresolved" => (2000, unresolved),
         "lost" => (2000, lost),
         "unrooted" => (2000, unrooted),
@@ -73,18 +79,24 @@ fn draw(set: &str) -> Vec<u16> {
 }
 
 /// The answer as bytes, and the microseconds.
-fn search(set: &str, genes: &[u16]) -> (Vec<u8>, c_long) {
+fn timed(set: &str, genes: &[u16]) -> (Vec<u8>, c_long) {
     let rooting = if set == "unrooted" { Rooting::Unrooted } else { Rooting::Rooted };
     let allowed = vec![1u8; 1 << SPECIES];
-    let (mut scores, mut splits) = (vec![0u32; 1 << SPECIES], vec![0u16; 1 << SPECIES]);
+    let (mut scores, mut splits, mut table) = (vec![0u32; 1 << SPECIES], vec![0u16; 1 << SPECIES], vec![0u64; 1 << SPECIES]);
+    let count = genes.len() / 32;
     let begin = unsafe { clock() };
-    let found = reference::search::search(rooting, SPECIES, genes, genes.len() / 32, &allowed, &mut scores, &mut splits);
+    let found = if set == "ties" {
+        search_ties(rooting, SPECIES, genes, count, &allowed, &mut scores, &mut splits, &mut table)
+    } else {
+        search(rooting, SPECIES, genes, count, &allowed, &mut scores, &mut splits).map(|(score, record)| (score, 0, record))
+    };
     let time = unsafe { clock() } - begin;
-    let (score, record) = found.unwrap();
-    let mut answer = score.to_le_bytes().to_vec();
+    let (score, ties, record) = found.unwrap();
+    let mut answer = [score as u64, ties].map(u64::to_le_bytes).concat();
     answer.extend(record.iter().flat_map(|x| x.to_le_bytes()));
     answer.extend(scores.iter().flat_map(|x| x.to_le_bytes()));
     answer.extend(splits.iter().flat_map(|x| x.to_le_bytes()));
+    answer.extend(table.iter().flat_map(|x| x.to_le_bytes()));
     (answer, time)
 }
 
@@ -98,7 +110,7 @@ fn main() {
         ["search", set, records, answer] => {
             let bytes = std::fs::read(records).unwrap();
             let genes: Vec<u16> = bytes.chunks(2).map(|b| u16::from_le_bytes([b[0], b[1]])).collect();
-            let (found, time) = search(set, &genes);
+            let (found, time) = timed(set, &genes);
             std::fs::write(answer, found).unwrap();
             println!("{time}");
         }

@@ -5,7 +5,7 @@ use reference::lineages::{extra, extra_by_pass, k, k_by_pass, mark, records, sco
 use reference::reader::{read, Kind};
 use reference::report::report;
 use reference::roster::{joined, names};
-use reference::search::{brute, search, tables, weights};
+use reference::search::{brute, brute_ties, search, search_ties, tables, ties_by_splits, weights, NO_TREE};
 use reference::seeded::{Seeded, Tree};
 use reference::trees::{binary, clusters, largest, may_unroot, record, valid, valid_gene, whole, Record};
 use reference::writer::write;
@@ -40,6 +40,16 @@ fn genes_by_rooting(s: &mut Seeded, n: usize) -> (Rooting, Vec<Record>) {
     }
 }
 
+/// Weights of gene trees, or few different ones, so that many trees are as good as another.
+fn some_weights(s: &mut Seeded, n: usize) -> Vec<u32> {
+    if s.one_in(2) {
+        let most = 1 + s.below(5);
+        return (0..1 << n).map(|_| s.below(most) as u32).collect();
+    }
+    let (rooting, genes) = genes_by_rooting(s, n);
+    weights(rooting, n, &genes)
+}
+
 fn cluster(s: &mut Seeded, n: usize) -> u16 {
     1 + s.below(whole(n) as usize) as u16
 }
@@ -50,16 +60,58 @@ fn all_trees_and_the_dynamic_program_fill_the_same_tables() {
     for round in 0..3000 {
         let n = if round < 3 { 7 } else { 1 + s.below(6) };
         let allowed = allowed(&mut s, n);
-        let weights = if s.one_in(2) {
-            // few different weights, so that many trees are as good as another
-            let most = 1 + s.below(5);
-            (0..1 << n).map(|_| s.below(most) as u32).collect()
-        } else {
-            let (rooting, genes) = genes_by_rooting(&mut s, n);
-            weights(rooting, n, &genes)
-        };
+        let weights = some_weights(&mut s, n);
         assert_eq!(brute(n, &weights, &allowed), tables(n, &weights, &allowed), "n {n}, weights {weights:?}, allowed {allowed:?}");
     }
+}
+
+#[test]
+fn ties_one_by_one_and_by_the_splits() {
+    let mut s = Seeded::new(23);
+    let mut several = 0;
+    for round in 0..3000 {
+        let n = if round < 3 { 7 } else { 1 + s.below(6) };
+        let allowed = allowed(&mut s, n);
+        let weights = some_weights(&mut s, n);
+        let ties = brute_ties(n, &weights, &allowed);
+        let (scores, _) = tables(n, &weights, &allowed);
+        assert_eq!(ties, ties_by_splits(&weights, &scores), "n {n}, weights {weights:?}, allowed {allowed:?}");
+        // where there is a tree at all, one is the first least one
+        assert!(ties.iter().zip(&scores).all(|(&count, &score)| (count == 0) == (score == NO_TREE)));
+        several += (ties[(1 << n) - 1] > 1) as usize;
+    }
+    assert!(several > 500, "{several} of 3,000 have several least trees");
+}
+
+#[test]
+fn two_lots_have_no_more_ties_together_where_some_tree_is_least_for_both() {
+    let mut s = Seeded::new(24);
+    let (mut equal, mut fewer, mut above) = (0, 0, 0);
+    for _ in 0..3000 {
+        let n = 1 + s.below(6);
+        let (rooting, whole) = genes_by_rooting(&mut s, n);
+        let allowed = allowed(&mut s, n);
+        let searched = |genes: &[Record]| {
+            let (mut scores, mut splits, mut table) = (vec![0; 1 << n], vec![0; 1 << n], vec![0; 1 << n]);
+            search_ties(rooting, n, &genes.concat(), genes.len(), &allowed, &mut scores, &mut splits, &mut table).map(|(score, ties, _)| (score, ties))
+        };
+        // an empty lot has no search
+        let (first, second) = whole.split_at(s.below(whole.len()));
+        if first.is_empty() {
+            continue;
+        }
+        let lots = [first, second].map(searched);
+        let (Ok((score, ties)), [Ok(one), Ok(other)]) = (searched(&whole), &lots) else {
+            assert_eq!((searched(&whole), lots), (Err((14, 0)), [Err((14, 0)); 2]));
+            continue;
+        };
+        let sum = one.0 + other.0;
+        assert!(score >= sum && (score > sum || ties <= one.1.min(other.1)), "n {n}, lots {first:?} and {second:?}, allowed {allowed:?}");
+        equal += (score == sum) as usize;
+        fewer += (score == sum && ties < one.1.min(other.1)) as usize;
+        above += (score > sum) as usize;
+    }
+    assert!(equal > 500 && fewer > 20 && above > 100, "{equal} lots at equality, {fewer} of them with fewer ties, {above} above");
 }
 
 #[test]

@@ -11,7 +11,7 @@ pub fn borders(c: &mut Cases) {
     limit_borders(c, read);
     writer_borders(c);
     count_borders(c);
-    search_borders(c);
+    search_borders(c, Cases::search);
     full_searches(c);
     program_borders(c);
     unresolved_borders(c);
@@ -185,35 +185,36 @@ fn unresolved_borders(c: &mut Cases) {
     }
 }
 
-pub fn search_borders(c: &mut Cases) {
+/// The borders of a search, for each way of calling one.
+pub fn search_borders(c: &mut Cases, search: impl Fn(&mut Cases, usize, &[u16], usize, &[u16], usize, usize)) {
     let [balanced, _, crossed, _] = example_records();
     let three = |xs: &[[u16; 32]]| xs.concat();
     let (ab, ac, bc) = (record(&[1, 2, 3, 4, 7]), record(&[1, 2, 4, 5, 7]), record(&[1, 2, 4, 6, 7]));
-    c.search(3, &three(&[ab, ab, ac]), 3, &[1; 8], 8, 8);
-    c.search(3, &three(&[ab, ac, bc]), 3, &[1; 8], 9, 10);
+    search(c, 3, &three(&[ab, ab, ac]), 3, &[1; 8], 8, 8);
+    search(c, 3, &three(&[ab, ac, bc]), 3, &[1; 8], 9, 10);
     let own: Vec<u16> = (0..16).map(|a| [1, 2, 3, 4, 8, 15].contains(&a) as u16).collect();
-    c.search(4, &record(&[1, 2, 3, 4, 8, 15]), 1, &own, 16, 16);
+    search(c, 4, &record(&[1, 2, 3, 4, 8, 15]), 1, &own, 16, 16);
     let pair: Vec<u16> = (0..16).map(|a| (a == 3 || a == 12) as u16).collect();
-    c.search(4, &crossed, 1, &pair, 16, 16);
-    c.search(1, &record(&[1]), 1, &[1, 1], 2, 2);
-    c.search(1, &record(&[1]), 1, &[0, 0], 3, 3);
-    c.search(2, &record(&[1, 2, 3]), 1, &[0; 4], 4, 4);
+    search(c, 4, &crossed, 1, &pair, 16, 16);
+    search(c, 1, &record(&[1]), 1, &[1, 1], 2, 2);
+    search(c, 1, &record(&[1]), 1, &[0, 0], 3, 3);
+    search(c, 2, &record(&[1, 2, 3]), 1, &[0; 4], 4, 4);
     let bad = record(&[1, 2, 3, 5, 8, 15]);
     for first in [0, 1, 2, 255] {
         let mut allowed = [1u16; 17];
         allowed[0] = first;
         allowed[16] = 9;
-        c.search(4, &balanced, 1, &allowed, 20, 18);
+        search(c, 4, &balanced, 1, &allowed, 20, 18);
         allowed[9] = 2;
-        c.search(4, &balanced, 1, &allowed, 20, 18);
-        c.search(4, &bad, 1, &allowed, 20, 18);
-        c.search(4, &bad, 0, &allowed, 20, 18);
-        c.search(0, &bad, 0, &allowed, 20, 18);
+        search(c, 4, &balanced, 1, &allowed, 20, 18);
+        search(c, 4, &bad, 1, &allowed, 20, 18);
+        search(c, 4, &bad, 0, &allowed, 20, 18);
+        search(c, 0, &bad, 0, &allowed, 20, 18);
     }
     for (allowed, scores, splits) in [(15, 16, 16), (16, 15, 16), (16, 16, 15), (16, 16, 16)] {
-        c.search(4, &balanced, 1, &vec![1; allowed], scores, splits);
-        c.search(4, &balanced[..31], 1, &vec![1; allowed], scores, splits);
-        c.search(4, &bad, 1, &vec![1; allowed], scores, splits);
+        search(c, 4, &balanced, 1, &vec![1; allowed], scores, splits);
+        search(c, 4, &balanced[..31], 1, &vec![1; allowed], scores, splits);
+        search(c, 4, &bad, 1, &vec![1; allowed], scores, splits);
     }
 }
 

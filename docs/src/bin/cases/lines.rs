@@ -54,6 +54,11 @@ impl Cases {
         self.add_count(b'F', &[decimal(n), numbers(genes), decimal(count), numbers(allowed), decimal(scores), decimal(splits)]);
     }
 
+    pub fn search_ties(&mut self, n: usize, genes: &[u16], count: usize, allowed: &[u16], tables: [usize; 3]) {
+        let [scores, splits, ties] = tables.map(decimal);
+        self.add_count(b'E', &[decimal(n), numbers(genes), decimal(count), numbers(allowed), scores, splits, ties]);
+    }
+
     pub fn report(&mut self, input: &[u8]) {
         self.add(b'P', &[escaped(input)]);
     }

@@ -5,6 +5,7 @@ mod lines;
 mod lost;
 mod quotes;
 mod supports;
+mod ties;
 mod unrooted;
 
 use std::io::Write;
@@ -18,6 +19,7 @@ fn main() {
     quotes::quotes(&mut cases, seeded);
     supports::supports(&mut cases, seeded);
     unrooted::unrooted(&mut cases, seeded);
+    ties::ties(&mut cases, seeded);
     let mut out = std::io::stdout().lock();
     for line in &cases.lines {
         out.write_all(line).unwrap();

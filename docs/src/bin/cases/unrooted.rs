@@ -11,7 +11,7 @@ use reference::trees::{record, whole, Record};
 pub fn unrooted(c: &mut Cases, s: &mut Seeded) {
     c.rooting = Unrooted;
     count_borders(c);
-    search_borders(c);
+    search_borders(c, Cases::search);
     what_enters(c);
     drawings_counted(c);
     drawings_marked_and_searched(c);
@@ -27,7 +27,7 @@ pub fn unrooted(c: &mut Cases, s: &mut Seeded) {
 }
 
 /// The record of a tree on n species with these clusters besides the single species and the whole.
-fn tree(n: usize, inner: &[u16]) -> Record {
+pub fn tree(n: usize, inner: &[u16]) -> Record {
     let mut clusters: Vec<u16> = (0..n).map(|i| 1 << i).chain(inner.iter().copied()).collect();
     if n > 1 {
         clusters.push(whole(n));
@@ -203,7 +203,7 @@ fn program_inputs(c: &mut Cases) {
 }
 
 /// Gene trees that mostly enter: drawings of trees on n species, one in `out` any gene tree at all.
-fn genes(s: &mut Seeded, n: usize, count: usize, out: usize) -> Vec<u16> {
+pub fn genes(s: &mut Seeded, n: usize, count: usize, out: usize) -> Vec<u16> {
     let one = |s: &mut Seeded| match s.below(3 * out) {
         0 => s.gene(n, false),
         1 => s.gene_on_kept(n, true),

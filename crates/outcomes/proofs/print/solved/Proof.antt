@@ -1,4 +1,4 @@
--- The tree's text stands behind the first two lines, and a line feed behind it; there is room for all.
+-- The tree's text stands behind the first three lines, and a line feed behind it; there is room for all.
 use mathlib.Core.Path.{refl, sym, _∙_}
 use native.Mathlib.Omega.{arith}
 use Rattle.roster.specs.Roster.{names}
@@ -9,10 +9,10 @@ use borrow.Author.Needs.{needs}
 use Rattle.outcomes.proofs.print.solved.Statement.{statement}
 use Rattle.outcomes.proofs.print.solved.Tie as tie
 
-after-counts : (c : tie.After-counts) → Room 80 (c .counts .result) (c .counts .last .0)
+after-counts : (c : tie.After-counts) → Room 106 (c .counts .result) (c .counts .last .0)
 after-counts c =
     let args = c .before .before .before .args in
-    room-within 80 refl (counts-length (args .n) (args .count) (args .score)) (c .counts .ensures)
+    room-within 106 refl (counts-length (args .n) (args .count) (args .score) (args .ties)) (c .counts .ensures)
 
 slice-aggregate-counts : tie.Need-slice-aggregate-counts
 slice-aggregate-counts c = search needs
@@ -65,7 +65,8 @@ returns c =
     let args = start .args in
     let tree = tree-put (start .pre .0) (start .pre .1) (after-counts counts) (write .write .ensures) in
     put-report
-    (answer-length (args .n) (args .count) (args .score) (written (names (args .line .now)) (args .tree .numbers)) (tree-length (start .pre .0) (start .pre .1)))
+    (answer-length (args .n) (args .count) (args .score) (args .ties) (written (names (args .line .now)) (args .tree .numbers))
+    (tree-length (start .pre .0) (start .pre .1)))
     (put-then (put-then (counts .counts .ensures) tree) (c .before .word .ensures))
 
 pub solved-spec : {M : Type 1} → statement M

@@ -5,13 +5,12 @@ use mathlib.Core.List.{List, _++_}
 use native.Mathlib.Omega.{arith}
 use lib.ListN.{length, take, drop, replicate}
 use lib.Seq.{length-take-le, take-at}
-use Rattle.clusters.specs.Sets.{single, whole}
+use Rattle.clusters.specs.Sets.{single}
 use Rattle.roster.specs.Roster.{names}
 use Rattle.trees.specs.Records.{recordsIn}
 use Rattle.trees.proofs.Lent.{length-recordsIn}
-use Rattle.splits.specs.Best.{bestFor, foundBy}
-use Rattle.terms.specs.declared.Found.{Found}
-use Rattle.outcomes.specs.Outcome.{allowedBy}
+use Rattle.search.specs.declared.tied.Tied.{Tied}
+use Rattle.outcomes.specs.Outcome.{foundWithTies, allowedBy}
 use Rattle.outcomes.proofs.Telling.{retold}
 use Rattle.outcomes.proofs.Allowed.{allowed-marked, front-fits}
 use Rattle.outcomes.proofs.Searching.{entries-most, searched-refused, searched-solved, found-valid}
@@ -48,11 +47,10 @@ handed c =
     take-at (c .allow .last .1 .1 .1 .1 .1 .0) (behind c) (c .before .before .single .result) (allowed-entries c) ∙ c .allow .ensures
 
 -- what the search finds over some clusters
-abbrev over : (c : tie.After-find) → List ℕ → Found
+abbrev over : (c : tie.After-find) → List ℕ → Tied
 over c l =
     let args = c .before .before .before .before .before .before .before .before .args in
-    let gs = recordsIn (args .count) (args .genes .now) in
-    foundBy (args .rooting) (bestFor (args .rooting) (args .n) gs l (whole (args .n))) gs
+    foundWithTies (args .rooting) (args .n) (recordsIn (args .count) (args .genes .now)) l
 
 found-by : (c : tie.After-find) → c .find .result ≡ over c (allowed (c .before .before .before))
 found-by c = subst (λ (l : List ℕ). c .find .result ≡ over c l) (handed (c .before .before .before)) (c .find .ensures)

@@ -1,5 +1,6 @@
 -- The fingerprint stays below its modulus; what is left of the slice falls.
 use borrow.Author.Needs.{needs}
+use native.Mathlib.Omega.{arith}
 use Prim.Native.Nat.{_≤_, _<_, _-_}
 use lib.ListN.{length}
 use Rattle.showing.proofs.tables.scores_fingerprint.Statement.{statement}
@@ -20,6 +21,7 @@ scores-fingerprint-spec =
     (λ c. search needs)
     (λ c. search needs)
     (λ c. search needs)
+    (λ c. omega (arith, c .shared-slice-known2 .given (c .before .before .loop .i)))
     (λ c κs. search needs)
     (λ c. search needs)
     (λ c. search needs)
