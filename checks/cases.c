@@ -318,6 +318,15 @@ static void search_ties(void) {
     printf("\n");
 }
 
+static void visit(void) {
+    Numbers genes = numbers(1);
+    Bytes allowed = flags(3);
+    st_Found r = (unrooted() ? st_plain_unrooted : st_plain)(number(0), genes.at, genes.length, number(2), allowed.at, allowed.length);
+    show(r.number, r.place, r.score);
+    show_record(r.numbers);
+    printf("\n");
+}
+
 /* The program has no C name: it is run on the input, and writes its report where the answers go. */
 static void run_program(void) {
     Bytes input = bytes(0);
@@ -332,8 +341,8 @@ static const struct {
     char letter;
     void (*run)(void);
 } calls[] = {
-    {'J', judge}, {'R', read_species}, {'G', read_gene}, {'T', read_supported}, {'W', write_tree}, {'K', weigh}, {'S', score}, {'M', mark}, {'F', search}, {'E', search_ties},
-    {'k', weigh}, {'s', score}, {'m', mark}, {'f', search}, {'e', search_ties}, {'P', run_program},
+    {'J', judge}, {'R', read_species}, {'G', read_gene}, {'T', read_supported}, {'W', write_tree}, {'K', weigh}, {'S', score}, {'M', mark}, {'F', search}, {'E', search_ties}, {'L', visit},
+    {'k', weigh}, {'s', score}, {'m', mark}, {'f', search}, {'e', search_ties}, {'l', visit}, {'P', run_program},
 };
 
 static void run(void) {

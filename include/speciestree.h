@@ -83,7 +83,11 @@ st_Tied st_search_ties(size_t n, const uint16_t *genes, size_t genes_length, siz
                        size_t allowed_length, uint32_t *scores, size_t scores_length, uint16_t *splits, size_t splits_length,
                        uint64_t *ties, size_t ties_length);
 
-/* The same five for gene trees without a root: the clusters of a gene record are its own and the complement of each but the whole, so
+/* the score and the record that st_search gives for the same n, gene records, count and allowed set, found by going through all binary
+   trees on at most seven species, else 17; no table is lent */
+st_Found st_plain(size_t n, const uint16_t *genes, size_t genes_length, size_t count, const uint8_t *allowed, size_t allowed_length);
+
+/* The same six for gene trees without a root: the clusters of a gene record are its own and the complement of each but the whole, so
    that it does not matter where the root was drawn. A gene tree has to have every species, and each inner node two children, the root
    two or three; else 19 */
 st_Reply st_weight_unrooted(size_t n, const uint16_t *genes, size_t genes_length, size_t count, size_t cluster);
@@ -98,6 +102,9 @@ st_Found st_search_unrooted(size_t n, const uint16_t *genes, size_t genes_length
 st_Tied st_search_ties_unrooted(size_t n, const uint16_t *genes, size_t genes_length, size_t count, const uint8_t *allowed,
                                 size_t allowed_length, uint32_t *scores, size_t scores_length, uint16_t *splits, size_t splits_length,
                                 uint64_t *ties, size_t ties_length);
+
+st_Found st_plain_unrooted(size_t n, const uint16_t *genes, size_t genes_length, size_t count, const uint8_t *allowed,
+                           size_t allowed_length);
 
 #ifdef __cplusplus
 }

@@ -2,7 +2,7 @@
 use crate::lineages::Rooting;
 use crate::reader::Kind;
 use crate::trees::Record;
-use crate::{lineages, reader, report, roster, search, writer, Refusal};
+use crate::{lineages, plain, reader, report, roster, search, writer, Refusal};
 use std::fmt::Write;
 
 /// What lent buffers hold before a call.
@@ -110,15 +110,19 @@ fn listed(line: &mut String, r: &Record) {
     }
 }
 
-fn searched(line: &mut String, rooting: Rooting, field: &[&[u8]]) {
-    let (mut scores, mut splits) = (vec![SCORE; number(field[4])], vec![SPLIT; number(field[5])]);
-    match search::search(rooting, number(field[0]), &numbers(field[1]), number(field[2]), &flags(field[3]), &mut scores, &mut splits) {
+fn found(line: &mut String, answer: Result<(usize, Record), Refusal>) {
+    match answer {
         Ok((score, record)) => {
             write!(line, "0 0 {score}").unwrap();
             listed(line, &record);
         }
         Err((number, place)) => write!(line, "{number} {place} 0").unwrap(),
     }
+}
+
+fn searched(line: &mut String, rooting: Rooting, field: &[&[u8]]) {
+    let (mut scores, mut splits) = (vec![SCORE; number(field[4])], vec![SPLIT; number(field[5])]);
+    found(line, search::search(rooting, number(field[0]), &numbers(field[1]), number(field[2]), &flags(field[3]), &mut scores, &mut splits));
     write!(line, " : {} {}", mixed(&scores), mixed(&splits)).unwrap();
 }
 
@@ -170,6 +174,7 @@ pub fn answer(case: &[u8]) -> Vec<u8> {
         }
         b'F' | b'f' => searched(&mut line, rooting, &field),
         b'E' | b'e' => searched_with_ties(&mut line, rooting, &field),
+        b'L' | b'l' => found(&mut line, plain::plain(rooting, number(field[0]), &numbers(field[1]), number(field[2]), &flags(field[3]))),
         b'P' => return report::report(&bytes(field[0])),
         other => panic!("no call is named {}", other as char),
     }

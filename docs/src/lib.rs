@@ -2,6 +2,7 @@
 pub mod cases;
 pub mod label;
 pub mod lineages;
+pub mod plain;
 pub mod reader;
 pub mod report;
 pub mod roster;

@@ -67,7 +67,7 @@ fn trees_on(a: usize) -> Vec<Vec<usize>> {
 }
 
 /// All binary trees on a over allowed clusters, in 01's order.
-fn trees_over(n: usize, allowed: &[u8], a: usize) -> Vec<Vec<usize>> {
+pub fn trees_over(n: usize, allowed: &[u8], a: usize) -> Vec<Vec<usize>> {
     trees_on(a).into_iter().filter(|t| t.iter().all(|&x| allowed_in(n, allowed, x))).collect()
 }
 
@@ -180,7 +180,7 @@ fn fill(n: usize, weights: &[u32], allowed: &[u8], scores: &mut [u32], splits: &
 }
 
 /// The tree that the tables choose for all species.
-fn tree(n: usize, scores: &[u32], splits: &[u16]) -> Result<(usize, Record), Refusal> {
+pub fn tree(n: usize, scores: &[u32], splits: &[u16]) -> Result<(usize, Record), Refusal> {
     let all = (1 << n) - 1;
     if scores[all] == NO_TREE {
         return Err((14, 0));

@@ -16,6 +16,7 @@ ghost use Rattle.weights.specs.declared.Rooting.the-variants.{Rooted, Unrooted}
 ghost use Rattle.lineages.specs.Promise.{Weighs, Scores, Marks};
 ghost use Rattle.search.specs.Promise.{Finds};
 ghost use Rattle.search.specs.TiesPromise.{FindsTies};
+ghost use Rattle.plain.specs.Promise.{FindsPlainly};
 
 // Judges a roster line; the value is how many species it has.
 #[no_mangle]
@@ -189,4 +190,20 @@ pub extern "C" fn st_search_ties_unrooted(
         splits,
         ties,
     )
+}
+
+// The tree of the search for at most seven species, found by going through all binary trees.
+#[no_mangle]
+pub extern "C" fn st_plain(n: usize, genes: &[u16], count: usize, allowed: &[u8]) -> Found
+    ensures { λ r. ⌜ FindsPlainly Rooted n (now (genes .entry)) count (now (allowed .entry)) r ⌝ }
+{
+    plain::plain(Rooting::Rooted, n, genes, count, allowed)
+}
+
+// The same for gene trees without a root.
+#[no_mangle]
+pub extern "C" fn st_plain_unrooted(n: usize, genes: &[u16], count: usize, allowed: &[u8]) -> Found
+    ensures { λ r. ⌜ FindsPlainly Unrooted n (now (genes .entry)) count (now (allowed .entry)) r ⌝ }
+{
+    plain::plain(Rooting::Unrooted, n, genes, count, allowed)
 }

@@ -1,7 +1,7 @@
--- "Faulty input is turned away with a number and a place, both fixed in advance": for writing, weighing, scoring, marking, searching, and searching with ties.
+-- "Faulty input is turned away with a number and a place, both fixed in advance": for judging a roster, for writing, and for every call on gene records.
 use Prim.Native.Nat.{ℕ, zero, suc, _*_, _^_, _≤_}
 use mathlib.Core.Path.{_≡_, refl, sym, ap, _∙_}
-use mathlib.Core.Logic.{inl, _↔_}
+use mathlib.Core.Logic.{_↔_}
 use mathlib.Core.Bool.{Bool, true, false, _&&_, true≢false}
 use mathlib.Core.Option.{Option, some, none}
 use mathlib.Core.List.{List, [], _∷_, _++_}
@@ -20,27 +20,28 @@ use Rattle.texts.specs.Writing.{written}
 use Rattle.writer.specs.Promise.{rosterTest, writeTests, Writes}
 use Rattle.writer.proofs.RosterNames.{good-names}
 use Rattle.weights.specs.declared.Rooting.{Rooting}
-use Rattle.lineages.specs.Checks.{speciesTest, recordsTest, rootingTest, weightTests, scoreTests, markTests}
+use Rattle.lineages.specs.Checks.{speciesTest, countTest, recordsTest, rootingTest, weightTests, scoreTests, markTests}
 use Rattle.lineages.specs.Promise.{Weighs, Scores, Marks}
 use Rattle.lineages.specs.Work.{said}
-use Rattle.lineages.proofs.Verdicts.{verdict-first}
+use Rattle.lineages.proofs.Verdicts.{NoneGives, verdict-first}
 use Rattle.splits.specs.BinaryTrees.{Binary}
 use Rattle.splits.specs.Best.{bestFor, foundBy}
 use Rattle.terms.specs.declared.Found.{Found}
 use Rattle.terms.specs.Allowed.{allowedTest}
+use Rattle.plain.specs.Promise.{plainTest, plainTests, FindsPlainly}
 use Rattle.search.specs.Promise.{searchTests, Finds}
 use Rattle.terms.specs.Answers.{foundOr}
 use Rattle.search.specs.Candidates.{Candidate}
 use Rattle.search.specs.TiesPromise.{tiesTests, withoutTies, FindsTies}
 use Rattle.search.specs.declared.tied.Tied.{Tied}
-use Rattle.search.proofs.Accepted.{NoneGives, none-gives}
+use Rattle.search.proofs.Accepted.{none-gives}
 use Rattle.search.proofs.Tying.{none-gives-ties}
 use Rattle.search.proofs.Demand.{found-answers, none-competes}
 use Rattle.demands.specs.CallFaults.{RosterFault, RootingFault, NoTreeFault}
-use Rattle.demands.specs.CallFaults.{WriteFault, WeightFault, ScoreFault, MarkFault, SearchRest, SearchFault, TiesFault}
+use Rattle.demands.specs.CallFaults.{WriteFault, WeightFault, ScoreFault, MarkFault, BehindLengths, SearchRest, SearchFault, TiesFault, PlainFault}
 use Rattle.demands.specs.CallFaults.NoTreeFault.{no-tree}
 use Rattle.demands.proofs.FirstFaults.{Exact, Meets, exact-last, exact-next, refused-at, one-fault, behind-passed}
-use Rattle.demands.proofs.TestFaults.{species-met, count-met, length-met, species-record-met, records-met, records-passed, rooting-met, record-met, cluster-met, allowed-met, roster-met}
+use Rattle.demands.proofs.TestFaults.{species-met, over-seven-met, count-met, length-met, species-record-met, records-met, records-passed, rooting-met, record-met, cluster-met, allowed-met, roster-met}
 
 -- ---- judging a roster
 
@@ -207,83 +208,122 @@ reply-said l numbered rooting best genes = go (verdict l .number) (verdict l .pl
     go zero q e = told best ∙ sym (behind-passed l (treeTest best ∷ []) numbered (ap (λ (v : Verdict). v .number) e))
     go (suc k) q e = sym (verdict-first l (treeTest best ∷ []) e (λ z. omega arith))
 
-module _ (rooting : Rooting) (n : ℕ) (genes : List ℕ) (count : ℕ) (allowed scores splits : List ℕ) where
+module _ (rooting : Rooting) (n : ℕ) (genes : List ℕ) (count : ℕ) (allowed : List ℕ) where
   abbrev best : Option Binary
   best = bestFor rooting n (recordsIn count genes) allowed (whole n)
 
-  -- the tests behind those of shape, 14 among them
-  abbrev restTests : List Test
-  restTests =
-      lengthTest (length allowed) (2 ^ n) ∷ lengthTest (length scores) (2 ^ n) ∷ lengthTest (length splits) (2 ^ n)
-      ∷ recordsTest n (recordsIn count genes)
-      ∷ rootingTest rooting n (recordsIn count genes)
-      ∷ allowedTest n allowed
-      ∷ treeTest best
-      ∷ []
+  -- the tests behind the lengths, 14 among them
+  abbrev lastTests : List Test
+  lastTests =
+      recordsTest n (recordsIn count genes) ∷ rootingTest rooting n (recordsIn count genes) ∷ allowedTest n allowed ∷ treeTest best ∷ []
 
-  rest-exact : n ≤ 16 → Exact (verdict restTests) (SearchRest rooting n genes count allowed scores splits)
-  rest-exact few =
-      exact-next _ (length-met allowed (2 ^ n)) (λ o.
-      exact-next _ (length-met scores (2 ^ n)) (λ p.
-      exact-next _ (length-met splits (2 ^ n)) (λ q.
+  last-exact : n ≤ 16 → Exact (verdict lastTests) (BehindLengths rooting n genes count allowed)
+  last-exact few =
       exact-next _ (records-met n few (recordsIn count genes)) (λ v.
       exact-next _ (rooted-met rooting n genes count few v) (λ u.
       exact-next _ (allowed-met n allowed) (λ b.
-      exact-last (tree-met rooting n (recordsIn count genes) allowed few)))))))
+      exact-last (tree-met rooting n (recordsIn count genes) allowed few))))
 
-  -- ---- the search
+  -- ---- the engine that goes through all trees
 
-  abbrev allTests : List Test
-  allTests = searchTests rooting n genes count allowed scores splits ++ (treeTest best ∷ [])
+  abbrev allPlainTests : List Test
+  allPlainTests = plainTests rooting n genes count allowed ++ (treeTest best ∷ [])
 
-  pub search-exact : Exact (verdict allTests) (SearchFault rooting n genes count allowed scores splits)
-  unfolding searchTests
-  search-exact =
+  pub plain-exact : Exact (verdict allPlainTests) (PlainFault rooting n genes count allowed)
+  unfolding plainTests
+  plain-exact =
       exact-next _ (species-met n) (λ s.
+      exact-next _ (over-seven-met n) (λ m.
       exact-next _ (count-met count) (λ c.
       exact-next _ (length-met genes (32 * count)) (λ l.
-      rest-exact (few-species n s))))
+      exact-next _ (length-met allowed (2 ^ n)) (λ o.
+      last-exact (few-species n s))))))
 
-  -- the same: searching
-  pub find-refused-at :
-      (r : Found) (s p : List ℕ) → Finds rooting n genes count allowed scores splits r s p → (number place : ℕ)
-      → ((r .number ≡ number) × (r .place ≡ place) × (number ≡ 0 → ⊥)) ↔ SearchFault rooting n genes count allowed scores splits number place
-  find-refused-at r s p f =
-      let never = none-gives rooting n genes count allowed scores splits 0 (inl refl) in
-      let e = ap replied (f .reply) ∙ reply-said (searchTests rooting n genes count allowed scores splits) never rooting best (recordsIn count genes) in
-      refused-at search-exact (ap (λ (v : Verdict). v .number) e) (ap (λ (v : Verdict). v .place) e)
+  -- no test of it has number 0
+  plain-numbered : NoneGives 0 (plainTests rooting n genes count allowed)
+  unfolding plainTests plainTest speciesTest countTest lengthTest recordsTest rootingTest allowedTest NoneGives
+  plain-numbered = (
+    λ z. omega arith,
+    (λ z. omega arith, (λ z. omega arith, (λ z. omega arith, (λ z. omega arith, (λ z. omega arith, (λ z. omega arith, (λ z. omega arith, tt))))))),
+  )
 
-  pub one-search-fault :
-      {k p k′ p′ : ℕ} → SearchFault rooting n genes count allowed scores splits k p → SearchFault rooting n genes count allowed scores splits k′ p′
-      → (k ≡ k′) × (p ≡ p′)
-  one-search-fault = one-fault search-exact
+  -- the same, with 17 "straight after 1" (#108): going through all trees
+  pub plain-refused-at :
+      (r : Found) → FindsPlainly rooting n genes count allowed r → (number place : ℕ)
+      → ((r .number ≡ number) × (r .place ≡ place) × (number ≡ 0 → ⊥)) ↔ PlainFault rooting n genes count allowed number place
+  plain-refused-at r f =
+      let e = ap replied (f .reply) ∙ reply-said (plainTests rooting n genes count allowed) plain-numbered rooting best (recordsIn count genes) in
+      refused-at plain-exact (ap (λ (v : Verdict). v .number) e) (ap (λ (v : Verdict). v .place) e)
 
-  -- ---- the search with ties
+  pub one-plain-fault : {k p k′ p′ : ℕ} → PlainFault rooting n genes count allowed k p → PlainFault rooting n genes count allowed k′ p′ → (k ≡ k′) × (p ≡ p′)
+  one-plain-fault = one-fault plain-exact
 
-  module _ (ties : List ℕ) where
-    abbrev allTiesTests : List Test
-    allTiesTests = tiesTests rooting n genes count allowed scores splits ties ++ (treeTest best ∷ [])
+  module _ (scores splits : List ℕ) where
+    -- the tests behind those of shape
+    abbrev restTests : List Test
+    restTests =
+        lengthTest (length allowed) (2 ^ n) ∷ lengthTest (length scores) (2 ^ n) ∷ lengthTest (length splits) (2 ^ n) ∷ lastTests
 
-    pub ties-exact : Exact (verdict allTiesTests) (TiesFault rooting n genes count allowed scores splits ties)
-    unfolding tiesTests
-    ties-exact =
+    rest-exact : n ≤ 16 → Exact (verdict restTests) (SearchRest rooting n genes count allowed scores splits)
+    rest-exact few =
+        exact-next _ (length-met allowed (2 ^ n)) (λ o.
+        exact-next _ (length-met scores (2 ^ n)) (λ p.
+        exact-next _ (length-met splits (2 ^ n)) (λ q.
+        last-exact few)))
+
+    -- ---- the search
+
+    abbrev allTests : List Test
+    allTests = searchTests rooting n genes count allowed scores splits ++ (treeTest best ∷ [])
+
+    pub search-exact : Exact (verdict allTests) (SearchFault rooting n genes count allowed scores splits)
+    unfolding searchTests
+    search-exact =
         exact-next _ (species-met n) (λ s.
         exact-next _ (count-met count) (λ c.
         exact-next _ (length-met genes (32 * count)) (λ l.
-        exact-next _ (length-met ties (2 ^ n)) (λ t.
-        rest-exact (few-species n s)))))
+        rest-exact (few-species n s))))
 
-    -- the same: searching with ties
-    pub ties-refused-at :
-        (r : Tied) (s p t : List ℕ) → FindsTies rooting n genes count allowed scores splits ties r s p t → (number place : ℕ)
-        → ((r .number ≡ number) × (r .place ≡ place) × (number ≡ 0 → ⊥)) ↔ TiesFault rooting n genes count allowed scores splits ties number place
-    ties-refused-at r s p t f =
-        let never = none-gives-ties rooting n genes count allowed scores splits ties 0 (none-gives rooting n genes count allowed scores splits 0 (inl refl)) in
-        let e = ap (λ (r : Tied). replied (withoutTies r)) (f .reply)
-        ∙ reply-said (tiesTests rooting n genes count allowed scores splits ties) never rooting best (recordsIn count genes) in
-        refused-at ties-exact (ap (λ (v : Verdict). v .number) e) (ap (λ (v : Verdict). v .place) e)
+    -- the same: searching
+    pub find-refused-at :
+        (r : Found) (s p : List ℕ) → Finds rooting n genes count allowed scores splits r s p → (number place : ℕ)
+        → ((r .number ≡ number) × (r .place ≡ place) × (number ≡ 0 → ⊥)) ↔ SearchFault rooting n genes count allowed scores splits number place
+    find-refused-at r s p f =
+        let never = none-gives rooting n genes count allowed scores splits 0 refl in
+        let e = ap replied (f .reply) ∙ reply-said (searchTests rooting n genes count allowed scores splits) never rooting best (recordsIn count genes) in
+        refused-at search-exact (ap (λ (v : Verdict). v .number) e) (ap (λ (v : Verdict). v .place) e)
 
-    pub one-ties-fault :
-        {k p k′ p′ : ℕ} → TiesFault rooting n genes count allowed scores splits ties k p → TiesFault rooting n genes count allowed scores splits ties k′ p′
+    pub one-search-fault :
+        {k p k′ p′ : ℕ} → SearchFault rooting n genes count allowed scores splits k p → SearchFault rooting n genes count allowed scores splits k′ p′
         → (k ≡ k′) × (p ≡ p′)
-    one-ties-fault = one-fault ties-exact
+    one-search-fault = one-fault search-exact
+
+    -- ---- the search with ties
+
+    module _ (ties : List ℕ) where
+      abbrev allTiesTests : List Test
+      allTiesTests = tiesTests rooting n genes count allowed scores splits ties ++ (treeTest best ∷ [])
+
+      pub ties-exact : Exact (verdict allTiesTests) (TiesFault rooting n genes count allowed scores splits ties)
+      unfolding tiesTests
+      ties-exact =
+          exact-next _ (species-met n) (λ s.
+          exact-next _ (count-met count) (λ c.
+          exact-next _ (length-met genes (32 * count)) (λ l.
+          exact-next _ (length-met ties (2 ^ n)) (λ t.
+          rest-exact (few-species n s)))))
+
+      -- the same: searching with ties
+      pub ties-refused-at :
+          (r : Tied) (s p t : List ℕ) → FindsTies rooting n genes count allowed scores splits ties r s p t → (number place : ℕ)
+          → ((r .number ≡ number) × (r .place ≡ place) × (number ≡ 0 → ⊥)) ↔ TiesFault rooting n genes count allowed scores splits ties number place
+      ties-refused-at r s p t f =
+          let never = none-gives-ties rooting n genes count allowed scores splits ties 0 (none-gives rooting n genes count allowed scores splits 0 refl) in
+          let e = ap (λ (r : Tied). replied (withoutTies r)) (f .reply)
+          ∙ reply-said (tiesTests rooting n genes count allowed scores splits ties) never rooting best (recordsIn count genes) in
+          refused-at ties-exact (ap (λ (v : Verdict). v .number) e) (ap (λ (v : Verdict). v .place) e)
+
+      pub one-ties-fault :
+          {k p k′ p′ : ℕ} → TiesFault rooting n genes count allowed scores splits ties k p → TiesFault rooting n genes count allowed scores splits ties k′ p′
+          → (k ≡ k′) × (p ≡ p′)
+      one-ties-fault = one-fault ties-exact

@@ -1,9 +1,9 @@
 -- The first demand: "Every text, roster, table and number handed over gets a reply", and what a call that turns something away leaves behind.
-use Prim.Native.Nat.{ℕ, zero, suc, _-_, _^_, _≤_}
+use Prim.Native.Nat.{ℕ, _-_, _^_, _≤_}
 use mathlib.Core.Path.{_≡_, refl, ap, ap₂, _∙_}
 use mathlib.Core.Logic.{inl, inr}
 use mathlib.Core.Bool.{Bool, true, false}
-use mathlib.Core.Option.{Option, some, none}
+use mathlib.Core.Option.{Option}
 use mathlib.Core.List.{List, [], _∷_, _++_, map, List·Memᴰ·head as here, List·Memᴰ·tail as there, Memᴰ·append-left}
 use native.Mathlib.Omega.{arith}
 use lib.ListN.{length, drop, replicate}
@@ -28,25 +28,27 @@ use Rattle.trees.specs.Records.{recordsIn}
 use Rattle.weights.specs.declared.Rooting.{Rooting}
 use Rattle.lineages.specs.Checks.{speciesTest, countTest, speciesRecordTest, recordsTest, rootingTest, clusterTest, weightTests, scoreTests, markTests}
 use Rattle.lineages.specs.Promise.{Weighs, Scores, Marks, markedBy}
+use Rattle.lineages.proofs.Verdicts.{NoneGives}
 use Rattle.splits.specs.BinaryTrees.{Binary}
 use Rattle.splits.specs.Least.{scoreEntry, splitEntry}
 use Rattle.terms.specs.Allowed.{allowedTest}
+use Rattle.plain.specs.Promise.{plainTest, plainTests, FindsPlainly}
 use Rattle.search.specs.Promise.{searchTests, filledBy, Finds}
 use Rattle.terms.specs.Answers.{foundOr}
 use Rattle.splits.specs.Best.{bestFor, foundBy}
 use Rattle.terms.specs.declared.Found.{Found}
 use Rattle.search.specs.TiesPromise.{tiesFor, tiesTests, withTies, withoutTies, FindsTies}
 use Rattle.search.specs.declared.tied.Tied.{Tied}
-use Rattle.search.proofs.Accepted.{NoneGives, none-gives}
+use Rattle.search.proofs.Accepted.{none-gives}
 use Rattle.search.proofs.Tying.{tests-passed}
 use Rattle.search.proofs.Ties.{is-a-search, some-tie-exactly}
 use Rattle.report.specs.Promise.{output, Reports}
 use Rattle.demands.specs.Outcomes.{Replies, TurnedAway, NotFound, NotTied}
 use Rattle.demands.specs.TextFaults.{TextFault}
 use Rattle.demands.proofs.Refusals.{among-once, among-behind, replyOf-refused, outBy-refused, markedBy-refused, filledBy-refused, filled, replyOf-done}
-use Rattle.demands.proofs.Refusals.{Refused, refused-ways, refused-not-found, refused-by-test, refused-by-none}
+use Rattle.demands.proofs.Refusals.{Refused, refused-ways, refused-not-found, refused-by-test, refused-by-none, found-done}
 use Rattle.demands.proofs.TextFaults.{fault-of-refusal, fault-numbers}
-use Rattle.demands.proofs.OneOutcome.{judge-once, read-once, write-once, weigh-once, score-once, mark-once, find-once, tie-once, report-once}
+use Rattle.demands.proofs.OneOutcome.{judge-once, read-once, write-once, weigh-once, score-once, mark-once, find-once, tie-once, plain-once, report-once}
 
 -- ---- "Every text, roster, table and number handed over gets a reply. .. No caller has to check first."
 
@@ -145,6 +147,15 @@ replies-tie rooting n genes count allowed scores splits ties =
           let e = tie-once rooting n genes count allowed scores splits ties (o .0) reply (o .1) s (o .2) p (o .3) t f meets in
           ap₂ (λ (r : Tied) (l : List ℕ). (r, l, o .2, o .3)) (e .0) (e .1) ∙ ap₂ (λ (l k : List ℕ). (reply, s, l, k)) (e .2) (e .3);
     }
+
+-- any allowed set, without a table (#108)
+pub replies-plain : (rooting : Rooting) (n : ℕ) (genes : List ℕ) (count : ℕ) (allowed : List ℕ) → Replies (FindsPlainly rooting n genes count allowed)
+replies-plain rooting n genes count allowed =
+    let said : Verdict = verdict (plainTests rooting n genes count allowed) in
+    let tree : Option Binary = bestFor rooting n (recordsIn count genes) allowed (whole n) in
+    let reply : Found = foundOr (said .number) (said .place) (foundBy rooting tree (recordsIn count genes)) in
+    let meets : FindsPlainly rooting n genes count allowed reply = record { reply = refl } in
+    record { outcome = reply; meets = meets; only = λ r p. plain-once rooting n genes count allowed r reply p meets }
 
 -- "Every text": any input of the program
 pub replies-report : (input : List ℕ) → Replies (Reports input)
@@ -257,7 +268,7 @@ module _ (rooting : Rooting) (n : ℕ) (genes : List ℕ) (count : ℕ) (allowed
       (upTo (2 ^ n)) ++ drop (2 ^ n) scores)
       × (p ≡ map (λ a. splitEntry (bestFor rooting n (recordsIn count genes) allowed a)) (upTo (2 ^ n)) ++ drop (2 ^ n) splits)
   find-fills-tables e =
-      let never = none-gives rooting n genes count allowed scores splits 14 (inr refl) in
+      let never = none-gives rooting n genes count allowed scores splits 14 refl in
       let z = refused-by-none (searchTests rooting n genes count allowed scores splits) never ways e in
       (filled (said .number) n _ scores s (found .scoreTable) z, filled (said .number) n _ splits p (found .splitTable) z)
 
@@ -301,6 +312,18 @@ module _ (rooting : Rooting) (n : ℕ) (genes : List ℕ) (count : ℕ) (allowed
       let z = tests-passed rooting n genes count allowed scores splits ties found (inr e) in
       let both = find-fills-tables rooting n genes count allowed scores splits (withoutTies r) s p (is-a-search found (inr e)) refusal e in
       (both .0, both .1, filled (tiesSaid .number) n _ ties t (found .tieTable) z)
+
+-- the same of the engine that goes through all trees (#108), and 17; it is lent nothing to keep
+pub plain-refused :
+    (rooting : Rooting) (n : ℕ) (genes : List ℕ) (count : ℕ) (allowed : List ℕ) (r : Found) → FindsPlainly rooting n genes count allowed r
+    → (r .number ≡ 0 → ⊥)
+    → NotFound (1 ∷ 17 ∷ 11 ∷ 12 ∷ 15 ∷ 19 ∷ 13 ∷ 14 ∷ []) r
+unfolding plainTests plainTest speciesTest countTest lengthTest recordsTest rootingTest allowedTest
+plain-refused rooting n genes count allowed r found refusal =
+    let l : List Test = plainTests rooting n genes count allowed in
+    let tree : Option Binary = bestFor rooting n (recordsIn count genes) allowed (whole n) in
+    refused-not-found l _ (refused-ways (verdict l) rooting tree (recordsIn count genes) r (found .reply) refusal)
+    (λ x m. Memᴰ·append-left (14 ∷ []) (among-behind (among-behind (among-behind among-once)) m)) (there (there (there (there (there (there (there (here refl))))))))
 
 -- ---- "0 | done | 0": no call that is not refused has another place
 
@@ -364,19 +387,8 @@ pub find-done :
     (rooting : Rooting) (n : ℕ) (genes : List ℕ) (count : ℕ) (allowed scores splits : List ℕ) (r : Found) (s p : List ℕ)
     → Finds rooting n genes count allowed scores splits r s p → r .number ≡ 0 → r .place ≡ 0
 find-done rooting n genes count allowed scores splits r s p found z =
-    go (verdict (searchTests rooting n genes count allowed scores splits) .number)
-    (verdict (searchTests rooting n genes count allowed scores splits) .place) (found .reply)
-  where
-    tree : Option Binary
-    tree = bestFor rooting n (recordsIn count genes) allowed (whole n)
-
-    there-is : (o : Option Binary) → foundBy rooting o (recordsIn count genes) .place ≡ 0
-    there-is none = refl
-    there-is (some t) = refl
-
-    go : (k q : ℕ) → r ≡ foundOr k q (foundBy rooting tree (recordsIn count genes)) → r .place ≡ 0
-    go zero q e = ap (λ (r : Found). r .place) e ∙ there-is tree
-    go (suc k) q e = absurd (omega (arith, ap (λ (r : Found). r .number) e))
+    found-done (verdict (searchTests rooting n genes count allowed scores splits)) rooting (bestFor rooting n (recordsIn count genes) allowed (whole n))
+    (recordsIn count genes) r (found .reply) z
 
 -- "done | 0": searching with ties
 pub tie-done :
@@ -384,3 +396,11 @@ pub tie-done :
     → FindsTies rooting n genes count allowed scores splits ties r s p t → r .number ≡ 0 → r .place ≡ 0
 tie-done rooting n genes count allowed scores splits ties r s p t found z =
     find-done rooting n genes count allowed scores splits (withoutTies r) s p (is-a-search found (inl z)) z
+
+-- "done | 0": going through all trees
+pub plain-done :
+    (rooting : Rooting) (n : ℕ) (genes : List ℕ) (count : ℕ) (allowed : List ℕ) (r : Found) → FindsPlainly rooting n genes count allowed r
+    → r .number ≡ 0 → r .place ≡ 0
+plain-done rooting n genes count allowed r found z =
+    found-done (verdict (plainTests rooting n genes count allowed)) rooting (bestFor rooting n (recordsIn count genes) allowed (whole n)) (recordsIn count genes) r
+    (found .reply) z

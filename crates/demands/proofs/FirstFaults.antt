@@ -7,7 +7,7 @@ use mathlib.Core.List.{List, [], _∷_, _++_}
 use native.Mathlib.Omega.{arith}
 use Rattle.roster.specs.Verdict.{Test, Verdict, verdict, verdictBy}
 use Rattle.trees.proofs.Booleans.{unless}
-use Rattle.search.proofs.Accepted.{NoneGives}
+use Rattle.lineages.proofs.Verdicts.{NoneGives}
 use Rattle.demands.specs.CallFaults.{_before_}
 use Rattle.demands.specs.CallFaults._before_.{first, later}
 

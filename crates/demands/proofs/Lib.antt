@@ -11,6 +11,7 @@ pub mod GeneTrees
 pub mod Scorable
 pub mod SecondDemand
 pub mod ThirdDemand
+pub mod Sceptic
 pub mod SmallInputs
 pub mod ShutOut
 pub mod Gathering

@@ -14,6 +14,7 @@ use Rattle.writer.proofs.Outcomes.{writes-once}
 use Rattle.weights.specs.declared.Rooting.{Rooting}
 use Rattle.lineages.specs.Promise.{Weighs, Scores, Marks}
 use Rattle.lineages.proofs.Outcomes.{weighs-once, scores-once, marks-once}
+use Rattle.plain.specs.Promise.{FindsPlainly}
 use Rattle.search.specs.Promise.{Finds}
 use Rattle.terms.specs.declared.Found.{Found}
 use Rattle.search.proofs.Demand.{finds-once}
@@ -69,6 +70,12 @@ pub tie-once :
     → FindsTies rooting n genes count allowed scores splits ties r s p t → FindsTies rooting n genes count allowed scores splits ties r′ s′ p′ t′
     → (r ≡ r′) × (s ≡ s′) × (p ≡ p′) × (t ≡ t′)
 tie-once rooting n genes count allowed scores splits ties r r′ s s′ p p′ t t′ f g = ties-once f g
+
+-- for going through all trees (#108)
+pub plain-once :
+    (rooting : Rooting) (n : ℕ) (genes : List ℕ) (count : ℕ) (allowed : List ℕ) (r r′ : Found) → FindsPlainly rooting n genes count allowed r
+    → FindsPlainly rooting n genes count allowed r′ → r ≡ r′
+plain-once rooting n genes count allowed r r′ p q = p .reply ∙ sym (q .reply)
 
 -- for the program's report
 pub report-once : (input : List ℕ) (r r′ : _) → Reports input r → Reports input r′ → r ≡ r′

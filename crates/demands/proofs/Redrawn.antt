@@ -27,17 +27,18 @@ use Rattle.weights.proofs.UnrootedClusters.{redrawn-clusters, redrawn-extra}
 use Rattle.lineages.specs.Checks.{firstFailing, firstUnresolved, speciesTest, recordsTest, rootingTest, weightTests, scoreTests, markTests}
 use Rattle.lineages.specs.Promise.{Weighs, Scores, Marks, marks, markedBy}
 use Rattle.lineages.proofs.FirstBad.{all-valid-none-bad}
+use Rattle.lineages.proofs.Verdicts.{verdict-passed}
 use Rattle.splits.specs.BinaryTrees.{Binary, clustersIn}
 use Rattle.splits.specs.Least.{best, scoreOf, scoreEntry, splitEntry}
 use Rattle.terms.specs.Allowed.{allowedIn}
 use Rattle.splits.specs.Best.{bestFor, foundBy}
 use Rattle.splits.specs.Ties.{tieEntry}
 use Rattle.terms.specs.declared.Found.{Found}
+use Rattle.plain.specs.Promise.{plainTests, FindsPlainly}
 use Rattle.search.specs.Promise.{searchTests, filledBy, Finds}
 use Rattle.search.specs.TiesPromise.{tiesFor, tiesTests, withTies, FindsTies}
 use Rattle.search.specs.declared.tied.Tied.{Tied}
 use Rattle.terms.specs.Answers.{foundOr}
-use Rattle.search.proofs.Accepted.{verdict-passed}
 use Rattle.search.proofs.Unread.{both-fit}
 use Rattle.search.proofs.Dropped.{valid-fit}
 use Rattle.outcomes.specs.Outcome.{Outcome, outcomeOf, foundWithTies, searched, allowedBy, printed}
@@ -261,6 +262,13 @@ module _ (n count : ℕ) (genes genes′ : List ℕ) (twice : DrawnTwice n (reco
       kept zero small = ap (λ (l : List ℕ). l ++ drop (2 ^ n) out) (same-marks twice (small refl))
       kept (suc k) small = refl
 
+  -- what is found, where no test refuses
+  found-alike :
+      (allowed : List ℕ) (k q : ℕ) → (k ≡ 0 → n ≤ 16)
+      → foundOr k q (foundBy Unrooted (bestFor Unrooted n gs allowed (whole n)) gs) ≡ foundOr k q (foundBy Unrooted (bestFor Unrooted n gs′ allowed (whole n)) gs′)
+  found-alike allowed zero q small = same-found twice (small refl) allowed
+  found-alike allowed (suc k) q small = refl
+
   -- and two searches over the same clusters reply alike and leave the same tables
   pub redrawn-find-alike :
       (allowed scores splits : List ℕ) (r r′ : Found) (s p s′ p′ : List ℕ)
@@ -273,7 +281,7 @@ module _ (n count : ℕ) (genes genes′ : List ℕ) (twice : DrawnTwice n (reco
       let small = passed-few n _ in (
         f .reply
             ∙ ap (λ (v : Verdict). foundOr (v .number) (v .place) (foundBy Unrooted (bestFor Unrooted n gs allowed (whole n)) gs)) tests
-            ∙ replied (verdict (searchTests Unrooted n genes′ count allowed scores splits) .number) _ (λ z. small z)
+            ∙ found-alike allowed (verdict (searchTests Unrooted n genes′ count allowed scores splits) .number) _ (λ z. small z)
             ∙ sym (f′ .reply),
         f .scoreTable
             ∙ ap (λ (v : Verdict). filledBy (v .number) n (λ a. scoreEntry (weight Unrooted gs) (bestFor Unrooted n gs allowed a)) scores) tests
@@ -284,13 +292,18 @@ module _ (n count : ℕ) (genes genes′ : List ℕ) (twice : DrawnTwice n (reco
             ∙ filled-alike (verdict (searchTests Unrooted n genes′ count allowed scores splits) .number) n splits (λ z. same-split-entry twice (small z) allowed)
             ∙ sym (f′ .splitTable),
       )
-    where
-      replied :
-          (k q : ℕ) → (k ≡ 0 → n ≤ 16)
-          → foundOr k q (foundBy Unrooted (bestFor Unrooted n gs allowed (whole n)) gs)
-          ≡ foundOr k q (foundBy Unrooted (bestFor Unrooted n gs′ allowed (whole n)) gs′)
-      replied zero q small = same-found twice (small refl) allowed
-      replied (suc k) q small = refl
+
+  -- so do two calls that go through all trees (#108)
+  pub redrawn-plain-alike :
+      (allowed : List ℕ) (r r′ : Found) → FindsPlainly Unrooted n genes count allowed r → FindsPlainly Unrooted n genes′ count allowed r′ → r ≡ r′
+  unfolding plainTests
+  redrawn-plain-alike allowed r r′ f f′ =
+      let tests : verdict (plainTests Unrooted n genes count allowed) ≡ verdict (plainTests Unrooted n genes′ count allowed) =
+      verdict-alike (speciesTest n) _ _ (λ e. let few = few-species n e in rw (same-lent few, same-records twice few, same-rooting twice few) refl)
+      in
+      f .reply ∙ ap (λ (v : Verdict). foundOr (v .number) (v .place) (foundBy Unrooted (bestFor Unrooted n gs allowed (whole n)) gs)) tests
+      ∙ found-alike allowed (verdict (plainTests Unrooted n genes′ count allowed) .number) _ (λ z. passed-few n _ z)
+      ∙ sym (f′ .reply)
 
   -- so do two searches with ties, and leave the same three tables (#111)
   pub redrawn-tie-alike :

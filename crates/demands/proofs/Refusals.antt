@@ -13,12 +13,12 @@ use Rattle.roster.specs.declared.Reply.{Reply}
 use Rattle.writer.specs.Promise.{outBy}
 use Rattle.weights.specs.declared.Rooting.{Rooting}
 use Rattle.lineages.specs.Promise.{markedBy}
+use Rattle.lineages.proofs.Verdicts.{NoneGives, verdict-never}
 use Rattle.splits.specs.BinaryTrees.{Binary}
 use Rattle.search.specs.Promise.{filledBy}
 use Rattle.terms.specs.Answers.{without, foundOr}
 use Rattle.splits.specs.Best.{foundBy}
 use Rattle.terms.specs.declared.Found.{Found}
-use Rattle.search.proofs.Accepted.{NoneGives, verdict-never}
 use Rattle.demands.specs.Outcomes.{TurnedAway, NotFound}
 
 -- ---- the first test that finds a fault
@@ -126,6 +126,11 @@ pub refused-by-test : {said : Verdict} {r : Found} → Refused said r → (r .nu
 refused-by-test (no-tree z e) other = absurd (other (ap (λ (r : Found). r .number) e))
 refused-by-test (by-test f e) other = f
 
+-- nor does another number than 14 come where no test has it
+pub refused-never : (l : List Test) (m : ℕ) {r : Found} → (m ≡ 0 → ⊥) → (m ≡ 14 → ⊥) → NoneGives m l → Refused (verdict l) r → r .number ≡ m → ⊥
+refused-never l m nonzero other never (no-tree z e) is = other (sym is ∙ ap (λ (r : Found). r .number) e)
+refused-never l m nonzero other never (by-test f e) is = verdict-never m l (λ z. nonzero (sym z)) never (sym (ap (λ (r : Found). r .number) e) ∙ is)
+
 pub refused-by-none : (l : List Test) {r : Found} → NoneGives 14 l → Refused (verdict l) r → r .number ≡ 14 → verdict l .number ≡ 0
 refused-by-none l never (no-tree z e) is = z
 refused-by-none l never (by-test f e) is = absurd (verdict-never 14 l (λ z. omega arith) never (sym (ap (λ (r : Found). r .number) e) ∙ is))
@@ -145,3 +150,17 @@ verdict-done (t ∷ l) h z = go (t .fault) z (verdict-done l (h .1))
 -- a reply with number 0 has place 0
 pub replyOf-done : (l : List Test) (v : ℕ) (r : Reply) → r ≡ replyOf (verdict l) v → NoneGives 0 l → r .number ≡ 0 → r .place ≡ 0
 replyOf-done l v r e h z = ap (λ (r : Reply). r .place) e ∙ verdict-done l h (sym (ap (λ (r : Reply). r .number) e) ∙ z)
+
+-- and so has a search's reply
+pub found-done :
+    (said : Verdict) (rooting : Rooting) (tree : Option Binary) (genes : List (List ℕ)) (r : Found)
+    → r ≡ foundOr (said .number) (said .place) (foundBy rooting tree genes) → r .number ≡ 0 → r .place ≡ 0
+found-done said rooting tree genes r told z = go (said .number) (said .place) told
+  where
+    there-is : (o : Option Binary) → foundBy rooting o genes .place ≡ 0
+    there-is none = refl
+    there-is (some t) = refl
+
+    go : (k q : ℕ) → r ≡ foundOr k q (foundBy rooting tree genes) → r .place ≡ 0
+    go zero q e = ap (λ (r : Found). r .place) e ∙ there-is tree
+    go (suc k) q e = absurd (omega (arith, ap (λ (r : Found). r .number) e))

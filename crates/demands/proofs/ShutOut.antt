@@ -47,6 +47,7 @@ use Rattle.splits.specs.Least.{those, all, scoreOf, treesOver, leastTrees, best
 use Rattle.terms.specs.Allowed.{allowedIn}
 use Rattle.search.proofs.BestTrees.{every-among}
 use Rattle.terms.specs.Allowed.{firstStrange, allowedTest}
+use Rattle.plain.specs.Promise.{FindsPlainly}
 use Rattle.search.specs.Promise.{searchTests, Finds}
 use Rattle.splits.specs.Best.{bestFor}
 use Rattle.splits.specs.Ties.{tieEntry}
@@ -62,8 +63,10 @@ use Rattle.report.specs.Input.{lineLength, firstLine, behindLine, endsInFeed, m
 use Rattle.report.specs.Program.{modeOf, program}
 use Rattle.outcomes.specs.Outcome.{searched}
 use Rattle.report.specs.Promise.{output, Reports}
-use Rattle.demands.specs.Handed.{Slice, Bytes, AnyRecord, ToRead, ToWrite, GeneTrees, ToWeigh, ToScore, ToMark, ToSearch, ToTie}
+use Rattle.demands.specs.Handed.{Slice, Bytes, AnyRecord, ToRead, ToWrite, GeneTrees, ToWeigh, ToScore, ToMark, ToSearch, ToTie, ToPlain}
 use Rattle.demands.proofs.SmallInputs.{ab-cd, ac-bd, every-of-four, lent-of-four}
+use Rattle.demands.proofs.FirstDemand.{replies-find}
+use Rattle.demands.proofs.Sceptic.{same-reply}
 use Rattle.demands.proofs.Ties.{entry-of-no-species}
 
 -- ---- what is computed: small inputs and their replies
@@ -233,6 +236,29 @@ unfolding first-tree ab-cd ac-bd every-of-four lent-of-four ones onesIn trailing
     each forks treesTo treesOn those all scoreOf treesOver leastTrees best allowedIn firstStrange allowedTest searchTests bestFor
 find-both Rooted r s p f = f .reply
 find-both Unrooted r s p f = f .reply
+
+-- the replies of a search for the one gene tree, for the other and for both
+record FoundOnFour (rooting : Rooting) (first second both : Found) : Type 0 where
+  first-is : first ≡ record { number = 0; place = 0; score = 0; numbers = first-tree rooting }
+  second-is : second ≡ record { number = 0; place = 0; score = 0; numbers = second-tree rooting }
+  both-is : both ≡ record { number = 0; place = 0; score = score-of-both rooting; numbers = first-tree rooting }
+
+module _ {rooting : Rooting} {first second both : Found} (h : FoundOnFour rooting first second both) where
+  first-done : first .number ≡ 0
+  first-done = ap (λ (r : Found). r .number) (h .first-is)
+
+  second-done : second .number ≡ 0
+  second-done = ap (λ (r : Found). r .number) (h .second-is)
+
+  both-done : both .number ≡ 0
+  both-done = ap (λ (r : Found). r .number) (h .both-is)
+
+  two-trees : {tree : List ℕ} → first .numbers ≡ tree → second .numbers ≡ tree → ⊥
+  two-trees x y =
+      trees-differ rooting (sym (ap (λ (r : Found). r .numbers) (h .first-is)) ∙ x ∙ sym y ∙ ap (λ (r : Found). r .numbers) (h .second-is))
+
+  two-scores : first .score ≡ both .score → ⊥
+  two-scores e = omega (arith, both-score-something rooting, ap (λ (r : Found). r .score) (h .first-is), ap (λ (r : Found). r .score) (h .both-is), e)
 
 -- "entry 0" of both tables, where no tree is
 find-tables :
@@ -554,35 +580,29 @@ module _ (rooting : Rooting) (f : ℕ → List ℕ → ℕ → List ℕ → List
     (meets : (n : ℕ) (genes : List ℕ) (count : ℕ) (allowed scores splits : List ℕ) → ToSearch n genes count allowed scores splits
     → Finds rooting n genes count allowed scores splits (f n genes count allowed scores splits) (s n genes count allowed scores splits)
     (p n genes count allowed scores splits)) where
-  found-ab-cd : f 4 ab-cd 1 every-of-four lent-of-four lent-of-four ≡ record { number = 0; place = 0; score = 0; numbers = first-tree rooting }
-  found-ab-cd = find-ab-cd rooting _ _ _ (meets 4 ab-cd 1 every-of-four lent-of-four lent-of-four to-search-ab-cd)
-
-  found-ac-bd : f 4 ac-bd 1 every-of-four lent-of-four lent-of-four ≡ record { number = 0; place = 0; score = 0; numbers = second-tree rooting }
-  found-ac-bd = find-ac-bd rooting _ _ _ (meets 4 ac-bd 1 every-of-four lent-of-four lent-of-four to-search-ac-bd)
-
-  found-both :
-      f 4 (ab-cd ++ ac-bd) 2 every-of-four lent-of-four lent-of-four
-      ≡ record { number = 0; place = 0; score = score-of-both rooting; numbers = first-tree rooting }
-  found-both = find-both rooting _ _ _ (meets 4 (ab-cd ++ ac-bd) 2 every-of-four lent-of-four lent-of-four to-search-both)
+  found-on-four :
+      FoundOnFour rooting (f 4 ab-cd 1 every-of-four lent-of-four lent-of-four) (f 4 ac-bd 1 every-of-four lent-of-four lent-of-four)
+      (f 4 (ab-cd ++ ac-bd) 2 every-of-four lent-of-four lent-of-four)
+  found-on-four = record {
+    first-is = find-ab-cd rooting _ _ _ (meets 4 ab-cd 1 every-of-four lent-of-four lent-of-four to-search-ab-cd);
+    second-is = find-ac-bd rooting _ _ _ (meets 4 ac-bd 1 every-of-four lent-of-four lent-of-four to-search-ac-bd);
+    both-is = find-both rooting _ _ _ (meets 4 (ab-cd ++ ac-bd) 2 every-of-four lent-of-four lent-of-four to-search-both);
+  }
 
   -- "one that turns everything away (.. the exactly-when of 3 for searching)": by 14 or by any number
   pub search-does-not-refuse-all :
       ((n : ℕ) (genes : List ℕ) (count : ℕ) (allowed scores splits : List ℕ) → ToSearch n genes count allowed scores splits
       → f n genes count allowed scores splits .number ≡ 0 → ⊥) → ⊥
-  search-does-not-refuse-all away = away 4 ab-cd 1 every-of-four lent-of-four lent-of-four to-search-ab-cd (ap (λ (r : Found). r .number) found-ab-cd)
+  search-does-not-refuse-all away = away 4 ab-cd 1 every-of-four lent-of-four lent-of-four to-search-ab-cd (first-done found-on-four)
 
   -- "one that returns one fixed tree (3's least score)"
   pub search-has-no-fixed-tree :
       (tree : List ℕ)
       → ((n : ℕ) (genes : List ℕ) (count : ℕ) (allowed scores splits : List ℕ) → ToSearch n genes count allowed scores splits
       → f n genes count allowed scores splits .number ≡ 0 → f n genes count allowed scores splits .numbers ≡ tree) → ⊥
-  unfolding ab-cd ac-bd recordOf sorted insert
   search-has-no-fixed-tree tree fixed =
-      let x = fixed 4 ab-cd 1 every-of-four lent-of-four lent-of-four to-search-ab-cd (ap (λ (r : Found). r .number) found-ab-cd) in
-      let y = fixed 4 ac-bd 1 every-of-four lent-of-four lent-of-four to-search-ac-bd (ap (λ (r : Found). r .number) found-ac-bd) in
-      let e : first-tree rooting ≡ second-tree rooting = sym (ap (λ (r : Found). r .numbers) found-ab-cd) ∙ x ∙ sym y
-      ∙ ap (λ (r : Found). r .numbers) found-ac-bd in
-      trees-differ rooting e
+      two-trees found-on-four (fixed 4 ab-cd 1 every-of-four lent-of-four lent-of-four to-search-ab-cd (first-done found-on-four))
+      (fixed 4 ac-bd 1 every-of-four lent-of-four lent-of-four to-search-ac-bd (second-done found-on-four))
 
   -- "one that does nothing (1, which fixes every buffer ..)": it leaves both tables as they were lent
   pub search-fills-the-score-table :
@@ -607,9 +627,9 @@ module _ (rooting : Rooting) (f : ℕ → List ℕ → ℕ → List ℕ → List
       → ((n : ℕ) (genes : List ℕ) (count : ℕ) (allowed scores splits : List ℕ) → ToSearch n genes count allowed scores splits
       → f n genes count allowed scores splits .number ≡ 0 → f n genes count allowed scores splits .score ≡ c) → ⊥
   search-has-no-invented-score c always =
-      let e = always 4 ab-cd 1 every-of-four lent-of-four lent-of-four to-search-ab-cd (ap (λ (r : Found). r .number) found-ab-cd) in
-      let d = always 4 (ab-cd ++ ac-bd) 2 every-of-four lent-of-four lent-of-four to-search-both (ap (λ (r : Found). r .number) found-both) in
-      omega (arith, both-score-something rooting, ap (λ (r : Found). r .score) found-ab-cd, ap (λ (r : Found). r .score) found-both, e, d)
+      two-scores found-on-four
+      (always 4 ab-cd 1 every-of-four lent-of-four lent-of-four to-search-ab-cd (first-done found-on-four)
+      ∙ sym (always 4 (ab-cd ++ ac-bd) 2 every-of-four lent-of-four lent-of-four to-search-both (both-done found-on-four)))
 
   -- "one that counts the first gene tree and passes over the others"
   pub search-counts-every-gene-tree :
@@ -619,9 +639,75 @@ module _ (rooting : Rooting) (f : ℕ → List ℕ → ℕ → List ℕ → List
       → f n genes count allowed scores splits .score ≡ f n genes′ count′ allowed scores splits .score) → ⊥
   unfolding ab-cd ac-bd recordOf sorted insert
   search-counts-every-gene-tree first-only =
-      let e = first-only 4 ab-cd (ab-cd ++ ac-bd) 1 2 every-of-four lent-of-four lent-of-four to-search-ab-cd to-search-both refl
-      (ap (λ (r : Found). r .number) found-ab-cd) (ap (λ (r : Found). r .number) found-both) in
-      omega (arith, both-score-something rooting, ap (λ (r : Found). r .score) found-ab-cd, ap (λ (r : Found). r .score) found-both, e)
+      two-scores found-on-four
+      (first-only 4 ab-cd (ab-cd ++ ac-bd) 1 2 every-of-four lent-of-four lent-of-four to-search-ab-cd to-search-both refl (first-done found-on-four)
+      (both-done found-on-four))
+
+-- ---- going through all trees (#108)
+
+-- what a search on four species is handed, without the tables
+to-plain : {genes : List ℕ} {count : ℕ} → ToSearch 4 genes count every-of-four lent-of-four lent-of-four → ToPlain 4 genes count every-of-four
+to-plain h = record { gene-trees = h .gene-trees; allowed-bytes = h .allowed-bytes }
+
+lent-long : 2 ^ 4 ≤ length lent-of-four
+unfolding lent-of-four
+lent-long = omega arith
+
+module _ (rooting : Rooting) (f : ℕ → List ℕ → ℕ → List ℕ → Found)
+    (meets : (n : ℕ) (genes : List ℕ) (count : ℕ) (allowed : List ℕ) → ToPlain n genes count allowed
+    → FindsPlainly rooting n genes count allowed (f n genes count allowed)) where
+  -- on four species it answers what a search does
+  plain-as-searched :
+      {r : Found} (genes : List ℕ) (count : ℕ) → ToSearch 4 genes count every-of-four lent-of-four lent-of-four
+      → ((q : Found) (s p : List ℕ) → Finds rooting 4 genes count every-of-four lent-of-four lent-of-four q s p → q ≡ r)
+      → f 4 genes count every-of-four ≡ r
+  plain-as-searched genes count h computed =
+      let search = replies-find rooting 4 genes count every-of-four lent-of-four lent-of-four in
+      same-reply rooting 4 genes count every-of-four lent-of-four lent-of-four (search .outcome .0) (f 4 genes count every-of-four) (search .outcome .1)
+      (search .outcome .2) (search .meets) (meets 4 genes count every-of-four (to-plain h)) (omega arith) lent-long lent-long
+      ∙ computed _ _ _ (search .meets)
+
+  visited-on-four : FoundOnFour rooting (f 4 ab-cd 1 every-of-four) (f 4 ac-bd 1 every-of-four) (f 4 (ab-cd ++ ac-bd) 2 every-of-four)
+  visited-on-four = record {
+    first-is = plain-as-searched ab-cd 1 to-search-ab-cd (find-ab-cd rooting);
+    second-is = plain-as-searched ac-bd 1 to-search-ac-bd (find-ac-bd rooting);
+    both-is = plain-as-searched (ab-cd ++ ac-bd) 2 to-search-both (find-both rooting);
+  }
+
+  -- "one that turns everything away"
+  pub plain-does-not-refuse-all :
+      ((n : ℕ) (genes : List ℕ) (count : ℕ) (allowed : List ℕ) → ToPlain n genes count allowed → f n genes count allowed .number ≡ 0 → ⊥) → ⊥
+  plain-does-not-refuse-all away = away 4 ab-cd 1 every-of-four (to-plain to-search-ab-cd) (first-done visited-on-four)
+
+  -- "one that returns one fixed tree (3's least score)"
+  pub plain-has-no-fixed-tree :
+      (tree : List ℕ)
+      → ((n : ℕ) (genes : List ℕ) (count : ℕ) (allowed : List ℕ) → ToPlain n genes count allowed → f n genes count allowed .number ≡ 0
+      → f n genes count allowed .numbers ≡ tree) → ⊥
+  plain-has-no-fixed-tree tree fixed =
+      two-trees visited-on-four (fixed 4 ab-cd 1 every-of-four (to-plain to-search-ab-cd) (first-done visited-on-four))
+      (fixed 4 ac-bd 1 every-of-four (to-plain to-search-ac-bd) (second-done visited-on-four))
+
+  -- "one that reports an invented score": the same for all
+  pub plain-has-no-invented-score :
+      (c : ℕ)
+      → ((n : ℕ) (genes : List ℕ) (count : ℕ) (allowed : List ℕ) → ToPlain n genes count allowed → f n genes count allowed .number ≡ 0
+      → f n genes count allowed .score ≡ c) → ⊥
+  plain-has-no-invented-score c always =
+      two-scores visited-on-four
+      (always 4 ab-cd 1 every-of-four (to-plain to-search-ab-cd) (first-done visited-on-four)
+      ∙ sym (always 4 (ab-cd ++ ac-bd) 2 every-of-four (to-plain to-search-both) (both-done visited-on-four)))
+
+  -- "one that counts the first gene tree and passes over the others"
+  pub plain-counts-every-gene-tree :
+      ((n : ℕ) (genes genes′ : List ℕ) (count count′ : ℕ) (allowed : List ℕ)
+      → ToPlain n genes count allowed → ToPlain n genes′ count′ allowed → take 32 genes ≡ take 32 genes′
+      → f n genes count allowed .number ≡ 0 → f n genes′ count′ allowed .number ≡ 0 → f n genes count allowed .score ≡ f n genes′ count′ allowed .score) → ⊥
+  unfolding ab-cd ac-bd recordOf sorted insert
+  plain-counts-every-gene-tree first-only =
+      two-scores visited-on-four
+      (first-only 4 ab-cd (ab-cd ++ ac-bd) 1 2 every-of-four (to-plain to-search-ab-cd) (to-plain to-search-both) refl (first-done visited-on-four)
+      (both-done visited-on-four))
 
 -- ---- the search with ties (#111)
 

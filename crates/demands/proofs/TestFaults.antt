@@ -28,9 +28,11 @@ use Rattle.weights.specs.declared.Rooting.the-variants.{Rooted, Unrooted}
 use Rattle.lineages.specs.Checks.{speciesTest, countTest, speciesRecordTest, firstBad, recordsTest, firstUnresolved, isUnrooted, rootingTest, clusterTest}
 use Rattle.lineages.proofs.FirstBad.{failing-means, failing-is, none-bad}
 use Rattle.terms.specs.Allowed.{firstStrange, allowedTest}
-use Rattle.demands.specs.CallFaults.{RosterFault, SpeciesFault, CountFault, LengthFault, SpeciesRecordFault, RecordsFault, RootingFault, RecordFault, ClusterFault, AllowedFault}
+use Rattle.plain.specs.Promise.{plainTest}
+use Rattle.demands.specs.CallFaults.{RosterFault, SpeciesFault, OverSevenFault, CountFault, LengthFault, SpeciesRecordFault, RecordsFault, RootingFault, RecordFault, ClusterFault, AllowedFault}
 use Rattle.demands.specs.CallFaults.RosterFault.{roster-faulty}
 use Rattle.demands.specs.CallFaults.SpeciesFault.{not-1-to-16}
+use Rattle.demands.specs.CallFaults.OverSevenFault.{over-seven}
 use Rattle.demands.specs.CallFaults.CountFault.{none-or-many}
 use Rattle.demands.specs.CallFaults.LengthFault.{too-short}
 use Rattle.demands.specs.CallFaults.SpeciesRecordFault.{not-valid-or-binary}
@@ -86,6 +88,14 @@ length-met lent need = record { numbered = λ z. omega arith; found = λ e. too-
   where
     only : {k p : ℕ} → LengthFault lent need k p → (ltb (length lent) need ≡ true) × (k ≡ 12) × (p ≡ 0)
     only (too-short h) = (lt-ltb (length lent) need h, refl, refl)
+
+-- "17 at 0 for n over 7" (#108)
+pub over-seven-met : (n : ℕ) → Meets (plainTest n) (OverSevenFault n)
+unfolding plainTest
+over-seven-met n = record { numbered = λ z. omega arith; found = λ e. over-seven (ltb-true 7 n e); only = only }
+  where
+    only : {k p : ℕ} → OverSevenFault n k p → (ltb 7 n ≡ true) × (k ≡ 17) × (p ≡ 0)
+    only (over-seven h) = (lt-ltb 7 n h, refl, refl)
 
 -- "13 | number is no cluster .. | that number"
 pub cluster-met : (n a : ℕ) → Meets (clusterTest n a) (ClusterFault n a)

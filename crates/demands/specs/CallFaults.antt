@@ -33,6 +33,10 @@ pub data RosterFault (line : List ℕ) : ℕ → ℕ → Type 0 where
 pub data SpeciesFault (n : ℕ) : ℕ → ℕ → Type 0 where
   not-1-to-16 : (n ≡ 0) ⊎ (16 < n) → SpeciesFault n 1 0
 
+-- "17 at 0 for n over 7" (#108)
+pub data OverSevenFault (n : ℕ) : ℕ → ℕ → Type 0 where
+  over-seven : 7 < n → OverSevenFault n 17 0
+
 -- "11 | gene trees 0 or over 4,096 | 0"
 pub data CountFault (count : ℕ) : ℕ → ℕ → Type 0 where
   none-or-many : (count ≡ 0) ⊎ (4096 < count) → CountFault count 11 0
@@ -101,14 +105,15 @@ MarkFault rooting n genes count out =
     before RecordsFault n (recordsIn count genes)
     before RootingFault rooting n (recordsIn count genes)
 
--- what is judged of a search behind its gene entries: "fewer than 2^n for an allowed set or a table", then 15, 19, 13 and 14
+-- what is judged of a search behind the lengths: 15, 19, 13 and 14
+abbrev pub BehindLengths : Rooting → ℕ → List ℕ → ℕ → List ℕ → ℕ → ℕ → Type 0
+BehindLengths rooting n genes count allowed =
+    RecordsFault n (recordsIn count genes) before RootingFault rooting n (recordsIn count genes) before AllowedFault n allowed before NoTreeFault n allowed
+
+-- what is judged of it behind its gene entries: "fewer than 2^n for an allowed set or a table", then those
 abbrev pub SearchRest : Rooting → ℕ → List ℕ → ℕ → List ℕ → List ℕ → List ℕ → ℕ → ℕ → Type 0
 SearchRest rooting n genes count allowed scores splits =
-    LengthFault allowed (2 ^ n) before LengthFault scores (2 ^ n) before LengthFault splits (2 ^ n)
-    before RecordsFault n (recordsIn count genes)
-    before RootingFault rooting n (recordsIn count genes)
-    before AllowedFault n allowed
-    before NoTreeFault n allowed
+    LengthFault allowed (2 ^ n) before LengthFault scores (2 ^ n) before LengthFault splits (2 ^ n) before BehindLengths rooting n genes count allowed
 
 -- the same of the search
 abbrev pub SearchFault : Rooting → ℕ → List ℕ → ℕ → List ℕ → List ℕ → List ℕ → ℕ → ℕ → Type 0
@@ -120,3 +125,9 @@ abbrev pub TiesFault : Rooting → ℕ → List ℕ → ℕ → List ℕ → Lis
 TiesFault rooting n genes count allowed scores splits ties =
     SpeciesFault n before CountFault count before LengthFault genes (32 * count) before LengthFault ties (2 ^ n)
     before SearchRest rooting n genes count allowed scores splits
+
+-- the same of the engine that goes through all trees (#108): 17 "straight after 1", and no table
+abbrev pub PlainFault : Rooting → ℕ → List ℕ → ℕ → List ℕ → ℕ → ℕ → Type 0
+PlainFault rooting n genes count allowed =
+    SpeciesFault n before OverSevenFault n before CountFault count before LengthFault genes (32 * count) before LengthFault allowed (2 ^ n)
+    before BehindLengths rooting n genes count allowed

@@ -75,6 +75,11 @@ pub record ToSearch (n : ℕ) (genes : List ℕ) (count : ℕ) (allowed scores s
   pub scores-numbers : WideNumbers scores
   pub splits-numbers : Numbers splits
 
+-- for the engine that goes through all trees, which is lent no table (#108)
+pub record ToPlain (n : ℕ) (genes : List ℕ) (count : ℕ) (allowed : List ℕ) : Type 0 where
+  pub gene-trees : GeneTrees n genes count
+  pub allowed-bytes : Bytes allowed
+
 -- for the search with ties, which is lent a third table (#111)
 pub record ToTie (n : ℕ) (genes : List ℕ) (count : ℕ) (allowed scores splits ties : List ℕ) : Type 0 where
   pub to-search : ToSearch n genes count allowed scores splits

@@ -13,6 +13,7 @@ pub mod ProgramFaults
 pub mod Deciding
 pub mod Lots
 pub mod Ties
+pub mod Sceptic
 pub mod Letters
 pub mod Thresholds
 pub mod Redrawn

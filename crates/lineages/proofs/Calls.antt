@@ -23,6 +23,10 @@ use Rattle.lineages.proofs.FirstBad.{faultless}
 use Rattle.lineages.proofs.Verdicts.{verdict-first, shape-passed}
 use Rattle.weights.specs.declared.Rooting.{Rooting}
 
+-- the tests of the gene records, 15 and 19, with others behind them
+abbrev pub genesThen : Rooting → ℕ → List ℕ → ℕ → List Test → List Test
+genesThen rooting n genes count rest = recordsTest n (recordsIn count genes) ∷ rootingTest rooting n (recordsIn count genes) ∷ rest
+
 -- ---- replies
 
 refused-reply : {v : Verdict} (w number : ℕ) {place : ℕ} → v ≡ said number place → (number ≡ 0 → ⊥) → refusal number place ≡ replyOf v w
@@ -52,12 +56,12 @@ module _ (rooting : Rooting) (n : ℕ) (genes : List ℕ) (count : ℕ) {judged 
   module _ (rest : List Test) where
     pub genes-refused :
         (judged .number ≡ 0 → ⊥)
-        → verdict (recordsTest n (recordsIn count genes) ∷ rootingTest rooting n (recordsIn count genes) ∷ rest) ≡ said (judged .number) (judged .place)
+        → verdict (genesThen rooting n genes count rest) ≡ said (judged .number) (judged .place)
     unfolding genesTests
     genes-refused f = verdict-first (genesTests rooting n (recordsIn count genes)) rest (ap (λ (r : Reply). said (r .number) (r .place)) (sym told)) f
 
     pub genes-passed :
-        judged .number ≡ 0 → verdict (recordsTest n (recordsIn count genes) ∷ rootingTest rooting n (recordsIn count genes) ∷ rest) ≡ verdict rest
+        judged .number ≡ 0 → verdict (genesThen rooting n genes count rest) ≡ verdict rest
     unfolding verdict
     genes-passed none = let both = faultless rooting n genes count told none in rw (both .0, both .1)
 
@@ -65,7 +69,7 @@ module _ (rooting : Rooting) (n : ℕ) (genes : List ℕ) (count : ℕ) {judged 
 
 -- what is judged after the shape
 weightRest : Rooting → ℕ → List ℕ → ℕ → ℕ → List Test
-weightRest rooting n genes count a = recordsTest n (recordsIn count genes) ∷ rootingTest rooting n (recordsIn count genes) ∷ clusterTest n a ∷ []
+weightRest rooting n genes count a = genesThen rooting n genes count (clusterTest n a ∷ [])
 
 module _ (rooting : Rooting) (n : ℕ) (genes : List ℕ) (count a : ℕ) (r : Reply) where
   weighs-refused : {number place : ℕ} → verdict (weightTests rooting n genes count a) ≡ said number place → (number ≡ 0 → ⊥) → r ≡ refusal number place
@@ -103,11 +107,11 @@ module _ (rooting : Rooting) (n : ℕ) (genes : List ℕ) (count a : ℕ) (r : R
 -- ---- score
 
 scoreRest : Rooting → ℕ → List ℕ → ℕ → List ℕ → List Test
-scoreRest rooting n genes count species = speciesRecordTest n species ∷ recordsTest n (recordsIn count genes) ∷ rootingTest rooting n (recordsIn count genes) ∷ []
+scoreRest rooting n genes count species = speciesRecordTest n species ∷ genesThen rooting n genes count []
 
 tree-passed :
     (rooting : Rooting) (n : ℕ) (genes : List ℕ) (count : ℕ) (species : List ℕ) → (valid (whole n) species && binary (whole n) species) ≡ true
-    → verdict (scoreRest rooting n genes count species) ≡ verdict (recordsTest n (recordsIn count genes) ∷ rootingTest rooting n (recordsIn count genes) ∷ [])
+    → verdict (scoreRest rooting n genes count species) ≡ verdict (genesThen rooting n genes count [])
 unfolding scoreRest verdict speciesRecordTest
 tree-passed rooting n genes count species tree = rw tree
 
@@ -153,11 +157,11 @@ unfolding marks marksBelow
 marks-below rooting n genes = refl
 
 markRest : Rooting → ℕ → List ℕ → ℕ → List ℕ → List Test
-markRest rooting n genes count out = lengthTest (length out) (2 ^ n) ∷ recordsTest n (recordsIn count genes) ∷ rootingTest rooting n (recordsIn count genes) ∷ []
+markRest rooting n genes count out = lengthTest (length out) (2 ^ n) ∷ genesThen rooting n genes count []
 
 long-passed :
     (rooting : Rooting) (n : ℕ) (genes : List ℕ) (count : ℕ) (out : List ℕ) → 2 ^ n ≤ length out
-    → verdict (markRest rooting n genes count out) ≡ verdict (recordsTest n (recordsIn count genes) ∷ rootingTest rooting n (recordsIn count genes) ∷ [])
+    → verdict (markRest rooting n genes count out) ≡ verdict (genesThen rooting n genes count [])
 unfolding markRest verdict lengthTest
 long-passed rooting n genes count out long = rw (le-ltb (length out) (2 ^ n) long)
 

@@ -1,6 +1,6 @@
 -- What the tests of the calls say: the first fault decides, and a call that passes the first tests is judged by the rest.
 use Prim.Native.Nat.{ℕ, suc, _*_, _≤_, _<_}
-use mathlib.Core.Path.{_≡_, sym, ap, _∙_}
+use mathlib.Core.Path.{_≡_, refl, sym, ap, _∙_}
 use mathlib.Core.Bool.{Bool, true, false}
 use mathlib.Core.List.{List, [], _∷_, _++_}
 use native.Mathlib.Decide.{decLt}
@@ -25,6 +25,30 @@ verdict-first (t ∷ l) k {number} {place} e f = go (t .fault) e (λ h. verdict-
         → verdictBy b t (verdict (l ++ k)) ≡ said number place
     go true h ih = h
     go false h ih = ih h
+
+-- ---- a list of tests passes when each does
+
+pub verdict-passed : (t : Test) (l : List Test) → (t .number ≡ 0 → ⊥) → verdict (t ∷ l) .number ≡ 0 → (t .fault ≡ false) × (verdict l .number ≡ 0)
+unfolding verdict
+verdict-passed t l f e = go (t .fault) e
+  where
+    go : (b : Bool) → verdictBy b t (verdict l) .number ≡ 0 → (b ≡ false) × (verdict l .number ≡ 0)
+    go true e = absurd (f e)
+    go false e = (refl, e)
+
+-- a number that no test has is never given
+unfoldable pub NoneGives : ℕ → List Test → Type 0
+NoneGives m [] = Unit {0}
+NoneGives m (t ∷ l) = (t .number ≡ m → ⊥) × NoneGives m l
+
+pub verdict-never : (m : ℕ) (l : List Test) → (0 ≡ m → ⊥) → NoneGives m l → verdict l .number ≡ m → ⊥
+unfolding verdict NoneGives
+verdict-never m [] z n e = z e
+verdict-never m (t ∷ l) z n e = go (t .fault) e (λ k. verdict-never m l z (n .1) k)
+  where
+    go : (b : Bool) → verdictBy b t (verdict l) .number ≡ m → (verdict l .number ≡ m → ⊥) → ⊥
+    go true e ih = n .0 e
+    go false e ih = ih e
 
 -- ---- 1, 11 and 12
 
@@ -85,6 +109,19 @@ module _ (n : ℕ) (genes : List ℕ) (count : ℕ) where
         few-genes = omega arith;
         fits = omega arith;
       }
+
+  -- all three are at place 0
+  pub shape-at-0 : verdict (shapeTests n genes count) ≡ said (verdict (shapeTests n genes count) .number) 0
+  unfolding verdict shapeTests speciesTest countTest lengthTest
+  shape-at-0 = go (speciesTest n .fault) (countTest count .fault) (lengthTest (length genes) (32 * count) .fault)
+    where
+      go :
+          (a b c : Bool) → let v = verdictBy a (speciesTest n) (verdictBy b (countTest count) (verdictBy c (lengthTest (length genes) (32 * count)) (said 0 0))) in
+          v ≡ said (v .number) 0
+      go true b c = refl
+      go false true c = refl
+      go false false true = refl
+      go false false false = refl
 
   pub shaped-at : {number : ℕ} → verdict (shapeTests n genes count) ≡ said number 0 → number ≡ 0 → Shaped n genes count
   shaped-at e z = shaped (e ∙ ap (λ (k : ℕ). said k 0) z)

@@ -76,7 +76,7 @@ fn first_unresolved(n: usize, genes: &[u16], count: usize) -> usize
     i
 }
 
-// 15 or 19 at the index of the first gene record at fault, and else no refusal. `search` calls it too, behind `shape`, which says that the entries are there.
+// 15 or 19 at the index of the first gene record at fault, and else no refusal. `search` and `plain` call it too, behind `shape`, which says that the entries are there.
 pub fn judge_genes(rooting: Rooting, n: usize, genes: &[u16], count: usize) -> Reply
     requires { ⌜ n ≤ 16 ⌝ }
     requires { ⌜ 32 * count ≤ length (now genes) ⌝ }

@@ -1,50 +1,22 @@
 -- When the tests before the search all pass, and which numbers they can give.
 use Prim.Native.Nat.{ℕ, _*_, _^_, _≤_, _<_}
-use mathlib.Core.Path.{_≡_, refl, ap, _∙_}
-use mathlib.Core.Logic.{_⊎_, inl, inr}
-use mathlib.Core.Bool.{Bool, true, false, not, _&&_, true≢false}
-use mathlib.Core.List.{List, [], _∷_}
+use mathlib.Core.Path.{_≡_, refl, sym, ap, _∙_}
+use mathlib.Core.Bool.{Bool, true, false, not, _&&_, _||_, true≢false}
+use mathlib.Core.List.{List}
 use native.Mathlib.Omega.{arith}
-use lib.Dec.{leb}
+use lib.Dec.{leb, eqb}
 use lib.ListN.{length, getD}
 use borrow.Author.Tests.{ltb-false, leb-true, le-leb, le-ltb, not-false}
 use Rattle.roster.proofs.Least.{least-first, least-none}
 use Rattle.trees.specs.Records.{recordsIn}
-use Rattle.roster.specs.Verdict.{Test, verdict, verdictBy, lengthTest}
+use Rattle.roster.specs.Verdict.{verdict, lengthTest}
 use Rattle.lineages.specs.Checks.{speciesTest, countTest, firstBad, recordsTest, rootingTest}
+use Rattle.lineages.proofs.Verdicts.{NoneGives, verdict-passed, verdict-never}
 use Rattle.lineages.proofs.FirstBad.{none-bad, all-valid-none-bad, none-unresolved, all-resolved}
 use Rattle.terms.specs.Allowed.{firstStrange, allowedTest}
 use Rattle.search.specs.Promise.{searchTests}
 use Rattle.search.specs.Candidates.{Accepted}
 use Rattle.weights.specs.declared.Rooting.{Rooting}
-
--- ---- a list of tests passes when each does
-
-pub verdict-passed : (t : Test) (l : List Test) → (t .number ≡ 0 → ⊥) → verdict (t ∷ l) .number ≡ 0 → (t .fault ≡ false) × (verdict l .number ≡ 0)
-unfolding verdict
-verdict-passed t l f e = go (t .fault) e
-  where
-    go : (b : Bool) → verdictBy b t (verdict l) .number ≡ 0 → (b ≡ false) × (verdict l .number ≡ 0)
-    go true e = absurd (f e)
-    go false e = (refl, e)
-
-pub verdict-passes : (t : Test) (l : List Test) → t .fault ≡ false → verdict (t ∷ l) ≡ verdict l
-unfolding verdict
-verdict-passes t l e = ap (λ b. verdictBy b t (verdict l)) e
-
--- a number that no test has is never given
-unfoldable pub NoneGives : ℕ → List Test → Type 0
-NoneGives m [] = Unit {0}
-NoneGives m (t ∷ l) = (t .number ≡ m → ⊥) × NoneGives m l
-
-pub verdict-never : (m : ℕ) (l : List Test) → (0 ≡ m → ⊥) → NoneGives m l → verdict l .number ≡ m → ⊥
-unfolding verdict NoneGives
-verdict-never m [] z n e = z e
-verdict-never m (t ∷ l) z n e = go (t .fault) e (λ k. verdict-never m l z (n .1) k)
-  where
-    go : (b : Bool) → verdictBy b t (verdict l) .number ≡ m → (verdict l .number ≡ m → ⊥) → ⊥
-    go true e ih = n .0 e
-    go false e ih = ih e
 
 -- ---- the tests one by one
 
@@ -63,6 +35,10 @@ unfolding firstStrange
 none-strange n bytes h =
     let e = least-none (λ a. not (leb (getD bytes a 0) 1)) (2 ^ n) 0 (λ a p q. ap not (le-leb (getD bytes a 0) 1 (h a (omega arith)))) in
     omega arith
+
+-- the numbers of the tests
+abbrev pub isOfTests : ℕ → Bool
+isOfTests m = eqb m 1 || eqb m 11 || eqb m 12 || eqb m 15 || eqb m 19 || eqb m 13
 
 -- ---- accepted input
 
@@ -118,25 +94,16 @@ module _ (rooting : Rooting) (n : ℕ) (genes : List ℕ) (count : ℕ) (allowed
         le-ltb (firstStrange n allowed) (2 ^ n) (none-strange n allowed (a .allowed-bytes)),
       )
 
-  -- neither 0 nor 14 is a number of these tests
-  pub none-gives : (m : ℕ) → (m ≡ 0) ⊎ (m ≡ 14) → NoneGives m (searchTests rooting n genes count allowed scores splits)
+  -- another number is given by none of these tests
+  pub none-gives : (m : ℕ) → isOfTests m ≡ false → NoneGives m (searchTests rooting n genes count allowed scores splits)
   unfolding searchTests speciesTest countTest lengthTest recordsTest rootingTest allowedTest NoneGives
-  none-gives m d =
-      let one = other 1 (omega arith) (λ z. omega arith) in
-      let eleven = other 11 (omega arith) (λ z. omega arith) in
-      let twelve = other 12 (omega arith) (λ z. omega arith) in
-      let fifteen = other 15 (omega arith) (λ z. omega arith) in
-      let nineteen = other 19 (omega arith) (λ z. omega arith) in
-      let thirteen = other 13 (omega arith) (λ z. omega arith) in
-      (one, (eleven, (twelve, (twelve, (twelve, (twelve, (fifteen, (nineteen, (thirteen, tt)))))))))
+  none-gives m off =
+      let twelve = other 12 refl in
+      (other 1 refl, (other 11 refl, (twelve, (twelve, (twelve, (twelve, (other 15 refl, (other 19 refl, (other 13 refl, tt)))))))))
     where
-      other : (k : ℕ) → 1 ≤ k → (k ≡ 14 → ⊥) → k ≡ m → ⊥
-      other k some f e = go d
-        where
-          go : (m ≡ 0) ⊎ (m ≡ 14) → ⊥
-          go (inl z) = omega arith
-          go (inr z) = f (e ∙ z)
+      other : (k : ℕ) → isOfTests k ≡ true → k ≡ m → ⊥
+      other k is e = true≢false (sym is ∙ ap isOfTests e ∙ off)
 
   -- 14 comes from the search alone
   pub no-fourteen : verdict (searchTests rooting n genes count allowed scores splits) .number ≡ 14 → ⊥
-  no-fourteen = verdict-never 14 (searchTests rooting n genes count allowed scores splits) (λ z. omega arith) (none-gives 14 (inr refl))
+  no-fourteen = verdict-never 14 (searchTests rooting n genes count allowed scores splits) (λ z. omega arith) (none-gives 14 refl)

@@ -10,7 +10,6 @@ use Rattle.clusters.specs.Sets.{whole}
 use Rattle.roster.specs.declared.Reply.{Reply}
 use Rattle.roster.specs.Verdict.{Test, verdict, lengthTest}
 use Rattle.trees.specs.Records.{recordsIn}
-use Rattle.lineages.specs.Checks.{recordsTest, rootingTest}
 use Rattle.lineages.specs.InOrder.{Shaped}
 use Rattle.lineages.specs.Work.{shapeTests, said, GenesJudged}
 use Rattle.lineages.proofs.Verdicts.{verdict-first, shape-passed}
@@ -22,17 +21,14 @@ use Rattle.splits.specs.Best.{bestFor, foundBy}
 use Rattle.terms.specs.Answers.{without}
 use Rattle.solver.specs.Work.{LongEnough, Checked, Solves}
 use Rattle.terms.specs.declared.Found.{Found}
-use Rattle.lineages.proofs.Calls.{genes-refused, genes-passed}
+use Rattle.lineages.proofs.Calls.{genesThen, genes-refused, genes-passed}
 use Rattle.weights.specs.declared.Rooting.{Rooting}
 
 -- what is judged after the shape
 searchRest : Rooting → ℕ → List ℕ → ℕ → List ℕ → List ℕ → List ℕ → List Test
 searchRest rooting n genes count allowed scores splits =
     lengthTest (length allowed) (2 ^ n) ∷ lengthTest (length scores) (2 ^ n) ∷ lengthTest (length splits) (2 ^ n)
-    ∷ recordsTest n (recordsIn count genes)
-    ∷ rootingTest rooting n (recordsIn count genes)
-    ∷ allowedTest n allowed
-    ∷ []
+    ∷ genesThen rooting n genes count (allowedTest n allowed ∷ [])
 
 -- ---- 12
 
@@ -40,7 +36,7 @@ module _ (rooting : Rooting) (n : ℕ) (genes : List ℕ) (count : ℕ) (allowed
   long-passed :
       LongEnough (2 ^ n) allowed scores splits
       → verdict (searchRest rooting n genes count allowed scores splits)
-      ≡ verdict (recordsTest n (recordsIn count genes) ∷ rootingTest rooting n (recordsIn count genes) ∷ allowedTest n allowed ∷ [])
+      ≡ verdict (genesThen rooting n genes count (allowedTest n allowed ∷ []))
   unfolding searchRest verdict lengthTest
   long-passed l =
       rw (
@@ -72,7 +68,7 @@ module _ (rooting : Rooting) (n : ℕ) (genes : List ℕ) (count : ℕ) (allowed
   module _ (long : LongEnough (2 ^ n) allowed scores splits) where
     -- behind the lengths the records and the allowed bytes do
     long-told : verdict (searchTests rooting n genes count allowed scores splits)
-        ≡ verdict (recordsTest n (recordsIn count genes) ∷ rootingTest rooting n (recordsIn count genes) ∷ allowedTest n allowed ∷ [])
+        ≡ verdict (genesThen rooting n genes count (allowedTest n allowed ∷ []))
     long-told = shape-told ∙ long-passed rooting n genes count allowed scores splits long
 
     pub checked : {judged : Reply} → GenesJudged rooting n genes count judged → judged .number ≡ 0 → Checked rooting n genes count allowed scores splits

@@ -15,10 +15,11 @@ use Rattle.weights.specs.Count.{weight}
 use Rattle.weights.specs.declared.Rooting.{Rooting}
 use Rattle.weights.proofs.Sums.{valid-countable}
 use Rattle.weights.proofs.RunningSums.{weight-small}
-use Rattle.lineages.specs.Checks.{speciesTest, countTest, recordsTest, rootingTest}
+use Rattle.lineages.specs.Checks.{speciesTest, countTest}
 use Rattle.lineages.specs.InOrder.{Shaped}
 use Rattle.lineages.specs.Work.{shapeTests, said}
-use Rattle.lineages.proofs.Verdicts.{verdict-first, shape-passed}
+use Rattle.lineages.proofs.Verdicts.{NoneGives, verdict-first, verdict-passed, verdict-never, shape-passed}
+use Rattle.lineages.proofs.Calls.{genesThen}
 use Rattle.splits.specs.Ties.{tieEntry}
 use Rattle.terms.specs.Allowed.{allowedIn}
 use Rattle.tables.specs.Work.{Tabled, Tieable, FillsTies}
@@ -31,7 +32,7 @@ use Rattle.search.specs.Promise.{searchTests, filledBy, Finds}
 use Rattle.search.specs.TiesPromise.{tiesFor, tiesTests, withTies, withoutTies, FindsTies}
 use Rattle.search.specs.Candidates.{Accepted}
 use Rattle.search.specs.declared.tied.Tied.{Tied}
-use Rattle.search.proofs.Accepted.{NoneGives, verdict-passed, verdict-never, none-gives, accepted, accepts}
+use Rattle.search.proofs.Accepted.{none-gives, accepted, accepts}
 use Rattle.search.proofs.Demand.{accepted-says, accepted-of}
 use Rattle.terms.proofs.Refusing.{refused-told}
 use Rattle.search.proofs.Finding.{refused-kept}
@@ -124,7 +125,7 @@ module _ (rooting : Rooting) (n : ℕ) (genes : List ℕ) (count : ℕ) (allowed
   first-refused e f =
       verdict-first (tiesShape n genes count ties)
       (lengthTest (length allowed) (2 ^ n) ∷ lengthTest (length scores) (2 ^ n) ∷ lengthTest (length splits) (2 ^ n)
-      ∷ recordsTest n (recordsIn count genes) ∷ rootingTest rooting n (recordsIn count genes) ∷ allowedTest n allowed ∷ [])
+      ∷ genesThen rooting n genes count (allowedTest n allowed ∷ []))
       e f
 
   -- where no test finds one, the third table is long enough
@@ -235,5 +236,5 @@ module _ (rooting : Rooting) (n : ℕ) (genes : List ℕ) (count : ℕ) (allowed
       go (suc k) e (inl z) = absurd (omega (arith, told k e))
       go (suc k) e (inr z) =
           absurd (verdict-never 14 (tiesTests rooting n genes count allowed scores splits ties) (λ z. omega arith)
-          (none-gives-ties 14 (none-gives rooting n genes count allowed scores splits 14 (inr refl)))
+          (none-gives-ties 14 (none-gives rooting n genes count allowed scores splits 14 refl))
           (omega (arith, told k e)))

@@ -40,7 +40,7 @@ fn fill(clusters: &[u32], count: usize, numbers: &mut [u16])
     }
 }
 
-// The record of the first count clusters, which come in any order. `reader` and `solver` call it with the clusters that they have stored.
+// The record of the first count clusters, which come in any order. `reader`, `solver` and `plain` call it with the clusters that they have stored.
 pub fn record_of(clusters: &[u32], count: usize) -> Record
     requires { ⌜ count ≤ 31 ⌝ }
     requires { ⌜ count ≤ length (now clusters) ⌝ }

@@ -2,6 +2,7 @@
 pub mod LowParts
 pub mod FirstLeast
 pub mod Membership
+pub mod StoredClusters
 pub mod Recurrence
 pub mod FallingParts
 pub mod Enumeration

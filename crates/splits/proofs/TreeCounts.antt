@@ -84,7 +84,7 @@ unfolding each total
 length-each f [] = refl
 length-each f (x ∷ l) = omega (arith, length-append (f x) (each f l), length-each f l)
 
-length-forks : (a : ℕ) (ts us : List Binary) → length (forks a ts us) ≡ length ts * length us
+pub length-forks : (a : ℕ) (ts us : List Binary) → length (forks a ts us) ≡ length ts * length us
 unfolding forks each
 length-forks a [] us = sym (zero-mul (length us))
 length-forks a (t ∷ ts) us =

@@ -1,32 +1,15 @@
 -- The clusters of a tree, stored one after the other while the split table leads down the tree.
 use Prim.Native.Nat.{ℕ, _+_, _-_, _≤_, _<_}
-use mathlib.Core.Path.{_≡_, refl, sym, ap, ap₂, _∙_, subst}
+use mathlib.Core.Path.{_≡_, refl, sym, ap, _∙_, subst}
 use mathlib.Core.Logic.{_⊎_, inl, inr}
-use mathlib.Core.List.{List, _∷_, _++_, List·Memᴰ·cases-cons, List·Memᴰ·append-cases, List·Memᴰ·eq-of-singleton}
-use native.Mathlib.Numerals.{add-one}
+use mathlib.Core.List.{List, _++_, List·Memᴰ·cases-cons, List·Memᴰ·append-cases, List·Memᴰ·eq-of-singleton}
 use native.Mathlib.Omega.{arith}
-use lib.ListN.{length, getD, set, take, drop, length-append, length-set, List·getD-append}
-use lib.Seq.{sets, length-sets, take-at}
+use lib.ListN.{length, getD, set, take}
 use Rattle.trees.specs.Lists.{Among}
-use Rattle.trees.proofs.Places.{at-among}
-use Rattle.trees.proofs.Stores.{sets-append, sets-front}
 use Rattle.splits.specs.BinaryTrees.{Binary, root, clustersIn}
 use Rattle.splits.specs.BinaryTrees.Binary.{tip, fork}
+use Rattle.splits.proofs.StoredClusters.{TreeStored, some-cluster, tip-stored, low-child-room, other-child-room, fork-stored, stored-clusters, stored-fits, stored-among}
 use Rattle.tables.specs.Work.{Chosen, Chooses}
-
--- ---- the clusters of a tree, counted and stored
-
-some-cluster : (t : Binary) → 1 ≤ length (clustersIn t)
-unfolding clustersIn
-some-cluster (tip a) = omega arith
-some-cluster (fork a t u) = omega arith
-
-clusters-fork : (a : ℕ) (t u : Binary) → clustersIn (fork a t u) ≡ a ∷ clustersIn t ++ clustersIn u
-unfolding clustersIn
-clusters-fork a t u = refl
-
-count-fork : (a : ℕ) (t u : Binary) → length (clustersIn (fork a t u)) ≡ 1 + (length (clustersIn t) + length (clustersIn u))
-count-fork a t u = ap length (clusters-fork a t u) ∙ omega (arith, length-append (clustersIn t) (clustersIn u))
 
 -- ---- a chosen tree, by the split entry of its cluster
 
@@ -65,15 +48,12 @@ tip-chosen splits a (fork b t u) h e z = absurd (omega (arith, h .0, h .1, ap (�
 
 -- what is stored for a tree on a: its clusters, from the place on
 abbrev pub Stored : List ℕ → List ℕ → ℕ → ℕ → ℕ → List ℕ → Type 0
-Stored splits clusters a place next after =
-    (t : Binary) → root t ≡ a → Chosen splits t → (next ≡ place + length (clustersIn t)) × (after ≡ sets clusters place (clustersIn t))
+Stored splits clusters a place next after = (t : Binary) → root t ≡ a → Chosen splits t → TreeStored clusters place t next after
 
 module _ (splits clusters : List ℕ) (a place : ℕ) where
   pub stored-tip : getD splits a 0 ≡ 0 → Stored splits clusters a place (place + 1) (set clusters place a)
-  unfolding clustersIn
   stored-tip z t e h =
-      let is = tip-chosen splits a t h e z in
-      subst (λ u. (place + 1 ≡ place + length (clustersIn u)) × (set clusters place a ≡ sets clusters place (clustersIn u))) (sym is) (refl, refl)
+      subst (λ u. TreeStored clusters place u (place + 1) (set clusters place a)) (sym (tip-chosen splits a t h e z)) (tip-stored clusters a place)
 
   module _ (h : Chooses splits a (length clusters - place)) where
     pub place-there : place < length clusters
@@ -89,21 +69,19 @@ module _ (splits clusters : List ℕ) (a place : ℕ) where
       pub rest-less : a - getD splits a 0 < a
       rest-less = let l = split-tree .low-some in let m = split-tree .low-less in omega arith
 
-      room : 1 + (length (clustersIn (split-tree .low-tree)) + length (clustersIn (split-tree .other-tree))) ≤ length clusters - place
-      room =
-          let f = h .fits in
-          omega (arith, ap (λ t. length (clustersIn t)) (split-tree .made), count-fork a (split-tree .low-tree) (split-tree .other-tree))
+      room : place + length (clustersIn (fork a (split-tree .low-tree) (split-tree .other-tree))) ≤ length clusters
+      room = let f = h .fits in omega (arith, ap (λ t. length (clustersIn t)) (split-tree .made), place-there)
 
       pub low-chooses : Chooses splits (getD splits a 0) (length (set clusters place a) - (place + 1))
       low-chooses = record {
         tree = split-tree .low-tree;
         rooted = split-tree .low-root;
         chosen = split-tree .low-chosen;
-        fits = omega (arith, room, length-set clusters place a);
+        fits = omega (arith, low-child-room clusters a place (split-tree .low-tree) (split-tree .other-tree) room);
       }
 
       module _ (next : ℕ) (between : List ℕ) (s : Stored splits (set clusters place a) (getD splits a 0) (place + 1) next between) where
-        low-stored : (next ≡ place + 1 + length (clustersIn (split-tree .low-tree))) × (between ≡ sets (set clusters place a) (place + 1) (clustersIn (split-tree .low-tree)))
+        low-stored : TreeStored (set clusters place a) (place + 1) (split-tree .low-tree) next between
         low-stored = s (split-tree .low-tree) (split-tree .low-root) (split-tree .low-chosen)
 
         pub rest-chooses : Chooses splits (a - getD splits a 0) (length between - next)
@@ -111,9 +89,7 @@ module _ (splits clusters : List ℕ) (a place : ℕ) where
           tree = split-tree .other-tree;
           rooted = split-tree .other-root;
           chosen = split-tree .other-chosen;
-          fits =
-              let both = low-stored in
-              omega (arith, room, ap length (low-stored .1), length-sets (set clusters place a) (place + 1) (clustersIn (split-tree .low-tree)), length-set clusters place a);
+          fits = omega (arith, other-child-room clusters a place (split-tree .low-tree) (split-tree .other-tree) low-stored room);
         }
 
       -- both children are stored, and so the fork is
@@ -125,19 +101,7 @@ module _ (splits clusters : List ℕ) (a place : ℕ) where
           let k = forked splits a t c e f in
           let low = s (k .low-tree) (k .low-root) (k .low-chosen) in
           let other = r (k .other-tree) (k .other-root) (k .other-chosen) in
-          subst (λ u. (last ≡ place + length (clustersIn u)) × (after ≡ sets clusters place (clustersIn u))) (sym (k .made)) (
-            omega (arith, low .0, other .0, count-fork a (k .low-tree) (k .other-tree)),
-            other .1 ∙ ap₂ (λ l i. sets l i (clustersIn (k .other-tree))) (low .1) (low .0) ∙ together (k .low-tree) (k .other-tree),
-          )
-        where
-          together :
-              (v u : Binary)
-              → sets (sets (set clusters place a) (place + 1) (clustersIn v)) (place + 1 + length (clustersIn v)) (clustersIn u)
-              ≡ sets clusters place (clustersIn (fork a v u))
-          together v u =
-              sets-append (set clusters place a) (place + 1) (clustersIn v) (clustersIn u)
-              ∙ ap (λ i. sets (set clusters place a) i (clustersIn v ++ clustersIn u)) (add-one place)
-              ∙ ap (sets clusters place) (sym (clusters-fork a v u))
+          subst (λ u. TreeStored clusters place u last after) (sym (k .made)) (fork-stored clusters a place (k .low-tree) (k .other-tree) low other)
 
 pub chooses-more : {splits : List ℕ} {a less room : ℕ} → Chooses splits a less → less ≤ room → Chooses splits a room
 chooses-more h l = let f = h .fits in record { tree = h .tree; rooted = h .rooted; chosen = h .chosen; fits = omega arith }
@@ -159,29 +123,17 @@ clusters-le splits (fork a t u) h x m = go (List·Memᴰ·cases-cons m) (λ k. c
     go (inr k) p q = below (List·Memᴰ·append-cases (clustersIn t) k) p q
 
 module _ {splits : List ℕ} {a next : ℕ} {after : List ℕ} (lent : List ℕ) (h : Chooses splits a (length lent)) (s : Stored splits lent a 0 next after) where
-  count : next ≡ length (clustersIn (h .tree))
-  count = omega (arith, s (h .tree) (h .rooted) (h .chosen) .0)
-
-  front : (t : Binary) → root t ≡ a → Chosen splits t → after ≡ clustersIn t ++ drop (length (clustersIn t)) lent
-  front t e c =
-      let f = h .fits in
-      s t e c .1 ∙ sets-front lent (clustersIn t) (omega (arith, count, s t e c .0))
+  stored : TreeStored lent 0 (h .tree) next after
+  stored = s (h .tree) (h .rooted) (h .chosen)
 
   pub front-fits : next ≤ length after
-  front-fits =
-      let f = h .fits in
-      omega (arith, count, ap length (s (h .tree) (h .rooted) (h .chosen) .1), length-sets lent 0 (clustersIn (h .tree)))
+  front-fits = stored-fits lent (h .tree) (h .fits) stored
 
   pub front-few : {room : ℕ} → Chooses splits a room → next ≤ room
   front-few m = let f = m .fits in omega (arith, s (m .tree) (m .rooted) (m .chosen) .0)
 
   pub front-below : (k : ℕ) → k < next → getD after k 0 ≤ a
-  front-below k l =
-      let inside : k < length (clustersIn (h .tree)) = omega (arith, count) in
-      let e = ap (λ r. getD r k 0) (front (h .tree) (h .rooted) (h .chosen)) ∙ List·getD-append (clustersIn (h .tree)) (drop (length (clustersIn (h .tree))) lent) 0 k inside in
-      omega (arith, e, h .rooted, clusters-le splits (h .tree) (h .chosen) (getD (clustersIn (h .tree)) k 0) (at-among (clustersIn (h .tree)) 0 k inside))
+  front-below k l = omega (arith, h .rooted, clusters-le splits (h .tree) (h .chosen) (getD after k 0) (stored-among lent (h .tree) (h .fits) stored k l))
 
   pub front-clusters : (t : Binary) → root t ≡ a → Chosen splits t → take next after ≡ clustersIn t
-  front-clusters t e c =
-      let n : length (clustersIn t) ≡ next = omega (arith, s t e c .0) in
-      ap (λ r. take next r) (front t e c) ∙ take-at (clustersIn t) (drop (length (clustersIn t)) lent) next n
+  front-clusters t e c = let f = h .fits in stored-clusters lent t (omega (arith, stored .0, s t e c .0)) (s t e c)

@@ -7,7 +7,7 @@ ghost use lib.Dec.{leb};
 ghost use Rattle.roster.specs.Roster.{least};
 ghost use Rattle.terms.specs.Allowed.{allowedIn};
 
-// Whether a is allowed: marked, a single species, or the whole. `tables` calls it, with an allowed set that was judged.
+// Whether a is allowed: marked, a single species, or the whole. `tables` and `plain` call it, with an allowed set that was judged.
 pub fn is_allowed(n: usize, allowed: &[u8], a: usize) -> bool
     requires { ⌜ n ≤ 16 ⌝ }
     requires { ⌜ a < 65536 ⌝ }
@@ -23,7 +23,7 @@ pub fn is_allowed(n: usize, allowed: &[u8], a: usize) -> bool
     allowed[a] == 1
 }
 
-// The first of the entries that is not 0 or 1, and how many there are where all are. `search` calls it, with so many entries lent.
+// The first of the entries that is not 0 or 1, and how many there are where all are. `search` and `plain` call it, with so many entries lent.
 pub fn first_strange(allowed: &[u8], entries: usize) -> usize
     requires { ⌜ entries ≤ length (now allowed) ⌝ }
     ensures { λ r. ⌜ r ≡ least (λ a. not (leb (getD (now (allowed .entry)) a 0) 1)) 0 entries ⌝ }

@@ -6,6 +6,7 @@ use crate::reporting;
 use crate::scoring;
 use crate::searching;
 use crate::tying;
+use crate::visiting;
 use crate::weighing;
 use crate::writing;
 use cases::fields::byte;
@@ -53,7 +54,9 @@ fn run_with_genes(case: &[u8], letter: u8) {
         b'F' => searching::run(Rooting::Rooted, case, records),
         b'f' => searching::run(Rooting::Unrooted, case, records),
         b'E' => tying::run(Rooting::Rooted, case, records),
-        _ => tying::run(Rooting::Unrooted, case, records),
+        b'e' => tying::run(Rooting::Unrooted, case, records),
+        b'L' => visiting::run(Rooting::Rooted, case, records),
+        _ => visiting::run(Rooting::Unrooted, case, records),
     }
 }
 
@@ -62,9 +65,8 @@ pub fn run(case: &[u8]) {
     let letter = byte(case, 0);
     match letter {
         b'J' | b'R' | b'G' | b'T' | b'W' | b'P' => run_with_text(case, letter),
-        b'K' | b'S' | b'M' | b'F' | b'E' | b'k' | b's' | b'm' | b'f' | b'e' => {
-            run_with_genes(case, letter)
-        }
+        b'K' | b'S' | b'M' | b'F' | b'E' | b'L' => run_with_genes(case, letter),
+        b'k' | b's' | b'm' | b'f' | b'e' | b'l' => run_with_genes(case, letter),
         _ => show::text(b"no such call\n"),
     }
 }

@@ -9,6 +9,7 @@ mod reporting;
 mod scoring;
 mod searching;
 mod tying;
+mod visiting;
 mod weighing;
 mod writing;
 

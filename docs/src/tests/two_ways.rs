@@ -2,10 +2,11 @@
 use reference::label;
 use reference::lineages::Rooting::{self, Rooted, Unrooted};
 use reference::lineages::{extra, extra_by_pass, k, k_by_pass, mark, records, score, shown, weight_of};
+use reference::plain::{plain, tree_counts};
 use reference::reader::{read, Kind};
 use reference::report::report;
 use reference::roster::{joined, names};
-use reference::search::{brute, brute_ties, search, search_ties, tables, ties_by_splits, weights, NO_TREE};
+use reference::search::{brute, brute_ties, search, search_ties, tables, ties_by_splits, tree, trees_over, weights, NO_TREE};
 use reference::seeded::{Seeded, Tree};
 use reference::trees::{binary, clusters, largest, may_unroot, record, valid, valid_gene, whole, Record};
 use reference::writer::write;
@@ -814,5 +815,46 @@ fn the_program_prints_the_same_wherever_the_roots_were_drawn() {
         let [here, there] = inputs.map(|input| String::from_utf8(report(&input)).unwrap());
         assert!(here.starts_with("taxa"), "{here}");
         assert_eq!(here, there);
+    }
+}
+
+#[test]
+fn the_slow_engine_and_the_dynamic_program() {
+    let mut s = Seeded::new(25);
+    let mut both = [0; 2];
+    for round in 0..800 {
+        let n = if round % 40 == 0 { 7 } else { 1 + s.below(6) };
+        let (rooting, mut genes) = genes_by_rooting(&mut s, n);
+        let mut allowed = allowed(&mut s, n);
+        if s.one_in(8) {
+            let at = s.below(genes.len());
+            genes[at] = s.spoiled(genes[at]);
+        }
+        if s.one_in(16) {
+            let at = s.below(1 << n);
+            allowed[at] = 2;
+        }
+        let count = if s.one_in(32) { genes.len() + 1 } else { genes.len() };
+        let (mut scores, mut splits) = (vec![0; 1 << n], vec![0; 1 << n]);
+        let found = match search(rooting, n, &genes.concat(), count, &allowed, &mut scores, &mut splits) {
+            Err((number, place)) if number != 14 => Err((number, place)),
+            // up to six species the search goes through all trees, too
+            _ => {
+                let (scores, splits) = tables(n, &weights(rooting, n, &genes), &allowed);
+                tree(n, &scores, &splits)
+            }
+        };
+        assert_eq!(plain(rooting, n, &genes.concat(), count, &allowed), found, "gene trees {genes:?}, allowed {allowed:?}");
+        both[found.is_ok() as usize] += 1;
+    }
+    assert!(both[0] > 200 && both[1] > 200, "{both:?}");
+}
+
+#[test]
+fn trees_by_the_product_and_one_by_one() {
+    let counts = tree_counts();
+    assert_eq!(counts.last(), Some(&6_190_283_353_629_375));
+    for n in 1..=7 {
+        assert_eq!(trees_over(n, &vec![1; 1 << n], (1 << n) - 1).len() as u64, counts[n - 1]);
     }
 }

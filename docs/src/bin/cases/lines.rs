@@ -59,6 +59,10 @@ impl Cases {
         self.add_count(b'E', &[decimal(n), numbers(genes), decimal(count), numbers(allowed), scores, splits, ties]);
     }
 
+    pub fn plain(&mut self, n: usize, genes: &[u16], count: usize, allowed: &[u16]) {
+        self.add_count(b'L', &[decimal(n), numbers(genes), decimal(count), numbers(allowed)]);
+    }
+
     pub fn report(&mut self, input: &[u8]) {
         self.add(b'P', &[escaped(input)]);
     }

@@ -3,6 +3,7 @@ mod borders;
 mod drawn;
 mod lines;
 mod lost;
+mod plain;
 mod quotes;
 mod supports;
 mod ties;
@@ -20,6 +21,7 @@ fn main() {
     supports::supports(&mut cases, seeded);
     unrooted::unrooted(&mut cases, seeded);
     ties::ties(&mut cases, seeded);
+    plain::plain(&mut cases, seeded);
     let mut out = std::io::stdout().lock();
     for line in &cases.lines {
         out.write_all(line).unwrap();

@@ -1,0 +1,3 @@
+pub mod Numbering
+pub mod Work
+pub mod Promise
