@@ -15,11 +15,12 @@ enum {
     layout_of_reply = 1 / (offsetof(st_Reply, number) == 0 && offsetof(st_Reply, place) == 8 && offsetof(st_Reply, value) == 16),
     layout_of_reading = 1 / (offsetof(st_Reading, place) == 8 && offsetof(st_Reading, next) == 16 && offsetof(st_Reading, numbers) == 24),
     layout_of_found = 1 / (offsetof(st_Found, place) == 8 && offsetof(st_Found, score) == 16 && offsetof(st_Found, numbers) == 24),
-    layout_of_tied = 1 / (offsetof(st_Tied, place) == 8 && offsetof(st_Tied, score) == 16 && offsetof(st_Tied, ties) == 24 && offsetof(st_Tied, numbers) == 32)
+    layout_of_tied = 1 / (offsetof(st_Tied, place) == 8 && offsetof(st_Tied, score) == 16 && offsetof(st_Tied, ties) == 24 && offsetof(st_Tied, numbers) == 32),
+    layout_of_entry = 1 / (offsetof(st_Entry, position) == 0 && offsetof(st_Entry, number) == 8 && offsetof(st_Entry, score) == 16 && sizeof(st_Entry) == 24)
 };
 
 /* What lent buffers hold before a call. */
-enum { byte_before = 238, score_before = 7, split_before = 9, tie_before = 5 };
+enum { byte_before = 238, score_before = 7, split_before = 9, tie_before = 5, entry_number_before = 5, entry_score_before = 6 };
 
 typedef struct {
     uint8_t *at;
@@ -40,6 +41,11 @@ typedef struct {
     uint64_t *at;
     size_t length;
 } Ties;
+
+typedef struct {
+    st_Entry *at;
+    size_t length;
+} Entries;
 
 static const char *program;    /* the command that runs the program */
 static Bytes line;             /* the case that is run, without its line feed */
@@ -188,6 +194,17 @@ static Ties lent_ties(size_t k) {
     return out;
 }
 
+/* An entry for each position of the k-th field. */
+static Entries lent_entries(size_t k) {
+    Bytes s = field(k);
+    Entries out = {room(s.length, sizeof *out.at), 0};
+    for (size_t at = 0; at < s.length; at++) {
+        st_Entry one = {decimal(s, &at), entry_number_before, entry_score_before};
+        out.at[out.length++] = one;
+    }
+    return out;
+}
+
 static unsigned long mixed(unsigned long h, uint64_t x) {
     return (unsigned long)((h * 31 + x % 1000003 + 1) % 1000003);
 }
@@ -291,6 +308,14 @@ static void mark(void) {
     printf("\n");
 }
 
+static void fill_sheet(void) {
+    Numbers genes = numbers(1), records = numbers(3);
+    Entries entries = lent_entries(4);
+    show_reply((unrooted() ? st_sheet_unrooted : st_sheet)(number(0), genes.at, genes.length, number(2), records.at, records.length, entries.at, entries.length));
+    for (size_t i = 0; i < entries.length; i++) printf(" %zu:%lu:%zu", entries.at[i].position, (unsigned long)entries.at[i].number, entries.at[i].score);
+    printf("\n");
+}
+
 static void search(void) {
     Numbers genes = numbers(1), splits = lent_splits(5);
     Bytes allowed = flags(3);
@@ -341,8 +366,8 @@ static const struct {
     char letter;
     void (*run)(void);
 } calls[] = {
-    {'J', judge}, {'R', read_species}, {'G', read_gene}, {'T', read_supported}, {'W', write_tree}, {'K', weigh}, {'S', score}, {'M', mark}, {'F', search}, {'E', search_ties}, {'L', visit},
-    {'k', weigh}, {'s', score}, {'m', mark}, {'f', search}, {'e', search_ties}, {'l', visit}, {'P', run_program},
+    {'J', judge}, {'R', read_species}, {'G', read_gene}, {'T', read_supported}, {'W', write_tree}, {'K', weigh}, {'S', score}, {'M', mark}, {'F', search}, {'E', search_ties}, {'L', visit}, {'H', fill_sheet},
+    {'k', weigh}, {'s', score}, {'m', mark}, {'f', search}, {'e', search_ties}, {'l', visit}, {'h', fill_sheet}, {'P', run_program},
 };
 
 static void run(void) {

@@ -45,6 +45,14 @@ typedef struct {
     uint16_t numbers[32];
 } st_Tied;
 
+/* An entry of a sheet: which of the lent species records is meant, counted in whole records of 32 numbers from 0, and what st_sheet
+   puts there: the number and the value that st_score replies for that record, or 12 and 0 where it is not lent whole */
+typedef struct {
+    size_t position;
+    uint32_t number;
+    size_t score;
+} st_Entry;
+
 /* value: how many species the roster line has. Its names are 1 to 15 printable bytes each, written bare (letters, digits, underscores
    that stand for blanks) or between single quotes (a quote written twice), with one space between two; leaves and inner nodes of a
    text have theirs in the same two forms */
@@ -73,6 +81,11 @@ st_Reply st_score(size_t n, const uint16_t *genes, size_t genes_length, size_t c
 /* value: 0 */
 st_Reply st_mark(size_t n, const uint16_t *genes, size_t genes_length, size_t count, uint8_t *out, size_t out_length);
 
+/* value: 0. Fills the number and the score of every entry with what st_score replies for the species record at its position, or with 12
+   and 0 where records does not hold that record whole; the positions stay. A refusal of the whole call leaves the entries as they are */
+st_Reply st_sheet(size_t n, const uint16_t *genes, size_t genes_length, size_t count, const uint16_t *records, size_t records_length,
+                  st_Entry *entries, size_t entries_length);
+
 /* the score and the record of the first least-scoring tree; both tables are filled */
 st_Found st_search(size_t n, const uint16_t *genes, size_t genes_length, size_t count, const uint8_t *allowed, size_t allowed_length,
                    uint32_t *scores, size_t scores_length, uint16_t *splits, size_t splits_length);
@@ -87,7 +100,7 @@ st_Tied st_search_ties(size_t n, const uint16_t *genes, size_t genes_length, siz
    trees on at most seven species, else 17; no table is lent */
 st_Found st_plain(size_t n, const uint16_t *genes, size_t genes_length, size_t count, const uint8_t *allowed, size_t allowed_length);
 
-/* The same six for gene trees without a root: the clusters of a gene record are its own and the complement of each but the whole, so
+/* The same seven for gene trees without a root: the clusters of a gene record are its own and the complement of each but the whole, so
    that it does not matter where the root was drawn. A gene tree has to have every species, and each inner node two children, the root
    two or three; else 19 */
 st_Reply st_weight_unrooted(size_t n, const uint16_t *genes, size_t genes_length, size_t count, size_t cluster);
@@ -95,6 +108,9 @@ st_Reply st_weight_unrooted(size_t n, const uint16_t *genes, size_t genes_length
 st_Reply st_score_unrooted(size_t n, const uint16_t *genes, size_t genes_length, size_t count, st_Record species);
 
 st_Reply st_mark_unrooted(size_t n, const uint16_t *genes, size_t genes_length, size_t count, uint8_t *out, size_t out_length);
+
+st_Reply st_sheet_unrooted(size_t n, const uint16_t *genes, size_t genes_length, size_t count, const uint16_t *records,
+                           size_t records_length, st_Entry *entries, size_t entries_length);
 
 st_Found st_search_unrooted(size_t n, const uint16_t *genes, size_t genes_length, size_t count, const uint8_t *allowed,
                             size_t allowed_length, uint32_t *scores, size_t scores_length, uint16_t *splits, size_t splits_length);

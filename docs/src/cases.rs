@@ -1,6 +1,7 @@
 //! The case file: one call a line, and the answer that is printed for it. README.md beside this file says how a line is written.
 use crate::lineages::Rooting;
 use crate::reader::Kind;
+use crate::sheet::{sheet, Entry};
 use crate::trees::Record;
 use crate::{lineages, plain, reader, report, roster, search, writer, Refusal};
 use std::fmt::Write;
@@ -10,6 +11,8 @@ const BYTE: u8 = 238;
 const SCORE: u32 = 7;
 const SPLIT: u16 = 9;
 const TIE: u64 = 5;
+const ENTRY_NUMBER: u32 = 5;
+const ENTRY_SCORE: usize = 6;
 
 fn decimal(s: &[u8], at: &mut usize) -> usize {
     let mut value = 0;
@@ -138,6 +141,16 @@ fn searched_with_ties(line: &mut String, rooting: Rooting, field: &[&[u8]]) {
     write!(line, " : {} {} {}", mixed(&scores), mixed(&splits), mixed(&ties)).unwrap();
 }
 
+fn filled(line: &mut String, rooting: Rooting, field: &[&[u8]]) {
+    let positions = field[4].split(|&b| b == b' ').filter(|word| !word.is_empty()).map(number);
+    let mut entries: Vec<Entry> = positions.map(|position| Entry { position, number: ENTRY_NUMBER, score: ENTRY_SCORE }).collect();
+    let answer = sheet(rooting, number(field[0]), &numbers(field[1]), number(field[2]), &numbers(field[3]), &mut entries);
+    reply(line, &answer.map(|()| 0));
+    for entry in entries {
+        write!(line, " {}:{}:{}", entry.position, entry.number, entry.score).unwrap();
+    }
+}
+
 /// The answer to a case, with its line feed.
 pub fn answer(case: &[u8]) -> Vec<u8> {
     let field: Vec<&[u8]> = case[1..].split(|&b| b == b'|').collect();
@@ -175,6 +188,7 @@ pub fn answer(case: &[u8]) -> Vec<u8> {
         b'F' | b'f' => searched(&mut line, rooting, &field),
         b'E' | b'e' => searched_with_ties(&mut line, rooting, &field),
         b'L' | b'l' => found(&mut line, plain::plain(rooting, number(field[0]), &numbers(field[1]), number(field[2]), &flags(field[3]))),
+        b'H' | b'h' => filled(&mut line, rooting, &field),
         b'P' => return report::report(&bytes(field[0])),
         other => panic!("no call is named {}", other as char),
     }

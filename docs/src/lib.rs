@@ -8,6 +8,7 @@ pub mod report;
 pub mod roster;
 pub mod search;
 pub mod seeded;
+pub mod sheet;
 pub mod trees;
 pub mod writer;
 

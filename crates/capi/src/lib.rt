@@ -5,6 +5,7 @@ use reader::Threshold;
 use roster::Reply;
 use search::Found;
 use search::Tied;
+use sheet::Entry;
 use trees::Record;
 use weights::Rooting;
 ghost use Rattle.roster.specs.Judged.{Judged};
@@ -14,6 +15,7 @@ ghost use Rattle.tokens.specs.declared.answer.Threshold.the-variants.{NoThresho
 ghost use Rattle.writer.specs.Promise.{Writes};
 ghost use Rattle.weights.specs.declared.Rooting.the-variants.{Rooted, Unrooted};
 ghost use Rattle.lineages.specs.Promise.{Weighs, Scores, Marks};
+ghost use Rattle.sheet.specs.Promise.{Sheets};
 ghost use Rattle.search.specs.Promise.{Finds};
 ghost use Rattle.search.specs.TiesPromise.{FindsTies};
 ghost use Rattle.plain.specs.Promise.{FindsPlainly};
@@ -110,6 +112,34 @@ pub extern "C" fn st_mark_unrooted(n: usize, genes: &[u16], count: usize, out: &
     ensures { λ r. ⌜ Marks Unrooted n (now (genes .entry)) count (now (out .entry)) r (now (out .exit)) ⌝ }
 {
     lineages::mark(Rooting::Unrooted, n, genes, count, out)
+}
+
+// Scores a sheet of candidate trees: fills each entry's number and score.
+#[no_mangle]
+pub extern "C" fn st_sheet(
+    n: usize,
+    genes: &[u16],
+    count: usize,
+    records: &[u16],
+    entries: &mut [Entry],
+) -> Reply
+    ensures { λ r. ⌜ Sheets Rooted n (now (genes .entry)) count (now (records .entry)) (now (entries .entry)) r (now (entries .exit)) ⌝ }
+{
+    sheet::sheet(Rooting::Rooted, n, genes, count, records, entries)
+}
+
+// The same for gene trees without a root.
+#[no_mangle]
+pub extern "C" fn st_sheet_unrooted(
+    n: usize,
+    genes: &[u16],
+    count: usize,
+    records: &[u16],
+    entries: &mut [Entry],
+) -> Reply
+    ensures { λ r. ⌜ Sheets Unrooted n (now (genes .entry)) count (now (records .entry)) (now (entries .entry)) r (now (entries .exit)) ⌝ }
+{
+    sheet::sheet(Rooting::Unrooted, n, genes, count, records, entries)
 }
 
 // The first least-scoring species tree over the allowed clusters; fills both tables.

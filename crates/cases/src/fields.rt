@@ -102,7 +102,7 @@ pub struct Numeral {
 }
 
 // The decimal number at `at`; 0 where no digit stands there.
-pub(crate) fn decimal(s: &[u8], at: usize) -> Numeral
+pub fn decimal(s: &[u8], at: usize) -> Numeral
     requires { ⌜ at ≤ length (now s) ⌝ }
     ensures { λ r. ⌜ (at ≤ r .next) × (r .next ≤ length (now (s .entry))) ⌝ }
 {

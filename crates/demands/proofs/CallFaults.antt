@@ -24,6 +24,8 @@ use Rattle.lineages.specs.Checks.{speciesTest, countTest, recordsTest, rootingT
 use Rattle.lineages.specs.Promise.{Weighs, Scores, Marks}
 use Rattle.lineages.specs.Work.{said}
 use Rattle.lineages.proofs.Verdicts.{NoneGives, verdict-first}
+use Rattle.sheet.specs.Promise.{sheetTests, Sheets}
+use Rattle.sheet.specs.declared.Entry.{Entry}
 use Rattle.splits.specs.BinaryTrees.{Binary}
 use Rattle.splits.specs.Best.{bestFor, foundBy}
 use Rattle.terms.specs.declared.Found.{Found}
@@ -38,7 +40,7 @@ use Rattle.search.proofs.Accepted.{none-gives}
 use Rattle.search.proofs.Tying.{none-gives-ties}
 use Rattle.search.proofs.Demand.{found-answers, none-competes}
 use Rattle.demands.specs.CallFaults.{RosterFault, RootingFault, NoTreeFault}
-use Rattle.demands.specs.CallFaults.{WriteFault, WeightFault, ScoreFault, MarkFault, BehindLengths, SearchRest, SearchFault, TiesFault, PlainFault}
+use Rattle.demands.specs.CallFaults.{WriteFault, WeightFault, ScoreFault, MarkFault, BehindLengths, SearchRest, SearchFault, TiesFault, PlainFault, SheetFault}
 use Rattle.demands.specs.CallFaults.NoTreeFault.{no-tree}
 use Rattle.demands.proofs.FirstFaults.{Exact, Meets, exact-last, exact-next, refused-at, one-fault, behind-passed}
 use Rattle.demands.proofs.TestFaults.{species-met, over-seven-met, count-met, length-met, species-record-met, records-met, records-passed, rooting-met, record-met, cluster-met, allowed-met, roster-met}
@@ -85,7 +87,7 @@ module _ (line tree out : List ℕ) where
   pub one-write-fault : {k p k′ p′ : ℕ} → WriteFault line tree out k p → WriteFault line tree out k′ p′ → (k ≡ k′) × (p ≡ p′)
   one-write-fault = one-fault write-exact
 
--- ---- weighing, scoring and marking
+-- ---- the calls that take gene records and do not search
 
 -- where 1 does not stand there are at most sixteen species
 pub few-species : (n : ℕ) → speciesTest n .fault ≡ false → n ≤ 16
@@ -98,6 +100,28 @@ module _ (rooting : Rooting) (n : ℕ) (genes : List ℕ) (count : ℕ) where
       n ≤ 16 → recordsTest n (recordsIn count genes) .fault ≡ false
       → Meets (rootingTest rooting n (recordsIn count genes)) (RootingFault rooting n (recordsIn count genes))
   rooted-met few v = rooting-met n few rooting (recordsIn count genes) (records-passed n few (recordsIn count genes) v)
+
+  -- ---- a sheet of candidate trees
+
+  pub sheet-exact : Exact (verdict (sheetTests rooting n genes count)) (SheetFault rooting n genes count)
+  unfolding sheetTests
+  sheet-exact =
+      exact-next _ (species-met n) (λ s.
+      exact-next _ (count-met count) (λ c.
+      exact-next _ (length-met genes (32 * count)) (λ l.
+      exact-next _ (records-met n (few-species n s) (recordsIn count genes)) (λ v.
+      exact-last (rooted-met (few-species n s) v)))))
+
+  -- "First 1, 11, 12 and 15 refuse the whole call" (#107): neither the records nor the entries are asked
+  pub sheet-refused-at :
+      (records : List ℕ) (entries : List Entry) (r : Reply) (after : List Entry) → Sheets rooting n genes count records entries r after → (number place : ℕ)
+      → ((r .number ≡ number) × (r .place ≡ place) × (number ≡ 0 → ⊥)) ↔ SheetFault rooting n genes count number place
+  sheet-refused-at records entries r after w = refused-at sheet-exact (ap (λ (r : Reply). r .number) (w .reply)) (ap (λ (r : Reply). r .place) (w .reply))
+
+  pub one-sheet-fault : {k p k′ p′ : ℕ} → SheetFault rooting n genes count k p → SheetFault rooting n genes count k′ p′ → (k ≡ k′) × (p ≡ p′)
+  one-sheet-fault = one-fault sheet-exact
+
+  -- ---- weighing, scoring and marking
 
   module _ (a : ℕ) where
     pub weight-exact : Exact (verdict (weightTests rooting n genes count a)) (WeightFault rooting n genes count a)

@@ -32,6 +32,9 @@ use Rattle.lineages.proofs.Verdicts.{NoneGives}
 use Rattle.splits.specs.BinaryTrees.{Binary}
 use Rattle.splits.specs.Least.{scoreEntry, splitEntry}
 use Rattle.terms.specs.Allowed.{allowedTest}
+use Rattle.sheet.specs.Promise.{sheetTests, entryFor, entriesBy, Sheets}
+use Rattle.sheet.specs.declared.Entry.{Entry}
+use Rattle.sheet.proofs.Entries.{none-altered}
 use Rattle.plain.specs.Promise.{plainTest, plainTests, FindsPlainly}
 use Rattle.search.specs.Promise.{searchTests, filledBy, Finds}
 use Rattle.terms.specs.Answers.{foundOr}
@@ -48,7 +51,7 @@ use Rattle.demands.specs.TextFaults.{TextFault}
 use Rattle.demands.proofs.Refusals.{among-once, among-behind, replyOf-refused, outBy-refused, markedBy-refused, filledBy-refused, filled, replyOf-done}
 use Rattle.demands.proofs.Refusals.{Refused, refused-ways, refused-not-found, refused-by-test, refused-by-none, found-done}
 use Rattle.demands.proofs.TextFaults.{fault-of-refusal, fault-numbers}
-use Rattle.demands.proofs.OneOutcome.{judge-once, read-once, write-once, weigh-once, score-once, mark-once, find-once, tie-once, plain-once, report-once}
+use Rattle.demands.proofs.OneOutcome.{judge-once, read-once, write-once, weigh-once, score-once, mark-once, find-once, tie-once, plain-once, sheet-once, report-once}
 
 -- ---- "Every text, roster, table and number handed over gets a reply. .. No caller has to check first."
 
@@ -156,6 +159,21 @@ replies-plain rooting n genes count allowed =
     let reply : Found = foundOr (said .number) (said .place) (foundBy rooting tree (recordsIn count genes)) in
     let meets : FindsPlainly rooting n genes count allowed reply = record { reply = refl } in
     record { outcome = reply; meets = meets; only = λ r p. plain-once rooting n genes count allowed r reply p meets }
+
+-- any records, and any entries lent (#107)
+pub replies-sheet :
+    (rooting : Rooting) (n : ℕ) (genes : List ℕ) (count : ℕ) (records : List ℕ) (entries : List Entry)
+    → Replies (λ (o : Reply × List Entry). Sheets rooting n genes count records entries (o .0) (o .1))
+replies-sheet rooting n genes count records entries =
+    let reply : Reply = replyOf (verdict (sheetTests rooting n genes count)) 0 in
+    let after : List Entry = entriesBy (verdict (sheetTests rooting n genes count) .number) (λ e. entryFor rooting n genes count records e) entries in
+    let meets : Sheets rooting n genes count records entries reply after = record { reply = refl; filled = refl } in
+    record {
+      outcome = (reply, after);
+      meets = meets;
+      only = λ o p.
+          let e = sheet-once rooting n genes count records entries (o .0) reply (o .1) after p meets in ap₂ (λ (r : Reply) (l : List Entry). (r, l)) (e .0) (e .1);
+    }
 
 -- "Every text": any input of the program
 pub replies-report : (input : List ℕ) → Replies (Reports input)
@@ -325,6 +343,15 @@ plain-refused rooting n genes count allowed r found refusal =
     refused-not-found l _ (refused-ways (verdict l) rooting tree (recordsIn count genes) r (found .reply) refusal)
     (λ x m. Memᴰ·append-left (14 ∷ []) (among-behind (among-behind (among-behind among-once)) m)) (there (there (there (there (there (there (there (here refl))))))))
 
+-- "First 1, 11, 12 and 15 refuse the whole call, no entry altered" (#107), with 19 straight after 15 (#106)
+pub sheet-refused :
+    (rooting : Rooting) (n : ℕ) (genes : List ℕ) (count : ℕ) (records : List ℕ) (entries : List Entry) (r : Reply) (after : List Entry)
+    → Sheets rooting n genes count records entries r after → (r .number ≡ 0 → ⊥)
+    → TurnedAway (1 ∷ 11 ∷ 12 ∷ 15 ∷ 19 ∷ []) r × (after ≡ entries)
+unfolding sheetTests speciesTest countTest lengthTest recordsTest rootingTest
+sheet-refused rooting n genes count records entries r after p f =
+    (replyOf-refused (sheetTests rooting n genes count) 0 r (p .reply) f, none-altered p f)
+
 -- ---- "0 | done | 0": no call that is not refused has another place
 
 -- "done | 0": judging a roster
@@ -404,3 +431,11 @@ pub plain-done :
 plain-done rooting n genes count allowed r found z =
     found-done (verdict (plainTests rooting n genes count allowed)) rooting (bestFor rooting n (recordsIn count genes) allowed (whole n)) (recordsIn count genes) r
     (found .reply) z
+
+-- "done | 0": scoring a sheet
+pub sheet-done :
+    (rooting : Rooting) (n : ℕ) (genes : List ℕ) (count : ℕ) (records : List ℕ) (entries : List Entry) (r : Reply) (after : List Entry)
+    → Sheets rooting n genes count records entries r after → r .number ≡ 0 → r .place ≡ 0
+unfolding sheetTests speciesTest countTest lengthTest recordsTest rootingTest NoneGives
+sheet-done rooting n genes count records entries r after p =
+    replyOf-done (sheetTests rooting n genes count) 0 r (p .reply) (λ z. omega arith, (λ z. omega arith, (λ z. omega arith, (λ z. omega arith, (λ z. omega arith, tt)))))

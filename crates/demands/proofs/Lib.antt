@@ -12,6 +12,7 @@ pub mod Scorable
 pub mod SecondDemand
 pub mod ThirdDemand
 pub mod Sceptic
+pub mod Sheets
 pub mod SmallInputs
 pub mod ShutOut
 pub mod Gathering

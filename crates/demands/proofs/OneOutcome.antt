@@ -14,6 +14,9 @@ use Rattle.writer.proofs.Outcomes.{writes-once}
 use Rattle.weights.specs.declared.Rooting.{Rooting}
 use Rattle.lineages.specs.Promise.{Weighs, Scores, Marks}
 use Rattle.lineages.proofs.Outcomes.{weighs-once, scores-once, marks-once}
+use Rattle.sheet.specs.Promise.{Sheets}
+use Rattle.sheet.specs.declared.Entry.{Entry}
+use Rattle.sheet.proofs.Entries.{sheets-once}
 use Rattle.plain.specs.Promise.{FindsPlainly}
 use Rattle.search.specs.Promise.{Finds}
 use Rattle.terms.specs.declared.Found.{Found}
@@ -76,6 +79,12 @@ pub plain-once :
     (rooting : Rooting) (n : ℕ) (genes : List ℕ) (count : ℕ) (allowed : List ℕ) (r r′ : Found) → FindsPlainly rooting n genes count allowed r
     → FindsPlainly rooting n genes count allowed r′ → r ≡ r′
 plain-once rooting n genes count allowed r r′ p q = p .reply ∙ sym (q .reply)
+
+-- for a sheet of candidate trees (#107): the reply and the lent entries
+pub sheet-once :
+    (rooting : Rooting) (n : ℕ) (genes : List ℕ) (count : ℕ) (records : List ℕ) (entries : List Entry) (r r′ : Reply) (after after′ : List Entry)
+    → Sheets rooting n genes count records entries r after → Sheets rooting n genes count records entries r′ after′ → (r ≡ r′) × (after ≡ after′)
+sheet-once rooting n genes count records entries r r′ after after′ p q = sheets-once p q
 
 -- for the program's report
 pub report-once : (input : List ℕ) (r r′ : _) → Reports input r → Reports input r′ → r ≡ r′

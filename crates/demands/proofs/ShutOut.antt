@@ -1,13 +1,13 @@
 -- "What the promises have to shut out": no function that meets a promise on all that a machine can hand over is one of 01's wrong versions there.
-use Prim.Native.Nat.{ℕ, _-_, _^_, _≤_, _<_}
+use Prim.Native.Nat.{ℕ, _+_, _-_, _^_, _≤_, _<_}
 use mathlib.Core.Path.{_≡_, refl, sym, ap, _∙_}
-use mathlib.Core.List.{List, [], _∷_, _++_}
-use mathlib.Core.Logic.{inl}
+use mathlib.Core.List.{List, [], _∷_, _++_, List·Memᴰ, List·Memᴰ·cases-cons, List·Memᴰ·eq-of-singleton}
+use mathlib.Core.Logic.{_⊎_, inl, inr}
 use mathlib.Core.Bool.{true}
 use native.Mathlib.Omega.{arith}
 use lib.Count.{ones, onesIn, trailingZeros}
 use lib.Dec.{ltb}
-use lib.ListN.{length, take, getD, replicate}
+use lib.ListN.{length, take, drop, getD, replicate}
 use borrow.Author.Tests.{ltb-true}
 use Rattle.clusters.specs.Sets.{whole, single, union, has, within, apart, size, lowest}
 use Rattle.labels.specs.Bytes.{run, nextIs, nextLabel}
@@ -42,6 +42,8 @@ use Rattle.weights.specs.Count.{unrootedHas, unrootedClusters, maximalWithin, k
 use Rattle.lineages.specs.Checks.{speciesTest, countTest, speciesRecordTest, firstFailing, recordsTest, rootingTest, clusterTest, weightTests, scoreTests, markTests}
 use Rattle.weights.specs.Marks.{shown}
 use Rattle.lineages.specs.Promise.{marks, Weighs, Scores, Marks}
+use Rattle.sheet.specs.declared.Entry.{Entry}
+use Rattle.sheet.specs.Promise.{Sheets}
 use Rattle.splits.specs.BinaryTrees.{clustersIn, isLow, lows, each, forks, treesTo, treesOn}
 use Rattle.splits.specs.Least.{those, all, scoreOf, treesOver, leastTrees, best, noTree}
 use Rattle.terms.specs.Allowed.{allowedIn}
@@ -63,9 +65,11 @@ use Rattle.report.specs.Input.{lineLength, firstLine, behindLine, endsInFeed, m
 use Rattle.report.specs.Program.{modeOf, program}
 use Rattle.outcomes.specs.Outcome.{searched}
 use Rattle.report.specs.Promise.{output, Reports}
-use Rattle.demands.specs.Handed.{Slice, Bytes, AnyRecord, ToRead, ToWrite, GeneTrees, ToWeigh, ToScore, ToMark, ToSearch, ToTie, ToPlain}
+use Rattle.demands.specs.Handed.{Slice, Bytes, AnyRecord, ToRead, ToWrite, GeneTrees, ToWeigh, ToScore, ToMark, ToSearch, ToTie, ToPlain, AnyEntry, ToSheet}
 use Rattle.demands.proofs.SmallInputs.{ab-cd, ac-bd, every-of-four, lent-of-four}
-use Rattle.demands.proofs.FirstDemand.{replies-find}
+use Rattle.demands.proofs.FirstDemand.{replies-score, replies-find}
+use Rattle.demands.proofs.Scorable.{scored-exactly}
+use Rattle.demands.proofs.Sheets.{sheet-exactly, as-single-call, twelve-and-zero}
 use Rattle.demands.proofs.Sceptic.{same-reply}
 use Rattle.demands.proofs.Ties.{entry-of-no-species}
 
@@ -708,6 +712,158 @@ module _ (rooting : Rooting) (f : ℕ → List ℕ → ℕ → List ℕ → Foun
       two-scores visited-on-four
       (first-only 4 ab-cd (ab-cd ++ ac-bd) 1 2 every-of-four (to-plain to-search-ab-cd) (to-plain to-search-both) refl (first-done visited-on-four)
       (both-done visited-on-four))
+
+-- ---- a sheet of candidate trees (#107)
+
+-- two records of `((a,b),(c,d));`, and a sheet whose second entry alone has a position within them; what stood in number and score is 5 and 6
+abbrev two-records : List ℕ
+two-records = ab-cd ++ ab-cd
+
+abbrev at-entry : ℕ → Entry
+at-entry position = record { position = position; number = 5; score = 6 }
+
+abbrev first-entries : List Entry
+first-entries = at-entry 32 ∷ at-entry 0 ∷ []
+
+abbrev three-entries : List Entry
+three-entries = at-entry 32 ∷ at-entry 0 ∷ at-entry 32 ∷ []
+
+to-sheet : (genes : List ℕ) → GeneTrees 4 genes 2 → ToSheet 4 genes 2 two-records three-entries
+to-sheet genes h = record {
+  gene-trees = h;
+  records-numbers = alike-handed .genes-numbers;
+  each-entry = λ e m. by e (List·Memᴰ·cases-cons m);
+  entries-size = omega arith;
+}
+  where
+    small : (e : Entry) (position : ℕ) → position < 64 → e ≡ at-entry position → AnyEntry e
+    small e position l is = rw is (record { position-size = omega arith; number-fits = omega arith; score-size = omega arith })
+
+    last : (e : Entry) → (e ≡ at-entry 0) ⊎ List·Memᴰ e (at-entry 32 ∷ []) → AnyEntry e
+    last e (inl is) = small e 0 (omega arith) is
+    last e (inr m) = small e 32 (omega arith) (List·Memᴰ·eq-of-singleton m)
+
+    by : (e : Entry) → (e ≡ at-entry 32) ⊎ List·Memᴰ e (at-entry 0 ∷ at-entry 32 ∷ []) → AnyEntry e
+    by e (inl is) = small e 32 (omega arith) is
+    by e (inr m) = last e (List·Memᴰ·cases-cons m)
+
+-- what the sheet says for gene trees for which the single call gives that score
+pub record SheetSays (v : ℕ) (r : Reply) (after : List Entry) : Type 0 where
+  pub fine : r .number ≡ 0
+  pub first-number : getD after 0 (at-entry 0) .number ≡ 12
+  pub second-number : getD after 1 (at-entry 0) .number ≡ 0
+  pub second-score : getD after 1 (at-entry 0) .score ≡ v
+  pub third-number : getD after 2 (at-entry 0) .number ≡ 12
+  pub third-score : getD after 2 (at-entry 0) .score ≡ 0
+
+module _ (rooting : Rooting) (f : ℕ → List ℕ → ℕ → List ℕ → List Entry → Reply) (after : ℕ → List ℕ → ℕ → List ℕ → List Entry → List Entry)
+    (meets : (n : ℕ) (genes : List ℕ) (count : ℕ) (records : List ℕ) (entries : List Entry) → ToSheet n genes count records entries
+    → Sheets rooting n genes count records entries (f n genes count records entries) (after n genes count records entries)) where
+  says :
+      (genes : List ℕ) (v : ℕ) → GeneTrees 4 genes 2
+      → ((r : Reply) → Scores rooting 4 genes 2 ab-cd r → r ≡ record { number = 0; place = 0; value = v })
+      → SheetSays v (f 4 genes 2 two-records three-entries) (after 4 genes 2 two-records three-entries)
+  unfolding ab-cd recordOf sorted insert
+  says genes v h scored =
+      let single = replies-score rooting 4 genes 2 ab-cd in
+      let is = scored (single .outcome) (single .meets) in
+      let sheets = meets 4 genes 2 two-records three-entries (to-sheet genes h) in
+      let zero = ap (λ (r : Reply). r .number) is in
+      let fine = sheet-exactly sheets .1 (scored-exactly rooting 4 genes 2 ab-cd (single .outcome) (single .meets) .0 zero .in-order) in
+      let second = as-single-call sheets fine 1 (omega arith) (at-entry 0) (omega arith) (single .outcome) (single .meets) in
+      let third = twelve-and-zero sheets fine 2 (omega arith) (at-entry 0) (λ l. omega arith) in
+      record {
+        fine = fine;
+        first-number = twelve-and-zero sheets fine 0 (omega arith) (at-entry 0) (λ l. omega arith) .0;
+        second-number = second .0 ∙ zero;
+        second-score = second .1 ∙ ap (λ (r : Reply). r .value) is;
+        third-number = third .0;
+        third-score = third .1;
+      }
+
+  for-alike : SheetSays 0 (f 4 (ab-cd ++ ab-cd) 2 two-records three-entries) (after 4 (ab-cd ++ ab-cd) 2 two-records three-entries)
+  for-alike = says (ab-cd ++ ab-cd) 0 alike-handed (score-alike rooting)
+
+  for-unlike : SheetSays 2 (f 4 (ab-cd ++ ac-bd) 2 two-records three-entries) (after 4 (ab-cd ++ ac-bd) 2 two-records three-entries)
+  for-unlike = says (ab-cd ++ ac-bd) 2 unlike-handed (score-unlike rooting)
+
+  -- "one that turns everything away"
+  pub sheet-does-not-refuse-all :
+      ((n : ℕ) (genes : List ℕ) (count : ℕ) (records : List ℕ) (entries : List Entry) → ToSheet n genes count records entries
+      → f n genes count records entries .number ≡ 0 → ⊥) → ⊥
+  sheet-does-not-refuse-all away = away 4 (ab-cd ++ ab-cd) 2 two-records three-entries (to-sheet (ab-cd ++ ab-cd) alike-handed) (for-alike .fine)
+
+  -- "the last entry left" (#107), as by one that does nothing
+  pub sheet-fills-the-last-entry :
+      ((n : ℕ) (genes : List ℕ) (count : ℕ) (records : List ℕ) (entries : List Entry) (e d : Entry) → ToSheet n genes count records (entries ++ (e ∷ []))
+      → getD (after n genes count records (entries ++ (e ∷ []))) (length entries) d ≡ e) → ⊥
+  sheet-fills-the-last-entry leaves =
+      omega (
+        arith,
+        for-alike .third-number,
+        ap (λ (e : Entry). e .number) (leaves 4 (ab-cd ++ ab-cd) 2 two-records first-entries (at-entry 32) (at-entry 0) (to-sheet (ab-cd ++ ab-cd) alike-handed)),
+      )
+
+  -- "an entry's 12 that stops the sheet" (#107): those behind it are left
+  pub sheet-goes-on-behind-a-twelve :
+      ((n : ℕ) (genes : List ℕ) (count : ℕ) (records : List ℕ) (entries : List Entry) → ToSheet n genes count records entries → (i j : ℕ) (d : Entry)
+      → getD (after n genes count records entries) i d .number ≡ 12 → i < j → getD (after n genes count records entries) j d ≡ getD entries j d) → ⊥
+  sheet-goes-on-behind-a-twelve stops =
+      omega (
+        arith,
+        for-alike .second-number,
+        ap (λ (e : Entry). e .number)
+            (stops 4 (ab-cd ++ ab-cd) 2 two-records three-entries (to-sheet (ab-cd ++ ab-cd) alike-handed) 0 1 (at-entry 0) (for-alike .first-number) (omega arith)),
+      )
+
+  -- a score kept from the entry before, where an entry gets 12
+  pub sheet-keeps-no-score :
+      ((n : ℕ) (genes : List ℕ) (count : ℕ) (records : List ℕ) (entries : List Entry) → ToSheet n genes count records entries → (i : ℕ) (d : Entry)
+      → getD (after n genes count records entries) (i + 1) d .number ≡ 12
+      → getD (after n genes count records entries) (i + 1) d .score ≡ getD (after n genes count records entries) i d .score) → ⊥
+  sheet-keeps-no-score keeps =
+      omega (
+        arith,
+        for-unlike .third-score,
+        for-unlike .second-score,
+        keeps 4 (ab-cd ++ ac-bd) 2 two-records three-entries (to-sheet (ab-cd ++ ac-bd) unlike-handed) 1 (at-entry 0) (for-unlike .third-number),
+      )
+
+  -- "the position counted in numbers in place of records" (#107)
+  pub sheet-does-not-count-numbers :
+      ((n : ℕ) (genes : List ℕ) (count : ℕ) (records : List ℕ) (entries : List Entry) → ToSheet n genes count records entries
+      → f n genes count records entries .number ≡ 0 → (i : ℕ) (d : Entry) → i < length entries → getD entries i d .position + 32 ≤ length records
+      → (s : Reply) → Scores rooting n genes count (take 32 (drop (getD entries i d .position) records)) s
+      → getD (after n genes count records entries) i d .number ≡ s .number) → ⊥
+  unfolding ab-cd recordOf sorted insert
+  sheet-does-not-count-numbers counts =
+      let single = replies-score rooting 4 (ab-cd ++ ab-cd) 2 ab-cd in
+      let is = score-alike rooting (single .outcome) (single .meets) in
+      let e = counts 4 (ab-cd ++ ab-cd) 2 two-records three-entries (to-sheet (ab-cd ++ ab-cd) alike-handed) (for-alike .fine) 0 (at-entry 0) (omega arith) (omega arith)
+      (single .outcome) (single .meets) in
+      omega (arith, for-alike .first-number, ap (λ (r : Reply). r .number) is, e)
+
+  -- "one that counts the first gene tree and passes over the others"
+  pub sheet-counts-every-gene-tree :
+      ((n : ℕ) (genes genes′ : List ℕ) (count : ℕ) (records : List ℕ) (entries : List Entry) → ToSheet n genes count records entries
+      → ToSheet n genes′ count records entries → take 32 genes ≡ take 32 genes′
+      → f n genes count records entries .number ≡ 0 → f n genes′ count records entries .number ≡ 0
+      → after n genes count records entries ≡ after n genes′ count records entries) → ⊥
+  unfolding ab-cd ac-bd recordOf sorted insert
+  sheet-counts-every-gene-tree first-only =
+      let e = first-only 4 (ab-cd ++ ab-cd) (ab-cd ++ ac-bd) 2 two-records three-entries (to-sheet (ab-cd ++ ab-cd) alike-handed)
+      (to-sheet (ab-cd ++ ac-bd) unlike-handed) refl (for-alike .fine) (for-unlike .fine) in
+      omega (arith, for-alike .second-score, for-unlike .second-score, ap (λ (l : List Entry). getD l 1 (at-entry 0) .score) e)
+
+  -- "one that reports an invented score": the same for all trees
+  pub sheet-has-no-invented-score :
+      (c : ℕ)
+      → ((n : ℕ) (genes : List ℕ) (count : ℕ) (records : List ℕ) (entries : List Entry) → ToSheet n genes count records entries → (i : ℕ) (d : Entry)
+      → getD (after n genes count records entries) i d .number ≡ 0 → getD (after n genes count records entries) i d .score ≡ c) → ⊥
+  sheet-has-no-invented-score c always =
+      let e = always 4 (ab-cd ++ ab-cd) 2 two-records three-entries (to-sheet (ab-cd ++ ab-cd) alike-handed) 1 (at-entry 0) (for-alike .second-number) in
+      let k = always 4 (ab-cd ++ ac-bd) 2 two-records three-entries (to-sheet (ab-cd ++ ac-bd) unlike-handed) 1 (at-entry 0) (for-unlike .second-number) in
+      omega (arith, for-alike .second-score, for-unlike .second-score, e, k)
 
 -- ---- the search with ties (#111)
 

@@ -131,3 +131,9 @@ abbrev pub PlainFault : Rooting → ℕ → List ℕ → ℕ → List ℕ → �
 PlainFault rooting n genes count allowed =
     SpeciesFault n before OverSevenFault n before CountFault count before LengthFault genes (32 * count) before LengthFault allowed (2 ^ n)
     before BehindLengths rooting n genes count allowed
+
+-- the same of a sheet of candidate trees: "First 1, 11, 12 and 15 refuse the whole call" (#107), and 19
+abbrev pub SheetFault : Rooting → ℕ → List ℕ → ℕ → ℕ → ℕ → Type 0
+SheetFault rooting n genes count =
+    SpeciesFault n before CountFault count before LengthFault genes (32 * count)
+    before RecordsFault n (recordsIn count genes) before RootingFault rooting n (recordsIn count genes)

@@ -1,9 +1,10 @@
--- What a machine can hand over to each call: bytes, numbers of sixteen, 32 and 64 bits, sizes, and slices and records of them.
-use Prim.Native.Nat.{ℕ, _^_, _<_}
+-- What a machine can hand over to each call: bytes, numbers of sixteen, 32 and 64 bits, sizes, slices and records of them, and entries of a sheet.
+use Prim.Native.Nat.{ℕ, _*_, _^_, _<_}
 use mathlib.Core.Path.{_≡_}
-use mathlib.Core.List.{List}
+use mathlib.Core.List.{List, List·Memᴰ}
 use lib.ListN.{length}
 use Rattle.trees.specs.Lists.{Among}
+use Rattle.sheet.specs.declared.Entry.{Entry}
 
 -- a size: what a `usize` holds
 abbrev pub Size : ℕ → Type 0
@@ -84,3 +85,16 @@ pub record ToPlain (n : ℕ) (genes : List ℕ) (count : ℕ) (allowed : List �
 pub record ToTie (n : ℕ) (genes : List ℕ) (count : ℕ) (allowed scores splits ties : List ℕ) : Type 0 where
   pub to-search : ToSearch n genes count allowed scores splits
   pub ties-numbers : WidestNumbers ties
+
+-- an entry of a sheet (#107): any position, and whatever stands in its number and score
+pub record AnyEntry (e : Entry) : Type 0 where
+  pub position-size : Size (e .position)
+  pub number-fits : e .number < 2 ^ 32
+  pub score-size : Size (e .score)
+
+-- for a sheet of candidate trees: any numbers for the records, and entries of 24 bytes each, which a slice holds below 2^63 bytes
+pub record ToSheet (n : ℕ) (genes : List ℕ) (count : ℕ) (records : List ℕ) (entries : List Entry) : Type 0 where
+  pub gene-trees : GeneTrees n genes count
+  pub records-numbers : Numbers records
+  pub each-entry : (e : Entry) → List·Memᴰ e entries → AnyEntry e
+  pub entries-size : 24 * length entries < 2 ^ 63

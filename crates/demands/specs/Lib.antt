@@ -14,6 +14,7 @@ pub mod Deciding
 pub mod Lots
 pub mod Ties
 pub mod Sceptic
+pub mod Sheets
 pub mod Letters
 pub mod Thresholds
 pub mod Redrawn

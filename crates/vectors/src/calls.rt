@@ -5,6 +5,7 @@ use crate::reading;
 use crate::reporting;
 use crate::scoring;
 use crate::searching;
+use crate::sheeting;
 use crate::tying;
 use crate::visiting;
 use crate::weighing;
@@ -55,6 +56,8 @@ fn run_with_genes(case: &[u8], letter: u8) {
         b'f' => searching::run(Rooting::Unrooted, case, records),
         b'E' => tying::run(Rooting::Rooted, case, records),
         b'e' => tying::run(Rooting::Unrooted, case, records),
+        b'H' => sheeting::run(Rooting::Rooted, case, records),
+        b'h' => sheeting::run(Rooting::Unrooted, case, records),
         b'L' => visiting::run(Rooting::Rooted, case, records),
         _ => visiting::run(Rooting::Unrooted, case, records),
     }
@@ -65,8 +68,8 @@ pub fn run(case: &[u8]) {
     let letter = byte(case, 0);
     match letter {
         b'J' | b'R' | b'G' | b'T' | b'W' | b'P' => run_with_text(case, letter),
-        b'K' | b'S' | b'M' | b'F' | b'E' | b'L' => run_with_genes(case, letter),
-        b'k' | b's' | b'm' | b'f' | b'e' | b'l' => run_with_genes(case, letter),
+        b'K' | b'S' | b'M' | b'F' | b'E' | b'H' | b'L' => run_with_genes(case, letter),
+        b'k' | b's' | b'm' | b'f' | b'e' | b'h' | b'l' => run_with_genes(case, letter),
         _ => show::text(b"no such call\n"),
     }
 }

@@ -8,6 +8,7 @@ mod replies;
 mod reporting;
 mod scoring;
 mod searching;
+mod sheeting;
 mod tying;
 mod visiting;
 mod weighing;

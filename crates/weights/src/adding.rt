@@ -26,7 +26,7 @@ pub fn weigh(rooting: Rooting, genes: &[u16], count: usize, a: u32) -> usize
     sum
 }
 
-// The score of a species record over count gene trees that were checked. `lineages` and `plain` call it, behind `shape`, with records that `judge_genes` has passed; the species record has passed `is_species_tree`, or `plain` has drawn it.
+// The score of a species record over count gene trees that were checked. `lineages`, `plain` and `sheet` call it, behind `shape`, with records that `judge_genes` has passed; the species record has passed `is_species_tree`, or `plain` has drawn it.
 pub fn weigh_tree(rooting: Rooting, genes: &[u16], count: usize, species: &[u16]) -> usize
     requires { ⌜ count ≤ 4096 ⌝ }
     requires { ⌜ 32 * count ≤ length (now genes) ⌝ }

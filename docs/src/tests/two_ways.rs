@@ -8,6 +8,7 @@ use reference::report::report;
 use reference::roster::{joined, names};
 use reference::search::{brute, brute_ties, search, search_ties, tables, ties_by_splits, tree, trees_over, weights, NO_TREE};
 use reference::seeded::{Seeded, Tree};
+use reference::sheet::{sheet, Entry};
 use reference::trees::{binary, clusters, largest, may_unroot, record, valid, valid_gene, whole, Record};
 use reference::writer::write;
 use reference::{Refusal, NAME, SPECIES};
@@ -857,4 +858,24 @@ fn trees_by_the_product_and_one_by_one() {
     for n in 1..=7 {
         assert_eq!(trees_over(n, &vec![1; 1 << n], (1 << n) - 1).len() as u64, counts[n - 1]);
     }
+}
+
+#[test]
+fn a_sheet_and_single_calls() {
+    let mut s = Seeded::new(26);
+    let mut gets = [0; 3];
+    for _ in 0..600 {
+        let n = 1 + s.below(8);
+        let (rooting, genes) = genes_by_rooting(&mut s, n);
+        let rivals: Vec<Record> = (0..4).map(|i| s.gene(n, i % 2 == 0)).collect();
+        let mut entries: Vec<Entry> = (0..6).map(|_| Entry { position: s.below(6), number: 5, score: 6 }).collect();
+        sheet(rooting, n, &genes.concat(), genes.len(), &rivals.concat(), &mut entries).unwrap();
+        for entry in entries {
+            let single = rivals.get(entry.position).map(|rival| score(rooting, n, &genes.concat(), genes.len(), rival));
+            let got = if entry.number == 0 { Ok(entry.score) } else { Err((entry.number, entry.score)) };
+            assert_eq!(got, single.unwrap_or(Err((12, 0))));
+            gets[[0, 12, 16].iter().position(|&number| number == entry.number).unwrap()] += 1;
+        }
+    }
+    assert!(gets.iter().all(|&times| times > 200), "{gets:?}");
 }

@@ -63,6 +63,11 @@ impl Cases {
         self.add_count(b'L', &[decimal(n), numbers(genes), decimal(count), numbers(allowed)]);
     }
 
+    pub fn sheet(&mut self, n: usize, genes: &[u16], count: usize, records: &[u16], positions: &[usize]) {
+        let positions: Vec<String> = positions.iter().map(usize::to_string).collect();
+        self.add_count(b'H', &[decimal(n), numbers(genes), decimal(count), numbers(records), positions.join(" ").into_bytes()]);
+    }
+
     pub fn report(&mut self, input: &[u8]) {
         self.add(b'P', &[escaped(input)]);
     }

@@ -5,6 +5,7 @@ mod lines;
 mod lost;
 mod plain;
 mod quotes;
+mod sheet;
 mod supports;
 mod ties;
 mod unrooted;
@@ -22,6 +23,7 @@ fn main() {
     unrooted::unrooted(&mut cases, seeded);
     ties::ties(&mut cases, seeded);
     plain::plain(&mut cases, seeded);
+    sheet::sheet(&mut cases, seeded);
     let mut out = std::io::stdout().lock();
     for line in &cases.lines {
         out.write_all(line).unwrap();
