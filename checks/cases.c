@@ -274,13 +274,17 @@ static void read_supported(void) {
     show_reading(st_read_supported(roster.at, roster.length, text.at, text.length, number(2), number(3)));
 }
 
-static void write_tree(void) {
-    Bytes roster = bytes(0), out = lent_bytes(2);
-    st_Reply r = st_write(roster.at, roster.length, record(1), out.at, out.length);
+static void show_written(st_Reply r, Bytes out) {
     show_reply(r);
     show_bytes(out);
     if (r.value > out.length) stop("a text is longer than the room for it");
     printf(" %.*s\n", (int)r.value, (const char *)out.at);
+}
+
+static void write_tree(void) {
+    Bytes roster = bytes(0), out = lent_bytes(2);
+    st_Reply r = st_write(roster.at, roster.length, record(1), out.at, out.length);
+    show_written(r, out);
 }
 
 /* A small letter: the gene trees are taken without a root. */
@@ -352,6 +356,22 @@ static void visit(void) {
     printf("\n");
 }
 
+static void check_counts(void) {
+    Bytes roster = bytes(0), text = bytes(1);
+    Numbers genes = numbers(3), splits = lent_splits(6);
+    Scores scores = lent_scores(5);
+    show_reply(st_check(roster.at, roster.length, text.at, text.length, number(2), genes.at, genes.length, number(4), scores.at, scores.length, splits.at, splits.length));
+    show_tables(scores, splits);
+    printf("\n");
+}
+
+static void write_counts(void) {
+    Bytes roster = bytes(0), out = lent_bytes(4);
+    Numbers genes = numbers(1);
+    st_Reply r = st_write_counts(roster.at, roster.length, genes.at, genes.length, number(2), record(3), out.at, out.length);
+    show_written(r, out);
+}
+
 /* The program has no C name: it is run on the input, and writes its report where the answers go. */
 static void run_program(void) {
     Bytes input = bytes(0);
@@ -367,7 +387,7 @@ static const struct {
     void (*run)(void);
 } calls[] = {
     {'J', judge}, {'R', read_species}, {'G', read_gene}, {'T', read_supported}, {'W', write_tree}, {'K', weigh}, {'S', score}, {'M', mark}, {'F', search}, {'E', search_ties}, {'L', visit}, {'H', fill_sheet},
-    {'k', weigh}, {'s', score}, {'m', mark}, {'f', search}, {'e', search_ties}, {'l', visit}, {'h', fill_sheet}, {'P', run_program},
+    {'k', weigh}, {'s', score}, {'m', mark}, {'f', search}, {'e', search_ties}, {'l', visit}, {'h', fill_sheet}, {'C', check_counts}, {'O', write_counts}, {'P', run_program},
 };
 
 static void run(void) {

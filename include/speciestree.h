@@ -100,6 +100,18 @@ st_Tied st_search_ties(size_t n, const uint16_t *genes, size_t genes_length, siz
    trees on at most seven species, else 17; no table is lent */
 st_Found st_plain(size_t n, const uint16_t *genes, size_t genes_length, size_t count, const uint8_t *allowed, size_t allowed_length);
 
+/* Is the text, from start on, a binary tree on the roster with the weight of its cluster behind every node, as `:` and digits alone?
+   value: the distance of its score above the least one over all clusters; both tables are filled as by st_search with all clusters
+   allowed. 23 just after the first node to end whose count is missing, fractional or wrong, or has a second number behind it; on a
+   refusal both tables are as they were */
+st_Reply st_check(const uint8_t *line, size_t line_length, const uint8_t *text, size_t text_length, size_t start,
+                  const uint16_t *genes, size_t genes_length, size_t count, uint32_t *scores, size_t scores_length,
+                  uint16_t *splits, size_t splits_length);
+
+/* value: the length of the species tree's text with these counts, 744 bytes at the most, which st_check always passes */
+st_Reply st_write_counts(const uint8_t *line, size_t line_length, const uint16_t *genes, size_t genes_length, size_t count,
+                         st_Record species, uint8_t *out, size_t out_length);
+
 /* The same seven for gene trees without a root: the clusters of a gene record are its own and the complement of each but the whole, so
    that it does not matter where the root was drawn. A gene tree has to have every species, and each inner node two children, the root
    two or three; else 19 */

@@ -3,7 +3,7 @@ use crate::lineages::Rooting;
 use crate::reader::Kind;
 use crate::sheet::{sheet, Entry};
 use crate::trees::Record;
-use crate::{lineages, plain, reader, report, roster, search, writer, Refusal};
+use crate::{counts, lineages, plain, reader, report, roster, search, writer, Refusal};
 use std::fmt::Write;
 
 /// What lent buffers hold before a call.
@@ -123,6 +123,19 @@ fn found(line: &mut String, answer: Result<(usize, Record), Refusal>) {
     }
 }
 
+/// A text's length, the fingerprint of the bytes that it was written into, and the text.
+fn written(line: &mut String, out: &[u8], answer: &Result<usize, Refusal>) {
+    reply(line, answer);
+    write!(line, " {} ", mixed(out)).unwrap();
+    line.push_str(std::str::from_utf8(&out[..answer.unwrap_or(0)]).unwrap());
+}
+
+fn checked(line: &mut String, field: &[&[u8]]) {
+    let (mut scores, mut splits) = (vec![SCORE; number(field[5])], vec![SPLIT; number(field[6])]);
+    reply(line, &counts::check(&bytes(field[0]), &bytes(field[1]), number(field[2]), &numbers(field[3]), number(field[4]), &mut scores, &mut splits));
+    write!(line, " : {} {}", mixed(&scores), mixed(&splits)).unwrap();
+}
+
 fn searched(line: &mut String, rooting: Rooting, field: &[&[u8]]) {
     let (mut scores, mut splits) = (vec![SCORE; number(field[4])], vec![SPLIT; number(field[5])]);
     found(line, search::search(rooting, number(field[0]), &numbers(field[1]), number(field[2]), &flags(field[3]), &mut scores, &mut splits));
@@ -173,9 +186,7 @@ pub fn answer(case: &[u8]) -> Vec<u8> {
         b'W' => {
             let mut out = vec![BYTE; number(field[2])];
             let answer = writer::write(&bytes(field[0]), &record(field[1]), &mut out);
-            reply(&mut line, &answer);
-            write!(line, " {} ", mixed(&out)).unwrap();
-            line.push_str(std::str::from_utf8(&out[..answer.unwrap_or(0)]).unwrap());
+            written(&mut line, &out, &answer);
         }
         b'K' | b'k' => reply(&mut line, &lineages::weight(rooting, number(field[0]), &numbers(field[1]), number(field[2]), number(field[3]))),
         b'S' | b's' => reply(&mut line, &lineages::score(rooting, number(field[0]), &numbers(field[1]), number(field[2]), &record(field[3]))),
@@ -189,6 +200,12 @@ pub fn answer(case: &[u8]) -> Vec<u8> {
         b'E' | b'e' => searched_with_ties(&mut line, rooting, &field),
         b'L' | b'l' => found(&mut line, plain::plain(rooting, number(field[0]), &numbers(field[1]), number(field[2]), &flags(field[3]))),
         b'H' | b'h' => filled(&mut line, rooting, &field),
+        b'C' => checked(&mut line, &field),
+        b'O' => {
+            let mut out = vec![BYTE; number(field[4])];
+            let answer = counts::write_counts(&bytes(field[0]), &numbers(field[1]), number(field[2]), &record(field[3]), &mut out);
+            written(&mut line, &out, &answer);
+        }
         b'P' => return report::report(&bytes(field[0])),
         other => panic!("no call is named {}", other as char),
     }

@@ -1,5 +1,6 @@
 //! A straightforward version of the whole library, written from document 01 and the requests of document 02 that have landed: what the proved one is compared with.
 pub mod cases;
+pub mod counts;
 pub mod label;
 pub mod lineages;
 pub mod plain;

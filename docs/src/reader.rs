@@ -21,6 +21,21 @@ pub fn thousandths(number: &[u8]) -> Option<usize> {
     Some([whole, decimals, zeros].concat().iter().fold(0, |value, b| value * 10 + (b - b'0') as usize))
 }
 
+/// A node as it was drawn, at its end: its cluster, the offset behind its name (a leaf's) or its closing parenthesis, and what stands behind it.
+pub struct Node {
+    pub cluster: u16,
+    pub behind: usize,
+    pub numbers: Numbers,
+}
+
+/// The numbers behind a node: the text of d, where there is one, whether a b follows, and the value of b.
+#[derive(Default)]
+pub struct Numbers {
+    pub distance: Option<Vec<u8>>,
+    pub supported: bool,
+    support: Option<usize>,
+}
+
 struct Reader<'a> {
     text: &'a [u8],
     at: usize,
@@ -28,6 +43,7 @@ struct Reader<'a> {
     threshold: Threshold,
     seen: u32,
     clusters: Vec<u16>,
+    nodes: Vec<Node>,
 }
 
 type Read<T> = Result<T, Refusal>;
@@ -86,20 +102,24 @@ impl Reader<'_> {
         }
     }
 
-    /// `:d`, `:d:b` or `::b`, where one follows: the support, where there is one with a value.
-    fn behind(&mut self) -> Read<Option<usize>> {
+    /// `:d`, `:d:b` or `::b`, where one follows.
+    fn numbers(&mut self) -> Read<Numbers> {
+        let mut numbers = Numbers::default();
         if !self.colon() {
-            return Ok(None);
+            return Ok(numbers);
         }
-        if self.colon() {
-            return self.support();
+        if !self.colon() {
+            self.next()?;
+            let from = self.at;
+            self.number()?;
+            numbers.distance = Some(self.text[from..self.at].to_vec());
+            if !self.colon() {
+                return Ok(numbers);
+            }
         }
-        self.next()?;
-        self.number()?;
-        if self.colon() {
-            return self.support();
-        }
-        Ok(None)
+        numbers.supported = true;
+        numbers.support = self.support()?;
+        Ok(numbers)
     }
 
     /// The value of the b that follows; 18 where a threshold is given and there is none.
@@ -144,27 +164,29 @@ impl Reader<'_> {
 
     fn node(&mut self, open: usize) -> Read<u16> {
         let first = self.next()?;
-        let cluster = if label::begins(first) {
-            self.leaf()?
+        let (cluster, behind) = if label::begins(first) {
+            (self.leaf()?, self.at)
         } else if first == b'(' {
             if open == OPEN {
                 return Err((8, self.at));
             }
             self.at += 1;
             let joined = self.list(open + 1)?;
+            let behind = self.at;
             self.blanks();
             if self.at < self.text.len() && label::begins(self.text[self.at]) {
                 self.label()?;
             }
-            joined
+            (joined, behind)
         } else {
             return Err((3, self.at));
         };
-        let support = self.behind()?;
+        let numbers = self.numbers()?;
         let (inner, root) = (first == b'(', open == 0);
-        if !(inner && !root && self.weak(support)) {
+        if !(inner && !root && self.weak(numbers.support)) {
             self.clusters.push(cluster);
         }
+        self.nodes.push(Node { cluster, behind, numbers });
         Ok(cluster)
     }
 
@@ -192,6 +214,11 @@ impl Reader<'_> {
 
 /// The record of the tree that begins at `start`, and the offset behind its `;`.
 pub fn read(kind: Kind, threshold: Threshold, line: &[u8], text: &[u8], start: usize) -> Result<(Record, usize), Refusal> {
+    read_nodes(kind, threshold, line, text, start).map(|(record, next, _)| (record, next))
+}
+
+/// The same with the nodes as they were drawn, in the order in which they end.
+pub fn read_nodes(kind: Kind, threshold: Threshold, line: &[u8], text: &[u8], start: usize) -> Result<(Record, usize, Vec<Node>), Refusal> {
     let names = names(line)?;
     if text.len() > TEXT {
         return Err((2, TEXT));
@@ -199,7 +226,7 @@ pub fn read(kind: Kind, threshold: Threshold, line: &[u8], text: &[u8], start: u
     if start > text.len() {
         return Err((10, text.len()));
     }
-    let mut reader = Reader { text, at: start, names: &names, threshold, seen: 0, clusters: Vec::new() };
+    let mut reader = Reader { text, at: start, names: &names, threshold, seen: 0, clusters: Vec::new(), nodes: Vec::new() };
     let cluster = reader.node(0)?;
     if reader.next()? != b';' {
         return Err((3, reader.at));
@@ -207,5 +234,5 @@ pub fn read(kind: Kind, threshold: Threshold, line: &[u8], text: &[u8], start: u
     if kind == Kind::Species && cluster != whole(names.len()) {
         return Err((9, reader.at));
     }
-    Ok((record(&reader.clusters), reader.at + 1))
+    Ok((record(&reader.clusters), reader.at + 1, reader.nodes))
 }

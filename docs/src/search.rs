@@ -173,7 +173,7 @@ fn checked(rooting: Rooting, n: usize, genes: &[u16], count: usize, allowed: &[u
     Ok(weights(rooting, n, &genes))
 }
 
-fn fill(n: usize, weights: &[u32], allowed: &[u8], scores: &mut [u32], splits: &mut [u16]) {
+pub fn fill(n: usize, weights: &[u32], allowed: &[u8], scores: &mut [u32], splits: &mut [u16]) {
     let (s, p) = if n <= 6 { brute(n, weights, allowed) } else { tables(n, weights, allowed) };
     scores[..1 << n].copy_from_slice(&s);
     splits[..1 << n].copy_from_slice(&p);

@@ -11,22 +11,29 @@ fn children(list: &[u16], a: u16) -> Vec<u16> {
     found
 }
 
-fn node(names: &[Vec<u8>], list: &[u16], a: u16, text: &mut Vec<u8>) {
+/// Writes a node's text, and behind each node the note that it gets.
+fn node(names: &[Vec<u8>], list: &[u16], a: u16, note: &dyn Fn(u16) -> Vec<u8>, text: &mut Vec<u8>) {
     if a.count_ones() == 1 {
         text.extend(label::written(&names[a.trailing_zeros() as usize]));
-        return;
+    } else {
+        for (i, child) in children(list, a).into_iter().enumerate() {
+            text.push(if i == 0 { b'(' } else { b',' });
+            node(names, list, child, note, text);
+        }
+        text.push(b')');
     }
-    for (i, child) in children(list, a).into_iter().enumerate() {
-        text.push(if i == 0 { b'(' } else { b',' });
-        node(names, list, child, text);
-    }
-    text.push(b')');
+    text.extend(note(a));
 }
 
 /// The text of a valid gene record on a good roster: that of the tree on its largest cluster. Species records are such records too.
 pub fn text(names: &[Vec<u8>], r: &Record) -> Vec<u8> {
+    noted(names, r, &|_| Vec::new())
+}
+
+/// The same with a note behind each node.
+pub fn noted(names: &[Vec<u8>], r: &Record, note: &dyn Fn(u16) -> Vec<u8>) -> Vec<u8> {
     let mut written = Vec::new();
-    node(names, clusters(r), largest(r), &mut written);
+    node(names, clusters(r), largest(r), note, &mut written);
     written.push(b';');
     written
 }

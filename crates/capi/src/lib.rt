@@ -19,6 +19,7 @@ ghost use Rattle.sheet.specs.Promise.{Sheets};
 ghost use Rattle.search.specs.Promise.{Finds};
 ghost use Rattle.search.specs.TiesPromise.{FindsTies};
 ghost use Rattle.plain.specs.Promise.{FindsPlainly};
+ghost use Rattle.counts.specs.Promise.{Checks, WritesCounts};
 
 // Judges a roster line; the value is how many species it has.
 #[no_mangle]
@@ -236,4 +237,34 @@ pub extern "C" fn st_plain_unrooted(n: usize, genes: &[u16], count: usize, allow
     ensures { λ r. ⌜ FindsPlainly Unrooted n (now (genes .entry)) count (now (allowed .entry)) r ⌝ }
 {
     plain::plain(Rooting::Unrooted, n, genes, count, allowed)
+}
+
+// Checks a species text that came with branch counts against the gene trees; the value is the distance of its score above the least one, and both tables are filled.
+#[no_mangle]
+pub extern "C" fn st_check(
+    line: &[u8],
+    text: &[u8],
+    start: usize,
+    genes: &[u16],
+    count: usize,
+    scores: &mut [u32],
+    splits: &mut [u16],
+) -> Reply
+    ensures { λ r. ⌜ Checks (now (line .entry)) (now (text .entry)) start (now (genes .entry)) count (now (scores .entry)) (now (splits .entry)) r (now (scores .exit)) (now (splits .exit)) ⌝ }
+{
+    counts::check(line, text, start, genes, count, scores, splits)
+}
+
+// Writes the text of a species tree with the weight of its cluster behind each node into `out`; the value is its length.
+#[no_mangle]
+pub extern "C" fn st_write_counts(
+    line: &[u8],
+    genes: &[u16],
+    count: usize,
+    species: Record,
+    out: &mut [u8],
+) -> Reply
+    ensures { λ r. ⌜ WritesCounts (now (line .entry)) (now (genes .entry)) count (species .numbers) (now (out .entry)) r (now (out .exit)) ⌝ }
+{
+    counts::write_counts(line, genes, count, species, out)
 }

@@ -101,7 +101,7 @@ pub struct Numeral {
     pub next: usize,
 }
 
-// The decimal number at `at`; 0 where no digit stands there.
+// The decimal number at `at`; 0 where no digit stands there. `vectors` calls it, within a field.
 pub fn decimal(s: &[u8], at: usize) -> Numeral
     requires { ⌜ at ≤ length (now s) ⌝ }
     ensures { λ r. ⌜ (at ≤ r .next) × (r .next ≤ length (now (s .entry))) ⌝ }

@@ -4,7 +4,7 @@ use mathlib.Core.Path.{_≡_, refl, sym, ap, _∙_, subst}
 use mathlib.Core.Logic.{_⊎_, inl, inr, _↔_}
 use mathlib.Core.Bool.{Bool, true, false, _||_, false≢true}
 use mathlib.Core.List.{List, [], _∷_, map, List·Memᴰ, List·Memᴰ·head as here, List·Memᴰ·tail as there, List·Memᴰ·not-nil, List·Memᴰ·cases-cons}
-use lib.ListN.{getD, replicate, getD-replicate}
+use lib.ListN.{getD}
 use lib.Dec.{eqb}
 use borrow.Author.Tests.{eqb-true, eq-eqb}
 use Rattle.clusters.specs.Sets.{whole, size}
@@ -22,6 +22,7 @@ use Rattle.lineages.specs.Promise.{marks}
 use Rattle.trees.proofs.Booleans.{either, or-left, or-right}
 use Rattle.trees.proofs.UpTo.{map-upTo}
 use Rattle.terms.specs.Allowed.{allowedIn}
+use Rattle.terms.proofs.AllMarked.{all-allowed}
 use Rattle.outcomes.specs.Outcome.{allowedBy}
 use Rattle.demands.specs.GeneTrees.{RecordsOf, clustersShown}
 use Rattle.demands.specs.Input.{Allows}
@@ -82,12 +83,6 @@ marked-byte rooting n genes a h =
 
 -- ---- the modes
 
-every-byte : (n a : ℕ) → a < 2 ^ n → allowedIn n (replicate (2 ^ n) 1) a ≡ true
-unfolding allowedIn
-every-byte n a below =
-    or-right (eqb (size a) 1 || eqb a (whole n)) (eqb (getD (replicate (2 ^ n) 1) a 0) 1)
-    (eq-eqb (getD (replicate (2 ^ n) 1) a 0) 1 (getD-replicate (2 ^ n) a 1 0 below))
-
 module _ (rooting : Rooting) {n : ℕ} {genes : List (List ℕ)} {trees : List Tree} (r : RecordsOf n genes trees) (a : ℕ) (below : a < 2 ^ n) where
   pub byte-allows : (all : Bool) → allowedIn n (allowedBy all rooting n genes) a ≡ true → Allows n rooting trees all a
   unfolding allowedIn
@@ -108,7 +103,7 @@ module _ (rooting : Rooting) {n : ℕ} {genes : List (List ℕ)} {trees : List T
   -- and the other way
   pub allows-byte : (all : Bool) → Allows n rooting trees all a → allowedIn n (allowedBy all rooting n genes) a ≡ true
   unfolding allowedIn
-  allows-byte true h = every-byte n a below
+  allows-byte true h = all-allowed n a below
   allows-byte false (lone k) =
       or-left (eqb (size a) 1 || eqb a (whole n)) (eqb (getD (marks rooting n genes) a 0) 1) (or-left (eqb (size a) 1) (eqb a (whole n)) (eq-eqb (size a) 1 k))
   allows-byte false (entire k) =

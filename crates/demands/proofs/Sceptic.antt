@@ -30,8 +30,8 @@ use Rattle.plain.specs.Promise.{plainTest, plainTests, FindsPlainly}
 use Rattle.plain.specs.Work.{ShapeJudged}
 use Rattle.plain.proofs.Visited.{roster-visited}
 use Rattle.plain.proofs.Judging.{many-species as over-sixteen, over-seven, no-shape, short, plain-shape, long-told}
-use Rattle.solver.specs.Work.{LongEnough}
 use Rattle.search.specs.Promise.{searchTests, Finds}
+use Rattle.search.specs.Work.{LongEnough}
 use Rattle.search.specs.Candidates.{Accepted, Candidate, EarlierRecord, SameAllowed}
 use Rattle.search.proofs.Accepted.{none-gives}
 use Rattle.search.proofs.Finding.{finds-shape, finds-short}

@@ -35,7 +35,7 @@ use Rattle.reader.specs.declared.Reading.{Reading}
 use Rattle.reader.specs.Accepted.{MayHave, Draws}
 use Rattle.reader.proofs.Accepts.{accepted-derives, derives-accepted, draws-one}
 use Rattle.reader.proofs.Replies.{draws-gene, reads-zero}
-use Rattle.texts.specs.Writing.{nodeText, treeText, written}
+use Rattle.texts.specs.Writing.{nodeText, written}
 use Rattle.writer.specs.Promise.{Writes}
 use Rattle.writer.proofs.RosterNames.{good-names}
 use Rattle.texts.proofs.Lengths.{text-most}
@@ -117,7 +117,7 @@ read-is-written kind threshold line text start q out r after p z room w =
 
 -- a text that was written has a last byte, its `;`
 written-ends : (ns : List (List ℕ)) (r rest : List ℕ) → (1 ≤ length (written ns r)) × (getD (written ns r ++ rest) (length (written ns r) - 1) 0 ≡ 59)
-unfolding written treeText
+unfolding written nodeText
 written-ends ns r rest =
     let front = nodeText ns (drawn (listed r) (largest r)) in
     let long = length-append front (59 ∷ []) in

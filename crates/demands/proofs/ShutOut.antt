@@ -818,7 +818,8 @@ module _ (rooting : Rooting) (f : ℕ → List ℕ → ℕ → List ℕ → List
 
   -- a score kept from the entry before, where an entry gets 12
   pub sheet-keeps-no-score :
-      ((n : ℕ) (genes : List ℕ) (count : ℕ) (records : List ℕ) (entries : List Entry) → ToSheet n genes count records entries → (i : ℕ) (d : Entry)
+      ((n : ℕ) (genes : List ℕ) (count : ℕ) (records : List ℕ) (entries : List Entry) → ToSheet n genes count records entries
+      → f n genes count records entries .number ≡ 0 → (i : ℕ) (d : Entry) → i + 1 < length entries
       → getD (after n genes count records entries) (i + 1) d .number ≡ 12
       → getD (after n genes count records entries) (i + 1) d .score ≡ getD (after n genes count records entries) i d .score) → ⊥
   sheet-keeps-no-score keeps =
@@ -826,7 +827,8 @@ module _ (rooting : Rooting) (f : ℕ → List ℕ → ℕ → List ℕ → List
         arith,
         for-unlike .third-score,
         for-unlike .second-score,
-        keeps 4 (ab-cd ++ ac-bd) 2 two-records three-entries (to-sheet (ab-cd ++ ac-bd) unlike-handed) 1 (at-entry 0) (for-unlike .third-number),
+        keeps 4 (ab-cd ++ ac-bd) 2 two-records three-entries (to-sheet (ab-cd ++ ac-bd) unlike-handed) (for-unlike .fine) 1 (at-entry 0) (omega arith)
+            (for-unlike .third-number),
       )
 
   -- "the position counted in numbers in place of records" (#107)
@@ -858,11 +860,14 @@ module _ (rooting : Rooting) (f : ℕ → List ℕ → ℕ → List ℕ → List
   -- "one that reports an invented score": the same for all trees
   pub sheet-has-no-invented-score :
       (c : ℕ)
-      → ((n : ℕ) (genes : List ℕ) (count : ℕ) (records : List ℕ) (entries : List Entry) → ToSheet n genes count records entries → (i : ℕ) (d : Entry)
+      → ((n : ℕ) (genes : List ℕ) (count : ℕ) (records : List ℕ) (entries : List Entry) → ToSheet n genes count records entries
+      → f n genes count records entries .number ≡ 0 → (i : ℕ) (d : Entry) → i < length entries
       → getD (after n genes count records entries) i d .number ≡ 0 → getD (after n genes count records entries) i d .score ≡ c) → ⊥
   sheet-has-no-invented-score c always =
-      let e = always 4 (ab-cd ++ ab-cd) 2 two-records three-entries (to-sheet (ab-cd ++ ab-cd) alike-handed) 1 (at-entry 0) (for-alike .second-number) in
-      let k = always 4 (ab-cd ++ ac-bd) 2 two-records three-entries (to-sheet (ab-cd ++ ac-bd) unlike-handed) 1 (at-entry 0) (for-unlike .second-number) in
+      let e = always 4 (ab-cd ++ ab-cd) 2 two-records three-entries (to-sheet (ab-cd ++ ab-cd) alike-handed) (for-alike .fine) 1 (at-entry 0) (omega arith)
+      (for-alike .second-number) in
+      let k = always 4 (ab-cd ++ ac-bd) 2 two-records three-entries (to-sheet (ab-cd ++ ac-bd) unlike-handed) (for-unlike .fine) 1 (at-entry 0) (omega arith)
+      (for-unlike .second-number) in
       omega (arith, for-alike .second-score, for-unlike .second-score, e, k)
 
 -- ---- the search with ties (#111)

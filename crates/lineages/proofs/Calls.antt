@@ -29,14 +29,14 @@ genesThen rooting n genes count rest = recordsTest n (recordsIn count genes) ∷
 
 -- ---- replies
 
-refused-reply : {v : Verdict} (w number : ℕ) {place : ℕ} → v ≡ said number place → (number ≡ 0 → ⊥) → refusal number place ≡ replyOf v w
+pub refused-reply : {v : Verdict} (w number : ℕ) {place : ℕ} → v ≡ said number place → (number ≡ 0 → ⊥) → refusal number place ≡ replyOf v w
 refused-reply w number {place} e f = rw e (go number f)
   where
     go : (k : ℕ) → (k ≡ 0 → ⊥) → refusal k place ≡ replyOf (said k place) w
     go zero f = absurd (f refl)
     go (suc k) f = refl
 
-done-reply : {v : Verdict} (w : ℕ) → v ≡ said 0 0 → done w ≡ replyOf v w
+pub done-reply : {v : Verdict} (w : ℕ) → v ≡ said 0 0 → done w ≡ replyOf v w
 done-reply w e = rw e
 
 -- ---- 15 and 19

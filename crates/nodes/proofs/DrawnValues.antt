@@ -28,7 +28,7 @@ use Rattle.nodes.specs.Grammar.Text.{text as ended-text}
 use Rattle.nodes.specs.Reading.{leafNew, closingBy, closing}
 use Rattle.nodes.specs.Worth.{behindOf, distanceValue, supportValue, Worth}
 use Rattle.nodes.proofs.Answers.{andThen-assoc}
-use Rattle.nodes.proofs.Derivations.{two-wanted, Steps, over-node}
+use Rattle.nodes.proofs.Derivations.{two-wanted, over-node}
 use Rattle.nodes.proofs.Scanners.{FitTree, FitForest, fits-leaf, fits-node, fits-last, fits-more}
 
 -- what stands behind a node was read, and the node was drawn with it
@@ -102,23 +102,27 @@ numbers-sized given names (support blanks b) = (inl refl, inr (colon-sized (λ w
 abbrev SizedBehind : Behind → Type 0
 SizedBehind b = BothSized (b .distance) (b .support)
 
-sized-steps :
-    (given : Bool) (names : List (List ℕ)) → Steps (strict given names) (λ k s t rest. FitTree SizedBehind t) (λ k s f rest. FitForest SizedBehind f)
-sized-steps given names =
-    record {
+-- what holds of all numbers that may stand behind a node holds behind each node of the tree that a text draws
+pub drawn-fits :
+    (given : Bool) (names : List (List ℕ)) (Fits : Behind → Type 0)
+    → ((w d b s rest : List ℕ) → Numbers (strict given names) d b s rest → Fits (record { name = w; distance = d; support = b }))
+    → {k : ℕ} {s : List ℕ} {t : Tree} {rest : List ℕ} → Text (strict given names) k s t rest → FitTree Fits t
+drawn-fits given names Fits numbers (ended-text d ends) =
+    over-node (strict given names) (λ k s t rest. FitTree Fits t) (λ k s f rest. FitForest Fits f)
+    (record {
       at-leaf = λ k i w d b s s₁ s₂ rest gap r known behind.
-          fits-leaf SizedBehind i (record { name = []; distance = d; support = b }) (numbers-sized given names behind);
+          fits-leaf Fits i (record { name = []; distance = d; support = b }) (numbers [] d b s₂ rest behind);
       at-inner = λ k t f w d b s s₁ s₂ s₃ s₄ s₅ rest bl first p comma others q inner behind.
-          fits-node SizedBehind t f (record { name = w; distance = d; support = b }) p q (numbers-sized given names behind);
+          fits-node Fits t f (record { name = w; distance = d; support = b }) p q (numbers w d b s₅ rest behind);
       at-single = λ k t w d b s s₁ s₂ s₃ s₄ rest enough bl only p closes inner behind. absurd (two-wanted enough);
-      at-last = λ k t s s₁ rest only p closes. fits-last SizedBehind t p;
-      at-more = λ k t f s s₁ s₂ rest first p comma others q. fits-more SizedBehind t f p q;
-    }
+      at-last = λ k t s s₁ rest only p closes. fits-last Fits t p;
+      at-more = λ k t f s s₁ s₂ rest first p comma others q. fits-more Fits t f p q;
+    })
+    d
 
 -- "A number of up to three decimals now yields whole thousandths, .., in everything that reads tree text, a longer one no value" (#113):
 -- so do both numbers behind each node of the tree that a text draws, where they are written
 pub drawn-sized :
     (given : Bool) (names : List (List ℕ)) {k : ℕ} {s : List ℕ} {t : Tree} {rest : List ℕ} → Text (strict given names) k s t rest
     → (u : Tree) → List·Memᴰ u (allNodes t) → BothSized (behindOf u .distance) (behindOf u .support)
-drawn-sized given names (ended-text d ends) =
-    over-node (strict given names) (λ k s t rest. FitTree SizedBehind t) (λ k s f rest. FitForest SizedBehind f) (sized-steps given names) d
+drawn-sized given names d = drawn-fits given names SizedBehind (λ w d b s rest behind. numbers-sized given names behind) d

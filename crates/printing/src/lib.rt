@@ -26,8 +26,8 @@ pub fn word(out: &mut [u8], at: usize, word: &[u8]) -> usize
     at + i
 }
 
-// Puts a number in decimal digits behind the first `at` bytes, and answers where it ends.
-fn decimal(out: &mut [u8], at: usize, x: usize) -> usize
+// Puts a number in decimal digits behind the first `at` bytes, and answers where it ends. `texts` calls it too, where there is room for the digits.
+pub fn decimal(out: &mut [u8], at: usize, x: usize) -> usize
     requires { ⌜ at + length (Words·decimal x) ≤ length (now out) ⌝ }
     ensures { λ end. ⌜ Put (now (out .entry)) at (Words·decimal x) end (now (out .exit)) ⌝ }
 {

@@ -17,9 +17,10 @@ use Rattle.nodes.specs.Core.{Holds}
 use Rattle.tokens.specs.Supports.{isGiven}
 use Rattle.tokens.specs.declared.answer.Threshold.{Threshold}
 use Rattle.reader.specs.Work.{treeAnswer, ReadsRecord}
-use Rattle.reader.specs.Promise.{textMost, needed, readingOf, answerTo, Reads}
+use Rattle.reader.specs.Promise.{textMost, needed, readingOf, answerTo, Reads, Stores}
 use Rattle.reader.specs.declared.Kind.{Kind}
 use Rattle.reader.specs.declared.Reading.{Reading}
+use Rattle.reader.proofs.TreeWays.{refused-stores}
 
 -- the table of a good roster has the line's names
 pub holds-names :
@@ -31,34 +32,48 @@ holds-names line roster judged good =
       finds = λ s short. rw (g .1, g .2) (table-finds speciesMost line (g .0) s short);
     }
 
-module _ (kind : Kind) (threshold : Threshold) (line text : List ℕ) (start : ℕ) (roster : Roster) (judged : roster ≡ rosterOf speciesMost line) (r : Reading) where
-  -- "1 | roster faulty"
-  pub roster-refused :
-      (roster .number ≡ 0 → ⊥) → r ≡ readingOf threshold start (refused (roster .number) (roster .place)) → Reads kind threshold line text start r
-  unfolding Reads answerTo
-  roster-refused faulted is =
-      let f = read-faulty speciesMost line roster judged faulted in
-      rw (f .0) (rw (f .1, f .2) at is)
+-- the reading is what is answered, and where a tree is, its clusters stand in the table
+abbrev pub ReadsInto : Kind → Threshold → List ℕ → List ℕ → ℕ → List ℕ → Reading → Type 0
+ReadsInto kind threshold line text start found r = Reads kind threshold line text start r × Stores threshold (answerTo kind threshold line text start) found
 
-  module _ (good : roster .number ≡ 0) where
-    -- "2 | text over 65,536 bytes"
-    pub long-refused : textMost < length text → r ≡ readingOf threshold start (refused 2 textMost) → Reads kind threshold line text start r
-    unfolding Reads answerTo
-    long-refused h is = rw (read-good speciesMost line roster judged good .0, lt-leb (length text) textMost h) is
+module _
+    (kind : Kind) (threshold : Threshold) (line text : List ℕ) (start : ℕ) (roster : Roster) (judged : roster ≡ rosterOf speciesMost line) (r : Reading)
+    (found : List ℕ)
+  where
+    refuses :
+        (number place : ℕ) → answerTo kind threshold line text start ≡ refused number place → r ≡ readingOf threshold start (refused number place)
+        → ReadsInto kind threshold line text start found r
+    unfolding Reads
+    refuses number place answered is = (rw answered is, rw answered (refused-stores threshold number place found))
 
-    module _ (short : length text ≤ textMost) where
-      -- "A start beyond the text gives 10"
-      pub start-refused : length text < start → r ≡ readingOf threshold start (refused 10 (length text)) → Reads kind threshold line text start r
-      unfolding Reads answerTo
-      start-refused h is =
-          rw (read-good speciesMost line roster judged good .0, le-leb (length text) textMost short, lt-leb start (length text) h) is
+    -- "1 | roster faulty"
+    pub roster-refused :
+        (roster .number ≡ 0 → ⊥) → r ≡ readingOf threshold start (refused (roster .number) (roster .place)) → ReadsInto kind threshold line text start found r
+    unfolding answerTo
+    roster-refused faulted is =
+        let f = read-faulty speciesMost line roster judged faulted in
+        refuses (roster .number) (roster .place) (rw (f .0, f .1, f .2)) is
 
-      pub tree-recorded :
-          (all : ℕ) → all ≡ needed kind (roster .count) → start ≤ length text → ReadsRecord threshold text (roster .table) (roster .count) all start openMost r
-          → Reads kind threshold line text start r
-      unfolding Reads answerTo ReadsRecord readTreeBy readTreeToBy treeAnswer
-      tree-recorded all is h reads =
-          let g = read-good speciesMost line roster judged good in
-          let deep : 2 * (length text - start) < 2 * length (drop start text) + 1 = let l = length-drop start text in omega arith in
-          rw (g .0, le-leb (length text) textMost short, le-leb start (length text) h)
-          (rw (is, g .1) at (reads (names line) (holds-names line roster judged good) (2 * length (drop start text) + 1) deep))
+    module _ (good : roster .number ≡ 0) where
+      -- "2 | text over 65,536 bytes"
+      pub long-refused : textMost < length text → r ≡ readingOf threshold start (refused 2 textMost) → ReadsInto kind threshold line text start found r
+      unfolding answerTo
+      long-refused h is = refuses 2 textMost (rw (read-good speciesMost line roster judged good .0, lt-leb (length text) textMost h)) is
+
+      module _ (short : length text ≤ textMost) where
+        -- "A start beyond the text gives 10"
+        pub start-refused : length text < start → r ≡ readingOf threshold start (refused 10 (length text)) → ReadsInto kind threshold line text start found r
+        unfolding answerTo
+        start-refused h is =
+            refuses 10 (length text)
+            (rw (read-good speciesMost line roster judged good .0, le-leb (length text) textMost short, lt-leb start (length text) h)) is
+
+        pub tree-recorded :
+            (all : ℕ) → all ≡ needed kind (roster .count) → start ≤ length text
+            → ReadsRecord threshold text (roster .table) (roster .count) all start openMost found r → ReadsInto kind threshold line text start found r
+        unfolding Reads answerTo ReadsRecord readTreeBy readTreeToBy treeAnswer
+        tree-recorded all is h reads =
+            let g = read-good speciesMost line roster judged good in
+            let deep : 2 * (length text - start) < 2 * length (drop start text) + 1 = let l = length-drop start text in omega arith in
+            rw (g .0, le-leb (length text) textMost short, le-leb start (length text) h)
+            (rw (is, g .1) at (reads (names line) (holds-names line roster judged good) (2 * length (drop start text) + 1) deep))

@@ -4,12 +4,12 @@ use mathlib.Core.Path.{_≡_, refl, sym, ap, _∙_, subst}
 use mathlib.Core.Bool.{Bool, true, false}
 use mathlib.Core.List.{List}
 use native.Mathlib.Omega.{arith}
-use lib.ListN.{length, drop}
+use lib.ListN.{length, take, drop}
 use lib.Dec.{leb}
 use lib.Pow.{pow-mono}
 use Rattle.clusters.proofs.Sets.{whole-below}
 use Rattle.trees.specs.Tree.{Tree, Behind, On, cluster, clusters}
-use Rattle.trees.specs.Records.{recordOf, largest, ValidOn, SpeciesValid, GeneValid}
+use Rattle.trees.specs.Records.{count, recordOf, largest, ValidOn, SpeciesValid, GeneValid}
 use Rattle.trees.proofs.Nodes.{cluster-some}
 use Rattle.trees.proofs.Recorded.{valid-of-drawn}
 use Rattle.trees.proofs.Thinned.{drawn-left-valid, drawn-thinned}
@@ -24,7 +24,7 @@ use Rattle.nodes.proofs.RefusedBy.{tree-numbered}
 use Rattle.tokens.specs.Supports.{isGiven, weak}
 use Rattle.tokens.specs.declared.answer.Threshold.{Threshold}
 use Rattle.tokens.specs.declared.answer.Threshold.the-variants.{NoThreshold, Below}
-use Rattle.reader.specs.Promise.{textMost, needed, clustersRead, fromStart, inLimit, onRoster, answerTo, Reads}
+use Rattle.reader.specs.Promise.{textMost, needed, clustersRead, fromStart, inLimit, onRoster, answerTo, Reads, Stores}
 use Rattle.reader.specs.Accepted.{MayHave, Draws}
 use Rattle.reader.specs.declared.Kind.{Kind}
 use Rattle.reader.specs.declared.Kind.the-variants.{Species, Gene}
@@ -153,6 +153,15 @@ reads-zero kind threshold line text start {q} h z = by (answerTo kind threshold 
         let k = refusal-some kind threshold line text start e in
         let l : q .number ≡ n = rw (h, e) in
         absurd (omega arith)
+
+-- as many clusters as its first number says stand at the front of the table of `read_into`, in the order in which the nodes end
+pub stored-clusters :
+    (kind : Kind) (threshold : Threshold) (line text : List ℕ) (start : ℕ) {q : Reading} (w : WasRead kind threshold line text start q) (found : List ℕ)
+    → Stores threshold (answerTo kind threshold line text start) found → take (count (q .numbers)) found ≡ clustersRead threshold (w .tree)
+unfolding Stores recordOf
+stored-clusters kind threshold line text start {q} w found stores =
+    let many : count (q .numbers) ≡ length (clustersRead threshold (w .tree)) = ap count (w .recorded) in
+    ap (λ (n : ℕ). take n found) many ∙ stores (w .tree) (w .rest) (q .next) (w .answered)
 
 -- what is read as a gene tree is a valid gene record
 pub read-gene-valid : (threshold : Threshold) (line text : List ℕ) (start : ℕ) (q : Reading) → Reads Gene threshold line text start q → q .number ≡ 0 → GeneValid (length (names line)) (q .numbers)

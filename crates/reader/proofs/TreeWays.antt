@@ -4,7 +4,7 @@ use native.Mathlib.Omega.{arith}
 use mathlib.Core.Path.{_≡_, ap, _∙_}
 use mathlib.Core.Bool.{Bool, true, false}
 use mathlib.Core.List.{List}
-use lib.ListN.{length, getD, take, drop, replicate, length-replicate}
+use lib.ListN.{length, getD, take, drop}
 use lib.Seq.{length-sets}
 use lib.Pow.{pow-mono, pow-pos}
 use Rattle.clusters.specs.Sets.{within}
@@ -12,6 +12,7 @@ use Rattle.clusters.proofs.Sizes.{size-le}
 use Rattle.trees.specs.Tree.{Tree, cluster}
 use Rattle.trees.specs.Records.{recordOf}
 use Rattle.labels.specs.Bytes.{nextIs}
+use Rattle.tokens.specs.Answers.{Answer}
 use Rattle.tokens.specs.Answers.Answer.{parsed, refused}
 use Rattle.tokens.specs.Tokens.{blanks, skip}
 use Rattle.tokens.specs.Says.{strayAt}
@@ -22,7 +23,7 @@ use Rattle.tokens.specs.Supports.{isGiven}
 use Rattle.tokens.specs.declared.answer.Threshold.{Threshold}
 use Rattle.tokens.specs.declared.answer.Threshold.the-variants.{NoThreshold, Below}
 use Rattle.reader.specs.Work.{treeAnswer, ReadsTree}
-use Rattle.reader.specs.Promise.{clustersRead, readingOf}
+use Rattle.reader.specs.Promise.{clustersRead, readingOf, Stores}
 use Rattle.reader.specs.declared.Reading.{Reading}
 use Rattle.nodes.specs.declared.answer.Cursor.{Cursor}
 use Rattle.nodes.specs.declared.answer.NodeRead.{NodeRead}
@@ -138,38 +139,46 @@ left-read : (threshold : Threshold) (t : Tree) → leftIn NoThreshold threshold 
 left-read NoThreshold t = left-at-root NoThreshold t ∙ left-without t
 left-read (Below amount) t = left-at-root (Below amount) t
 
--- an empty table has room for all
-pub given-empty :
-    (count : ℕ) (table : List ℕ) → (names : List (List ℕ)) × Holds names count table → count ≤ 16 → 16 * count ≤ length table
-    → Given count table (replicate 64 0) 0 0
-given-empty count table held few long = record {
+-- a table of 32 numbers has room for all
+pub given-room :
+    (count : ℕ) (table found : List ℕ) → (names : List (List ℕ)) × Holds names count table → count ≤ 16 → 16 * count ≤ length table → 32 ≤ length found
+    → Given count table found 0 0
+given-room count table found held few long wide = record {
   holds = held;
   most = omega arith;
   long = long;
-  wide = omega (arith, length-replicate {A = ℕ} 64 0);
+  wide = omega arith;
   below = pow-pos count;
   spare = omega arith;
 }
 
+-- no clusters are promised of a refusal
+pub refused-stores : (threshold : Threshold) (number place : ℕ) (found : List ℕ) → Stores threshold (refused number place) found
+unfolding Stores
+refused-stores threshold number place found = λ t rest next is. absurd (refused-parsed is)
+
 module _
-    (threshold : Threshold) (text table : List ℕ) (count : ℕ) (names : List (List ℕ)) (holds : Holds names count table) (start needed room : ℕ) (found : List ℕ) (r : NodeRead)
-    (reads : ReadsTree threshold text table count needed start room (replicate 64 0) found r) (k : ℕ) (deep : 2 * (length text - start) < k)
+    (threshold : Threshold) (text table : List ℕ) (count : ℕ) (names : List (List ℕ)) (holds : Holds names count table) (start needed room : ℕ) (before found : List ℕ)
+    (r : NodeRead) (reads : ReadsTree threshold text table count needed start room before found r) (k : ℕ) (deep : 2 * (length text - start) < k)
   where
-    tree-told : NodeReads NoThreshold threshold text 0 0 (replicate 64 0) found (treeAnswer (isGiven threshold) k names room needed (drop start text) start) r
+    abbrev answer : Answer Tree
+    answer = treeAnswer (isGiven threshold) k names room needed (drop start text) start
+
+    tree-told : NodeReads NoThreshold threshold text 0 0 before found answer r
     unfolding ReadsTree
     tree-told = reads names holds k deep
 
     pub reading-refused :
         (e f : Refusal) (result : Reading) → r ≡ NoNode e → f ≡ nodeFault r → result ≡ readingOf threshold start (refused (f .number) (f .place))
-        → result ≡ readingOf threshold start (treeAnswer (isGiven threshold) k names room needed (drop start text) start)
+        → (result ≡ readingOf threshold start answer) × Stores threshold answer found
     reading-refused e f result told fault is =
-        let h = refused-node NoThreshold threshold text 0 0 (replicate 64 0) found (treeAnswer (isGiven threshold) k names room needed (drop start text) start) r e tree-told told in
+        let h = refused-node NoThreshold threshold text 0 0 before found answer r e tree-told told in
         let g : f ≡ e = rw told at fault in
-        rw (← h, ← g) is
+        (rw (← h, ← g) is, rw (← h) (refused-stores threshold (e .number) (e .place) found))
 
-    module _ (mask : ℕ) (next : Cursor) (told : r ≡ Node mask next) (few : count ≤ 16) where
-      read-tree : TreeRead NoThreshold threshold text 0 0 (replicate 64 0) found (treeAnswer (isGiven threshold) k names room needed (drop start text) start) mask next
-      read-tree = read-node NoThreshold threshold text 0 0 (replicate 64 0) found (treeAnswer (isGiven threshold) k names room needed (drop start text) start) r mask next tree-told told
+    module _ (mask : ℕ) (next : Cursor) (told : r ≡ Node mask next) (few : count ≤ 16) (wide : 32 ≤ length before) where
+      read-tree : TreeRead NoThreshold threshold text 0 0 before found answer mask next
+      read-tree = read-node NoThreshold threshold text 0 0 before found answer r mask next tree-told told
 
       fresh : Fresh count 0 (cluster (read-tree .tree)) (leftIn NoThreshold threshold (read-tree .tree))
       fresh =
@@ -183,8 +192,8 @@ module _
           let l = size-le count (f .below) in
           omega (arith, f .counted, read-tree .stored-is)
 
-      long : length found ≡ 64
-      long = rw (read-tree .table-is) (length-sets (replicate 64 0) 0 (leftIn NoThreshold threshold (read-tree .tree)) ∙ length-replicate {A = ℕ} 64 0)
+      long : length found ≡ length before
+      long = rw (read-tree .table-is) (length-sets before 0 (leftIn NoThreshold threshold (read-tree .tree)))
 
       stored-within : next .stored ≤ length found
       stored-within = let f = stored-few in let l = long in omega arith
@@ -192,27 +201,35 @@ module _
       stored-is : next .stored ≡ length (leftIn NoThreshold threshold (read-tree .tree))
       stored-is = let s = read-tree .stored-is in omega arith
 
-      fits : length (leftIn NoThreshold threshold (read-tree .tree)) ≤ length (replicate {A = ℕ} 64 0)
-      fits = let f = stored-few in let s = stored-is in omega (arith, length-replicate {A = ℕ} 64 0)
+      fits : length (leftIn NoThreshold threshold (read-tree .tree)) ≤ length before
+      fits = let f = stored-few in let s = stored-is in omega arith
 
       stored-narrow : (i : ℕ) → i < next .stored → getD found i 0 < 65536
       stored-narrow i h =
           let l : i < length (leftIn NoThreshold threshold (read-tree .tree)) = let s = stored-is in omega arith in
           let top : 2 ^ count ≤ 2 ^ 16 = pow-mono few in
           let b = fresh .each i l in
-          rw (read-tree .table-is, getD-sets (replicate 64 0) (leftIn NoThreshold threshold (read-tree .tree)) i fits l) (omega arith)
+          rw (read-tree .table-is, getD-sets before (leftIn NoThreshold threshold (read-tree .tree)) i fits l) (omega arith)
 
       -- few enough, all in the table, and each of them narrow
       pub stored-fit : (next .stored ≤ 31) × (next .stored ≤ length found × ((i : ℕ) → i < next .stored → getD found i 0 < 65536))
       stored-fit = (stored-few, (stored-within, stored-narrow))
 
+      -- they stand at its front
+      front : take (length (leftIn NoThreshold threshold (read-tree .tree))) found ≡ leftIn NoThreshold threshold (read-tree .tree)
+      front =
+          ap (λ (l : List ℕ). take (length (leftIn NoThreshold threshold (read-tree .tree))) l) (read-tree .table-is)
+          ∙ take-sets before (leftIn NoThreshold threshold (read-tree .tree)) fits
+
+      stored-front : Stores threshold answer found
+      unfolding Stores
+      stored-front = λ t rest q is.
+          let same : t ≡ read-tree .tree = cc (is, read-tree .answered) in
+          rw (same, ← left-read threshold (read-tree .tree)) front
+
       pub reading-recorded :
           (numbers : List ℕ) → numbers ≡ recordOf (take (next .stored) found)
-          → record { number = 0; place = 0; next = next .at; numbers = numbers } ≡ readingOf threshold start (treeAnswer (isGiven threshold) k names room needed (drop start text) start)
+          → (record { number = 0; place = 0; next = next .at; numbers = numbers } ≡ readingOf threshold start answer) × Stores threshold answer found
       reading-recorded numbers is =
-          let cut : take (next .stored) found ≡ leftIn NoThreshold threshold (read-tree .tree) =
-          ap (λ (n : ℕ). take n found) stored-is
-          ∙ ap (λ (l : List ℕ). take (length (leftIn NoThreshold threshold (read-tree .tree))) l) (read-tree .table-is)
-          ∙ take-sets (replicate 64 0) (leftIn NoThreshold threshold (read-tree .tree)) fits
-          in
-          rw (read-tree .answered, is, cut, left-read threshold (read-tree .tree))
+          let cut : take (next .stored) found ≡ leftIn NoThreshold threshold (read-tree .tree) = ap (λ (n : ℕ). take n found) stored-is ∙ front in
+          (rw (read-tree .answered, is, cut, left-read threshold (read-tree .tree)), stored-front)

@@ -3,7 +3,7 @@ use Prim.Native.Nat.{ℕ}
 use mathlib.Core.Path.{_≡_}
 use mathlib.Core.Bool.{Bool, true, false}
 use mathlib.Core.List.{List}
-use lib.ListN.{length, drop, replicate}
+use lib.ListN.{length, take, drop, replicate}
 use lib.Dec.{leb}
 use Rattle.clusters.specs.Sets.{whole}
 use Rattle.trees.specs.Tree.{Tree, clusters}
@@ -63,3 +63,8 @@ answerTo kind threshold line text start = onRoster kind threshold (faulty specie
 -- the promise of `read`
 unfoldable pub Reads : Kind → Threshold → List ℕ → List ℕ → ℕ → Reading → Type 0
 Reads kind threshold line text start r = r ≡ readingOf threshold start (answerTo kind threshold line text start)
+
+-- what `read_into` leaves in the table that it is lent, where a tree is answered: at its front the clusters that the tree is read to, in the order in which its nodes end
+unfoldable pub Stores : Threshold → Answer Tree → List ℕ → Type 0
+Stores threshold answer found =
+    (t : Tree) (rest : List ℕ) (next : ℕ) → answer ≡ parsed t rest next → take (length (clustersRead threshold t)) found ≡ clustersRead threshold t

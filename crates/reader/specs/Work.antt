@@ -14,7 +14,7 @@ use Rattle.tokens.specs.declared.answer.Threshold.the-variants.{NoThreshold}
 use Rattle.nodes.specs.Reading.{readNode, ended}
 use Rattle.nodes.specs.Core.{Holds, NodeReads}
 use Rattle.nodes.specs.declared.answer.NodeRead.{NodeRead}
-use Rattle.reader.specs.Promise.{readingOf}
+use Rattle.reader.specs.Promise.{readingOf, Stores}
 use Rattle.reader.specs.declared.Reading.{Reading}
 
 -- a node and `;`, where as many parentheses may open as there is room for
@@ -31,11 +31,12 @@ ReadsTree threshold text table count needed start room before after r =
     → 2 * (length text - start) < k
     → NodeReads NoThreshold threshold text 0 0 before after (treeAnswer (isGiven threshold) k names room needed (drop start text) start) r
 
--- the promise of `recorded`, which sorts its clusters into a record
-unfoldable pub ReadsRecord : Threshold → List ℕ → List ℕ → ℕ → ℕ → ℕ → ℕ → Reading → Type 0
-ReadsRecord threshold text table count needed start room r =
+-- the promise of `recorded`, which stores its clusters and sorts them into a record
+unfoldable pub ReadsRecord : Threshold → List ℕ → List ℕ → ℕ → ℕ → ℕ → ℕ → List ℕ → Reading → Type 0
+ReadsRecord threshold text table count needed start room after r =
     (names : List (List ℕ))
     → Holds names count table
     → (k : ℕ)
     → 2 * (length text - start) < k
-    → r ≡ readingOf threshold start (treeAnswer (isGiven threshold) k names room needed (drop start text) start)
+    → (r ≡ readingOf threshold start (treeAnswer (isGiven threshold) k names room needed (drop start text) start))
+    × Stores threshold (treeAnswer (isGiven threshold) k names room needed (drop start text) start) after

@@ -3,6 +3,7 @@ mod tree;
 
 pub use tokens::Threshold;
 pub use tree::read;
+pub use tree::read_into;
 
 // What a text is read as: a species tree has every species, a gene tree may lack some.
 pub enum Kind {

@@ -7,7 +7,7 @@ ghost use Rattle.tokens.specs.Answers.Answer.{refused as Answer·refused};
 ghost use Rattle.tokens.specs.declared.answer.Threshold.the-variants.{NoThreshold};
 ghost use Rattle.nodes.specs.Core.{Holds, Given};
 ghost use Rattle.reader.specs.Work.{ReadsTree, ReadsRecord};
-ghost use Rattle.reader.specs.Promise.{needed, readingOf, Reads};
+ghost use Rattle.reader.specs.Promise.{needed, readingOf, answerTo, Reads, Stores};
 use crate::Kind;
 use crate::Reading;
 use clusters::whole;
@@ -90,7 +90,7 @@ fn refused(start: usize, number: u32, place: usize) -> Reading
     }
 }
 
-// The tree that begins at `start`, of at most 16 species and with every species of `needed`: its clusters, sorted into a record.
+// The tree that begins at `start`, of at most 16 species and with every species of `needed`: its clusters, in `found` as they are met, sorted into a record.
 fn recorded(
     text: &[u8],
     table: &[u8],
@@ -99,28 +99,20 @@ fn recorded(
     start: usize,
     room: usize,
     threshold: Threshold,
+    found: &mut [u32],
 ) -> Reading
     requires { ⌜ ((names : List (List ℕ)) × Holds names count (now table)) ⌝ }
     requires { ⌜ count ≤ 16 ⌝ }
     requires { ⌜ 16 * count ≤ length (now table) ⌝ }
-    ensures { λ r. ⌜ ReadsRecord threshold (now (text .entry)) (now (table .entry)) count needed start room r ⌝ }
+    requires { ⌜ 32 ≤ length (now found) ⌝ }
+    ensures { λ r. ⌜ ReadsRecord threshold (now (text .entry)) (now (table .entry)) count needed start room (now (found .exit)) r ⌝ }
 {
-    let mut found = [0u32; 64];
-    let read = tree(
-        text,
-        table,
-        count,
-        needed,
-        start,
-        room,
-        threshold,
-        &mut found,
-    );
+    let read = tree(text, table, count, needed, start, room, threshold, found);
     let NodeRead::Node { mask: _, next } = read else {
         let fault = node_refusal(read);
         return refused(start, fault.number, fault.place);
     };
-    let sorted = record_of(&found, next.stored);
+    let sorted = record_of(found, next.stored);
     let numbers = sorted.numbers;
     Reading {
         number: 0,
@@ -130,9 +122,19 @@ fn recorded(
     }
 }
 
-// The tree of the kind that begins at `start`, over the names of the roster line; where a threshold is given, without the clusters of weak inner nodes.
-pub fn read(kind: Kind, threshold: Threshold, line: &[u8], text: &[u8], start: usize) -> Reading
+// The tree of the kind that begins at `start`, as `read` answers it, with its clusters at the front of `found`, in the order in which its nodes end.
+// `read` calls it, and a call that goes through the nodes of a text again.
+pub fn read_into(
+    kind: Kind,
+    threshold: Threshold,
+    line: &[u8],
+    text: &[u8],
+    start: usize,
+    found: &mut [u32],
+) -> Reading
+    requires { ⌜ 32 ≤ length (now found) ⌝ }
     ensures { λ r. ⌜ Reads kind threshold (now (line .entry)) (now (text .entry)) start r ⌝ }
+    ensures { λ _. ⌜ Stores threshold (answerTo kind threshold (now (line .entry)) (now (text .entry)) start) (now (found .exit)) ⌝ }
 {
     let roster = parse(line, 16);
     let number = roster.number;
@@ -155,5 +157,14 @@ pub fn read(kind: Kind, threshold: Threshold, line: &[u8], text: &[u8], start: u
         start,
         15,
         threshold,
+        found,
     )
+}
+
+// The tree of the kind that begins at `start`, over the names of the roster line; where a threshold is given, without the clusters of weak inner nodes.
+pub fn read(kind: Kind, threshold: Threshold, line: &[u8], text: &[u8], start: usize) -> Reading
+    ensures { λ r. ⌜ Reads kind threshold (now (line .entry)) (now (text .entry)) start r ⌝ }
+{
+    let mut found = [0u32; 32];
+    read_into(kind, threshold, line, text, start, &mut found)
 }

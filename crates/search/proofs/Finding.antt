@@ -14,12 +14,14 @@ use Rattle.lineages.specs.InOrder.{Shaped}
 use Rattle.lineages.specs.Work.{shapeTests, said, GenesJudged}
 use Rattle.lineages.proofs.Verdicts.{verdict-first, shape-passed}
 use Rattle.lineages.proofs.FirstBad.{checked-in-order}
-use Rattle.terms.specs.Allowed.{firstStrange, allowedTest}
+use Rattle.terms.specs.Allowed.{allowedIn, firstStrange, allowedTest}
 use Rattle.terms.proofs.Refusing.{byte-refused, bytes-passed, refused-told}
 use Rattle.search.specs.Promise.{searchTests, filledBy, Finds}
+use Rattle.search.specs.Work.{LongEnough}
 use Rattle.splits.specs.Best.{bestFor, foundBy}
 use Rattle.terms.specs.Answers.{without}
-use Rattle.solver.specs.Work.{LongEnough, Checked, Solves}
+use Rattle.solver.specs.Work.{Checked, Solves}
+use Rattle.terms.specs.declared.allowing.Allowance.{Allowance}
 use Rattle.terms.specs.declared.Found.{Found}
 use Rattle.lineages.proofs.Calls.{genesThen, genes-refused, genes-passed}
 use Rattle.weights.specs.declared.Rooting.{Rooting}
@@ -71,7 +73,9 @@ module _ (rooting : Rooting) (n : ℕ) (genes : List ℕ) (count : ℕ) (allowed
         ≡ verdict (genesThen rooting n genes count (allowedTest n allowed ∷ []))
     long-told = shape-told ∙ long-passed rooting n genes count allowed scores splits long
 
-    pub checked : {judged : Reply} → GenesJudged rooting n genes count judged → judged .number ≡ 0 → Checked rooting n genes count allowed scores splits
+    pub checked :
+        {judged : Reply} {allowance : Allowance} → GenesJudged rooting n genes count judged → judged .number ≡ 0
+        → Checked rooting allowance n genes count allowed scores splits
     checked told none =
         let ordered = checked-in-order rooting n genes count told none (shaped .few-species) shaped in
         record {
@@ -83,7 +87,9 @@ module _ (rooting : Rooting) (n : ℕ) (genes : List ℕ) (count : ℕ) (allowed
             valid = ordered .valid;
             enter = ordered .enter;
           };
-          long = long;
+          allowed-long = λ marked. long .allowed-long;
+          scores-long = long .scores-long;
+          splits-long = long .splits-long;
         }
 
 -- ---- the ways
@@ -138,8 +144,9 @@ module _ (rooting : Rooting) (n : ℕ) (genes : List ℕ) (count : ℕ) (allowed
           (λ z. omega arith) p q s
 
       pub finds-solved : {strange : ℕ} → judged .number ≡ 0 → strange ≡ firstStrange n allowed → 2 ^ n ≤ strange
-          → Solves rooting n (recordsIn count genes) allowed scores splits r scoresAfter splitsAfter
+          → Solves rooting n (recordsIn count genes) (allowedIn n allowed) scores splits r scoresAfter splitsAfter
           → Finds rooting n genes count allowed scores splits r scoresAfter splitsAfter
+      unfolding bestFor
       finds-solved none e m s =
           let passed =
           long-told rooting n genes count allowed scores splits shaped long

@@ -6,6 +6,7 @@ pub mod HowMany
 pub mod Lots
 pub mod Unread
 pub mod Dropped
+pub mod EveryCluster
 pub mod Finding
 pub mod Tying
 pub mod Ties

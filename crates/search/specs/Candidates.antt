@@ -31,6 +31,11 @@ pub record Candidate (n : ℕ) (allowed c : List ℕ) : Type 0 where
   pub binary : BinaryOn (whole n) c
   pub over : (a : ℕ) → Among a (listed c) → allowedIn n allowed a ≡ true
 
+-- a valid binary species record, whatever its clusters
+pub record BinarySpecies (n : ℕ) (c : List ℕ) : Type 0 where
+  pub valid : ValidOn (whole n) c
+  pub binary : BinaryOn (whole n) c
+
 -- the trees of two records, the first of them earlier in 01's order
 pub record EarlierRecord (n : ℕ) (c d : List ℕ) : Type 0 where
   pub tree : Binary
@@ -47,6 +52,15 @@ pub record Answer (rooting : Rooting) (n : ℕ) (genes : List (List ℕ)) (allow
   pub counted : score rooting genes (r .numbers) ≡ r .score
   pub least : (c : List ℕ) → Candidate n allowed c → r .score ≤ score rooting genes c
   pub first : (c : List ℕ) → Candidate n allowed c → score rooting genes c ≡ r .score → (r .numbers ≡ c) ⊎ EarlierRecord n (r .numbers) c
+
+-- "the least one over all clusters" (#114): there is a tree, no binary species tree scores less, and of equals it is the first
+pub record AnswerOfAll (rooting : Rooting) (n : ℕ) (genes : List (List ℕ)) (r : Found) : Type 0 where
+  pub number : r .number ≡ 0
+  pub place : r .place ≡ 0
+  pub species : BinarySpecies n (r .numbers)
+  pub counted : score rooting genes (r .numbers) ≡ r .score
+  pub least : (c : List ℕ) → BinarySpecies n c → r .score ≤ score rooting genes c
+  pub first : (c : List ℕ) → BinarySpecies n c → score rooting genes c ≡ r .score → (r .numbers ≡ c) ⊎ EarlierRecord n (r .numbers) c
 
 -- two allowed sets that say the same for n species: of every cluster, while "byte 0 has no meaning, though it too must be 0 or 1"
 pub record SameAllowed (n : ℕ) (allowed other : List ℕ) : Type 0 where

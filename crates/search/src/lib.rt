@@ -5,14 +5,15 @@ use lineages::checks::judge_genes;
 use lineages::checks::shape;
 use solver::solve;
 pub use terms::Found;
+use terms::allowing::Allowance;
 use terms::allowing::first_strange;
 use terms::refused;
 pub use tied::Tied;
 pub use tied::search_ties;
 use weights::Rooting;
 ghost use Rattle.trees.specs.Decides.{Decides};
-ghost use Rattle.solver.specs.Work.{LongEnough};
 ghost use Rattle.search.specs.Promise.{Finds};
+ghost use Rattle.search.specs.Work.{LongEnough};
 
 // Whether 2^n entries are there in the allowed set and in both tables.
 fn long_enough(entries: usize, allowed: &[u8], scores: &[u32], splits: &[u16]) -> bool
@@ -58,5 +59,14 @@ pub fn search(
     if strange < entries {
         return refused(13, strange);
     }
-    solve(rooting, n, genes, count, allowed, scores, splits)
+    solve(
+        rooting,
+        Allowance::Marked,
+        n,
+        genes,
+        count,
+        allowed,
+        scores,
+        splits,
+    )
 }

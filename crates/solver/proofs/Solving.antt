@@ -21,7 +21,7 @@ use Rattle.splits.specs.BinaryTrees.Binary.{tip, fork}
 use Rattle.splits.specs.WellFormed.{TreeOn}
 use Rattle.splits.specs.WellFormed.TreeOn.{two}
 use Rattle.splits.specs.Least.{best, noTree, scoreOf, scoreEntry, splitEntry, filled}
-use Rattle.terms.specs.Allowed.{allowedIn}
+use Rattle.terms.specs.declared.allowing.Allowance.{Allowance}
 use Rattle.tables.specs.Work.{Weights, Fillable, Fills, Chosen, Chooses}
 use Rattle.splits.specs.Work.{Light}
 use Rattle.splits.proofs.LowParts.{low-part-two, low-some}
@@ -29,7 +29,7 @@ use Rattle.splits.proofs.Membership.{tree-root, tree-clusters}
 use Rattle.splits.proofs.Recurrence.{best-on, score-bound, best-fork}
 use Rattle.tables.proofs.Reached.{entries-few}
 use Rattle.tables.proofs.Written.{written, written-length, written-at, written-again, written-entries}
-use Rattle.splits.specs.Best.{bestFor, foundBy}
+use Rattle.splits.specs.Best.{foundBy}
 use Rattle.terms.specs.Answers.{without}
 use Rattle.solver.specs.Work.{Checked, Solves}
 use Rattle.terms.specs.declared.Found.{Found}
@@ -64,10 +64,10 @@ module _ (w : ℕ → ℕ) (ok : ℕ → Bool) (splits : List ℕ) (entries : �
 
 -- ---- both tables, for gene trees that were checked
 
-pub record BothFilled (rooting : Rooting) (n : ℕ) (genes : List (List ℕ)) (allowed lentScores lentSplits scores splits : List ℕ) : Type 0 where
+pub record BothFilled (rooting : Rooting) (n : ℕ) (genes : List (List ℕ)) (ok : ℕ → Bool) (lentScores lentSplits scores splits : List ℕ) : Type 0 where
   pub light : Light (weight rooting genes)
-  pub scoreTable : scores ≡ filled n (λ a. scoreEntry (weight rooting genes) (bestFor rooting n genes allowed a)) lentScores
-  pub splitTable : splits ≡ filled n (λ a. splitEntry (bestFor rooting n genes allowed a)) lentSplits
+  pub scoreTable : scores ≡ filled n (λ a. scoreEntry (weight rooting genes) (best (weight rooting genes) ok a)) lentScores
+  pub splitTable : splits ≡ filled n (λ a. splitEntry (best (weight rooting genes) ok a)) lentSplits
 
 whole-entries : (n : ℕ) {all : ℕ} → all ≡ whole n → all + 1 ≡ 2 ^ n
 unfolding whole
@@ -96,17 +96,17 @@ module _ (n : ℕ) {all : ℕ} (is : all ≡ whole n) where
   pub back-length : (part l : List ℕ) → 2 ^ n ≤ length l → length part ≡ 2 ^ n → length (backIn (all + 1) part l) ≡ length l
   back-length part l long sized = omega (arith, ap length (back-is part l), length-append part (drop (2 ^ n) l), length-drop (2 ^ n) l)
 
-module _ {rooting : Rooting} {n : ℕ} {genes : List ℕ} {count : ℕ} {allowed scores splits : List ℕ} (h : Checked rooting n genes count allowed scores splits)
-    {all : ℕ} (is : all ≡ whole n) where
+module _ {rooting : Rooting} {allowance : Allowance} {n : ℕ} {genes : List ℕ} {count : ℕ} {allowed scores splits : List ℕ}
+    (h : Checked rooting allowance n genes count allowed scores splits) {all : ℕ} (is : all ≡ whole n) where
   -- there are at most 65,536 sets, and an entry for each in both tables
   pub all-few : all + 1 ≤ 65536
   all-few = omega (arith, whole-entries n is, entries-few (h .weighable .few-species))
 
   pub all-fits : all + 1 ≤ length scores
-  all-fits = omega (arith, whole-entries n is, h .long .scores-long)
+  all-fits = omega (arith, whole-entries n is, h .scores-long)
 
   pub all-splits : all + 1 ≤ length splits
-  all-splits = omega (arith, whole-entries n is, h .long .splits-long)
+  all-splits = omega (arith, whole-entries n is, h .splits-long)
 
   weights-light : Light (weight rooting (recordsIn count genes))
   weights-light b =
@@ -122,32 +122,31 @@ module _ {rooting : Rooting} {n : ℕ} {genes : List ℕ} {count : ℕ} {allowed
     holds-weights b l = ap (λ t. getD t b 0) is-written ∙ written-at (λ a. weight rooting (recordsIn count genes) a) (2 ^ n) scores b l
 
     -- the tables can be filled from the weights
-    pub weights-fillable : Fillable n allowed (backIn (all + 1) made scores) (backIn (all + 1) work splits)
+    pub weights-fillable : Fillable allowance n allowed (backIn (all + 1) made scores) (backIn (all + 1) work splits)
     weights-fillable =
         record {
           few = h .weighable .few-species;
-          allowed-long = h .long .allowed-long;
+          allowed-long = h .allowed-long;
           scores-long =
-              let l = h .long .scores-long in
+              let l = h .scores-long in
               omega (arith, ap length is-written, written-length (λ a. weight rooting (recordsIn count genes) a) (2 ^ n) scores l);
-          splits-long = let l = h .long .splits-long in omega (arith, back-length n is work splits l sized);
+          splits-long = let l = h .splits-long in omega (arith, back-length n is work splits l sized);
           light = λ b l. omega (arith, holds-weights b l, weights-light b);
         }
 
     -- and what stood in the split table is not seen
     pub both-filled :
-        {scores′ splits′ : List ℕ} → Fills n allowed (backIn (all + 1) made scores) (backIn (all + 1) work splits) scores′ splits′
-        → BothFilled rooting n (recordsIn count genes) allowed scores splits scores′ splits′
-    unfolding bestFor
-    both-filled {scores′} {splits′} fills =
+        {ok : ℕ → Bool} {scores′ splits′ : List ℕ} → Fills n ok (backIn (all + 1) made scores) (backIn (all + 1) work splits) scores′ splits′
+        → BothFilled rooting n (recordsIn count genes) ok scores splits scores′ splits′
+    both-filled {ok} {scores′} {splits′} fills =
         let both = fills (weight rooting (recordsIn count genes)) weights-light holds-weights in
         record { light = weights-light; scoreTable = both .0 ∙ behind; splitTable = both .1 ∙ ap (λ (l : List ℕ). map other (upTo (2 ^ n)) ++ l) rest }
       where
         entry : ℕ → ℕ
-        entry a = scoreEntry (weight rooting (recordsIn count genes)) (best (weight rooting (recordsIn count genes)) (allowedIn n allowed) a)
+        entry a = scoreEntry (weight rooting (recordsIn count genes)) (best (weight rooting (recordsIn count genes)) ok a)
 
         other : ℕ → ℕ
-        other a = splitEntry (best (weight rooting (recordsIn count genes)) (allowedIn n allowed) a)
+        other a = splitEntry (best (weight rooting (recordsIn count genes)) ok a)
 
         rest : drop (2 ^ n) (backIn (all + 1) work splits) ≡ drop (2 ^ n) splits
         rest = ap (drop (2 ^ n)) (back-is n is work splits) ∙ drop-at work (drop (2 ^ n) splits) (2 ^ n) sized
@@ -161,39 +160,36 @@ module _ {rooting : Rooting} {n : ℕ} {genes : List ℕ} {count : ℕ} {allowed
 -- ---- the answer
 
 module _ (rooting : Rooting)
-    {n : ℕ} {genes : List (List ℕ)} {allowed lentScores lentSplits scores splits : List ℕ}
-    (h : BothFilled rooting n genes allowed lentScores lentSplits scores splits)
+    {n : ℕ} {genes : List (List ℕ)} {ok : ℕ → Bool} {lentScores lentSplits scores splits : List ℕ}
+    (h : BothFilled rooting n genes ok lentScores lentSplits scores splits)
   where
-    score-at : (b : ℕ) → b < 2 ^ n → getD scores b 0 ≡ scoreEntry (weight rooting genes) (best (weight rooting genes) (allowedIn n allowed) b)
-    unfolding bestFor
+    score-at : (b : ℕ) → b < 2 ^ n → getD scores b 0 ≡ scoreEntry (weight rooting genes) (best (weight rooting genes) ok b)
     score-at b l =
-        let entry : ℕ → ℕ = λ a. scoreEntry (weight rooting genes) (best (weight rooting genes) (allowedIn n allowed) a) in
+        let entry : ℕ → ℕ = λ a. scoreEntry (weight rooting genes) (best (weight rooting genes) ok a) in
         ap (λ t. getD t b 0) (h .scoreTable ∙ sym (written-entries entry (2 ^ n) lentScores)) ∙ written-at entry (2 ^ n) lentScores b l
 
-    split-at : (b : ℕ) → b < 2 ^ n → getD splits b 0 ≡ splitEntry (best (weight rooting genes) (allowedIn n allowed) b)
-    unfolding bestFor
+    split-at : (b : ℕ) → b < 2 ^ n → getD splits b 0 ≡ splitEntry (best (weight rooting genes) ok b)
     split-at b l =
-        let entry : ℕ → ℕ = λ a. splitEntry (best (weight rooting genes) (allowedIn n allowed) a) in
+        let entry : ℕ → ℕ = λ a. splitEntry (best (weight rooting genes) ok a) in
         ap (λ t. getD t b 0) (h .splitTable ∙ sym (written-entries entry (2 ^ n) lentSplits)) ∙ written-at entry (2 ^ n) lentSplits b l
 
     module _ (few : n ≤ 16) {all : ℕ} (is : all ≡ whole n) where
-      score-all : getD scores all 0 ≡ scoreEntry (weight rooting genes) (best (weight rooting genes) (allowedIn n allowed) (whole n))
+      score-all : getD scores all 0 ≡ scoreEntry (weight rooting genes) (best (weight rooting genes) ok (whole n))
       score-all = ap (λ b. getD scores b 0) is ∙ score-at (whole n) (whole-below n)
 
-      not-marked : (t : Binary) → best (weight rooting genes) (allowedIn n allowed) (whole n) ≡ some t → getD scores all 0 ≡ noTree → ⊥
+      not-marked : (t : Binary) → best (weight rooting genes) ok (whole n) ≡ some t → getD scores all 0 ≡ noTree → ⊥
       not-marked t e m =
-          omega (arith, score-all, ap (scoreEntry (weight rooting genes)) e, score-bound (h .light) (best-on (weight rooting genes) (allowedIn n allowed) (whole n) t e), size-whole n)
+          omega (arith, score-all, ap (scoreEntry (weight rooting genes)) e, score-bound (h .light) (best-on (weight rooting genes) ok (whole n) t e), size-whole n)
 
       -- the mark stands there where there is no tree
-      no-best : getD scores all 0 ≡ noTree → best (weight rooting genes) (allowedIn n allowed) (whole n) ≡ none
-      no-best m = go (best (weight rooting genes) (allowedIn n allowed) (whole n)) refl
+      no-best : getD scores all 0 ≡ noTree → best (weight rooting genes) ok (whole n) ≡ none
+      no-best m = go (best (weight rooting genes) ok (whole n)) refl
         where
-          go : (o : Option Binary) → best (weight rooting genes) (allowedIn n allowed) (whole n) ≡ o → o ≡ none
+          go : (o : Option Binary) → best (weight rooting genes) ok (whole n) ≡ o → o ≡ none
           go none e = refl
           go (some t) e = absurd (not-marked t e m)
 
-      pub solves-none : {r : Found} → getD scores all 0 ≡ noTree → r ≡ without 14 0 → Solves rooting n genes allowed lentScores lentSplits r scores splits
-      unfolding bestFor
+      pub solves-none : {r : Found} → getD scores all 0 ≡ noTree → r ≡ without 14 0 → Solves rooting n genes ok lentScores lentSplits r scores splits
       solves-none m e =
           record {
             reply = e ∙ sym (ap (λ o. foundBy rooting o genes) (no-best m));
@@ -204,19 +200,19 @@ module _ (rooting : Rooting)
       -- a tree on all species, where there is one
       record Best : Type 0 where
         tree : Binary
-        chosen-best : best (weight rooting genes) (allowedIn n allowed) (whole n) ≡ some tree
+        chosen-best : best (weight rooting genes) ok (whole n) ≡ some tree
 
       a-best : (getD scores all 0 ≡ noTree → ⊥) → Best
-      a-best f = go (best (weight rooting genes) (allowedIn n allowed) (whole n)) refl
+      a-best f = go (best (weight rooting genes) ok (whole n)) refl
         where
-          go : (o : Option Binary) → best (weight rooting genes) (allowedIn n allowed) (whole n) ≡ o → Best
+          go : (o : Option Binary) → best (weight rooting genes) ok (whole n) ≡ o → Best
           go none e = absurd (f (score-all ∙ ap (scoreEntry (weight rooting genes)) e))
           go (some t) e = record { tree = t; chosen-best = e }
 
       led-down : (b : Best) → (root (b .tree) ≡ all) × Chosen splits (b .tree)
       led-down b = (
-        tree-root (best-on (weight rooting genes) (allowedIn n allowed) (whole n) (b .tree) (b .chosen-best)) ∙ sym is,
-        best-chosen (weight rooting genes) (allowedIn n allowed) splits (2 ^ n) split-at (b .tree) (whole n) (whole-below n) (b .chosen-best),
+        tree-root (best-on (weight rooting genes) ok (whole n) (b .tree) (b .chosen-best)) ∙ sym is,
+        best-chosen (weight rooting genes) ok splits (2 ^ n) split-at (b .tree) (whole n) (whole-below n) (b .chosen-best),
       )
 
       pub solves-chooses : (getD scores all 0 ≡ noTree → ⊥) → Chooses splits all 31
@@ -227,13 +223,12 @@ module _ (rooting : Rooting)
             tree = b .tree;
             rooted = led .0;
             chosen = led .1;
-            fits = omega (arith, tree-clusters (best-on (weight rooting genes) (allowedIn n allowed) (whole n) (b .tree) (b .chosen-best)), size-whole n);
+            fits = omega (arith, tree-clusters (best-on (weight rooting genes) ok (whole n) (b .tree) (b .chosen-best)), size-whole n);
           }
 
       pub solves-found : {r : Found} {score : ℕ} → (getD scores all 0 ≡ noTree → ⊥) → score ≡ getD scores all 0
           → ((t : Binary) → root t ≡ all → Chosen splits t → r ≡ record { number = 0; place = 0; score = score; numbers = recordOf (clustersIn t) })
-          → Solves rooting n genes allowed lentScores lentSplits r scores splits
-      unfolding bestFor
+          → Solves rooting n genes ok lentScores lentSplits r scores splits
       solves-found {r} {score} f e g =
           let b = a-best f in
           let led = led-down b in

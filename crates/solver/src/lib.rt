@@ -2,14 +2,17 @@
 mod tree;
 
 use terms::Found;
+use terms::allowing::Allowance;
 use terms::refused;
 use weights::Rooting;
 ghost use Rattle.trees.specs.Records.{recordsIn};
+ghost use Rattle.terms.specs.Allowed.{allowedFor};
 ghost use Rattle.solver.specs.Work.{Checked, Solves};
 
 // Fills both tables, and answers the tree that they choose for all species. `search` calls it, behind all its checks.
 pub fn solve(
     rooting: Rooting,
+    allowance: Allowance,
     n: usize,
     genes: &[u16],
     count: usize,
@@ -17,8 +20,8 @@ pub fn solve(
     scores: &mut [u32],
     splits: &mut [u16],
 ) -> Found
-    requires { ⌜ Checked rooting n (now genes) count (now allowed) (now scores) (now splits) ⌝ }
-    ensures { λ r. ⌜ Solves rooting n (recordsIn count (now (genes .entry))) (now (allowed .entry)) (now (scores .entry)) (now (splits .entry)) r (now (scores .exit)) (now (splits .exit)) ⌝ }
+    requires { ⌜ Checked rooting allowance n (now genes) count (now allowed) (now scores) (now splits) ⌝ }
+    ensures { λ r. ⌜ Solves rooting n (recordsIn count (now (genes .entry))) (allowedFor allowance n (now (allowed .entry))) (now (scores .entry)) (now (splits .entry)) r (now (scores .exit)) (now (splits .exit)) ⌝ }
 {
     let all = clusters::whole(n) as usize;
     let entries = all + 1;
@@ -31,7 +34,7 @@ pub fn solve(
         &mut scores[0..entries],
         &mut splits[0..entries],
     );
-    tables::fill(n, allowed, scores, splits);
+    tables::fill(allowance, n, allowed, scores, splits);
     let score = scores[all];
     if score == splits::NO_TREE {
         return refused(14, 0);

@@ -15,7 +15,7 @@ use Rattle.clusters.proofs.Sizes.{size-le}
 use Rattle.trees.specs.Lists.{upTo}
 use Rattle.splits.specs.BinaryTrees.{Binary}
 use Rattle.splits.specs.Least.{best, noTree, scoreEntry, splitEntry, filled}
-use Rattle.terms.specs.Allowed.{allowedIn}
+use Rattle.terms.specs.declared.allowing.Allowance.{Allowance}
 use Rattle.tables.specs.Work.{Next, Settles, Fillable, Fills}
 use Rattle.splits.specs.Work.{Light, Scored, ScoresBelow}
 use Rattle.splits.proofs.Recurrence.{best-on, score-bound, entry-zero, split-zero}
@@ -43,23 +43,22 @@ entry-small w ok b light l (some t) e = inr (omega (arith, score-bound light (be
 
 -- ---- the invariant
 
-abbrev scoreOn : (ℕ → ℕ) → ℕ → List ℕ → ℕ → ℕ
-scoreOn w n allowed b = scoreEntry w (best w (allowedIn n allowed) b)
+abbrev scoreOn : (ℕ → ℕ) → (ℕ → Bool) → ℕ → ℕ
+scoreOn w ok b = scoreEntry w (best w ok b)
 
-abbrev splitOn : (ℕ → ℕ) → ℕ → List ℕ → ℕ → ℕ
-splitOn w n allowed b = splitEntry (best w (allowedIn n allowed) b)
+abbrev splitOn : (ℕ → ℕ) → (ℕ → Bool) → ℕ → ℕ
+splitOn w ok b = splitEntry (best w ok b)
 
-pub record Reached (n : ℕ) (allowed lentScores lentSplits scores splits : List ℕ) (a : ℕ) : Type 0 where
+pub record Reached (n : ℕ) (ok : ℕ → Bool) (lentScores lentSplits scores splits : List ℕ) (a : ℕ) : Type 0 where
   pub some : 1 ≤ a
   pub last : a ≤ 2 ^ n
   pub few : n ≤ 16
-  pub allowed-long : 2 ^ n ≤ length allowed
   pub scores-long : 2 ^ n ≤ length lentScores
   pub splits-long : 2 ^ n ≤ length lentSplits
   pub light : (b : ℕ) → 1 ≤ b → b < 2 ^ n → getD lentScores b 0 ≤ 131072
   pub tables : (w : ℕ → ℕ) → Light w → ((b : ℕ) → 1 ≤ b → b < 2 ^ n → getD lentScores b 0 ≡ w b)
-      → (scores ≡ written (λ b. scoreEntry w (best w (allowedIn n allowed) b)) a lentScores)
-      × (splits ≡ written (λ b. splitEntry (best w (allowedIn n allowed) b)) a lentSplits)
+      → (scores ≡ written (λ b. scoreEntry w (best w ok b)) a lentScores)
+      × (splits ≡ written (λ b. splitEntry (best w ok b)) a lentSplits)
 
 first-written : (f : ℕ → ℕ) (v : ℕ) (l : List ℕ) → f 0 ≡ v → 1 ≤ length l → set l 0 v ≡ written f 1 (set l 0 v)
 first-written f v l e h =
@@ -69,26 +68,25 @@ first-written f v l e h =
 kept-behind : (l : List ℕ) (v b : ℕ) → 1 ≤ b → getD (set l 0 v) b 0 ≡ getD l b 0
 kept-behind l v b h = getD-set-other l 0 b v 0 (λ e. omega arith)
 
-pub reached-start : {n : ℕ} {allowed scores splits : List ℕ} → Fillable n allowed scores splits
-    → Reached n allowed (set scores 0 noTree) (set splits 0 0) (set scores 0 noTree) (set splits 0 0) 1
-reached-start {n} {allowed} {scores} {splits} f =
+pub reached-start : {allowance : Allowance} {n : ℕ} {allowed scores splits : List ℕ} (ok : ℕ → Bool) → Fillable allowance n allowed scores splits
+    → Reached n ok (set scores 0 noTree) (set splits 0 0) (set scores 0 noTree) (set splits 0 0) 1
+reached-start {n = n} {scores = scores} {splits = splits} ok f =
     let ns = f .scores-long in
     let np = f .splits-long in
     record {
       some = omega arith;
       last = pow-pos n;
       few = f .few;
-      allowed-long = f .allowed-long;
       scores-long = omega (arith, length-set scores 0 noTree);
       splits-long = omega (arith, length-set splits 0 0);
       light = λ b one l. omega (arith, kept-behind scores noTree b one, f .light b l);
       tables = λ w light h. (
-        first-written (scoreOn w n allowed) noTree scores (entry-zero w (allowedIn n allowed)) (omega (arith, pow-pos n)),
-        first-written (splitOn w n allowed) 0 splits (split-zero w (allowedIn n allowed)) (omega (arith, pow-pos n)),
+        first-written (scoreOn w ok) noTree scores (entry-zero w ok) (omega (arith, pow-pos n)),
+        first-written (splitOn w ok) 0 splits (split-zero w ok) (omega (arith, pow-pos n)),
       );
     }
 
-module _ {n : ℕ} {allowed lentScores lentSplits scores splits : List ℕ} {a : ℕ} (r : Reached n allowed lentScores lentSplits scores splits a) where
+module _ {n : ℕ} {ok : ℕ → Bool} {lentScores lentSplits scores splits : List ℕ} {a : ℕ} (r : Reached n ok lentScores lentSplits scores splits a) where
   -- weights that the lent table holds, whatever stands behind its 2^n entries
   own : ℕ → ℕ
   own b = min (getD lentScores b 0) 131072
@@ -101,7 +99,7 @@ module _ {n : ℕ} {allowed lentScores lentSplits scores splits : List ℕ} {a :
   unfolding own
   own-held b one l = omega (arith, r .light b one l)
 
-  own-tables : (scores ≡ written (scoreOn own n allowed) a lentScores) × (splits ≡ written (splitOn own n allowed) a lentSplits)
+  own-tables : (scores ≡ written (scoreOn own ok) a lentScores) × (splits ≡ written (splitOn own ok) a lentSplits)
   own-tables = r .tables own own-light own-held
 
   pub reached-lengths : (length scores ≡ length lentScores) × (length splits ≡ length lentSplits)
@@ -109,16 +107,16 @@ module _ {n : ℕ} {allowed lentScores lentSplits scores splits : List ℕ} {a :
       let last = r .last in
       let ns = r .scores-long in
       let np = r .splits-long in (
-        ap length (own-tables .0) ∙ written-length (scoreOn own n allowed) a lentScores (omega arith),
-        ap length (own-tables .1) ∙ written-length (splitOn own n allowed) a lentSplits (omega arith),
+        ap length (own-tables .0) ∙ written-length (scoreOn own ok) a lentScores (omega arith),
+        ap length (own-tables .1) ∙ written-length (splitOn own ok) a lentSplits (omega arith),
       )
 
   scored-below : Scored a scores
   scored-below b l =
       let few = entries-few (r .few) in
       let last = r .last in
-      let e : getD scores b 0 ≡ scoreOn own n allowed b = ap (λ t. getD t b 0) (own-tables .0) ∙ written-at (scoreOn own n allowed) a lentScores b l in
-      rw e (entry-small own (allowedIn n allowed) b own-light (omega arith) (best own (allowedIn n allowed) b) refl)
+      let e : getD scores b 0 ≡ scoreOn own ok b = ap (λ t. getD t b 0) (own-tables .0) ∙ written-at (scoreOn own ok) a lentScores b l in
+      rw e (entry-small own ok b own-light (omega arith) (best own ok b) refl)
 
   pub reached-next-cluster : a < 2 ^ n → Next a scores splits
   reached-next-cluster l =
@@ -132,17 +130,16 @@ module _ {n : ℕ} {allowed lentScores lentSplits scores splits : List ℕ} {a :
         score-entry = omega arith;
         split-entry = omega arith;
         scored = scored-below;
-        light = omega (arith, ap (λ t. getD t a 0) (own-tables .0), written-behind (scoreOn own n allowed) a lentScores a (omega arith), r .light a (r .some) l);
+        light = omega (arith, ap (λ t. getD t a 0) (own-tables .0), written-behind (scoreOn own ok) a lentScores a (omega arith), r .light a (r .some) l);
       }
 
-  pub reached-next : {scores′ splits′ : List ℕ} → a < 2 ^ n → Settles (allowedIn n allowed) a scores splits scores′ splits′
-      → Reached n allowed lentScores lentSplits scores′ splits′ (a + 1)
+  pub reached-next : {scores′ splits′ : List ℕ} → a < 2 ^ n → Settles ok a scores splits scores′ splits′
+      → Reached n ok lentScores lentSplits scores′ splits′ (a + 1)
   reached-next {scores′} {splits′} l settles =
       record {
         some = omega arith;
         last = omega arith;
         few = r .few;
-        allowed-long = r .allowed-long;
         scores-long = r .scores-long;
         splits-long = r .splits-long;
         light = r .light;
@@ -150,16 +147,16 @@ module _ {n : ℕ} {allowed lentScores lentSplits scores splits : List ℕ} {a :
       }
     where
       step : (w : ℕ → ℕ) → Light w → ((b : ℕ) → 1 ≤ b → b < 2 ^ n → getD lentScores b 0 ≡ w b)
-          → (scores ≡ written (scoreOn w n allowed) a lentScores) × (splits ≡ written (splitOn w n allowed) a lentSplits)
-          → (scores′ ≡ written (scoreOn w n allowed) (a + 1) lentScores) × (splits′ ≡ written (splitOn w n allowed) (a + 1) lentSplits)
+          → (scores ≡ written (scoreOn w ok) a lentScores) × (splits ≡ written (splitOn w ok) a lentSplits)
+          → (scores′ ≡ written (scoreOn w ok) (a + 1) lentScores) × (splits′ ≡ written (splitOn w ok) (a + 1) lentSplits)
       step w light h e =
-          let below : ScoresBelow w (allowedIn n allowed) a scores = λ b k. ap (λ t. getD t b 0) (e .0) ∙ written-at (scoreOn w n allowed) a lentScores b k in
-          let weight : getD scores a 0 ≡ w a = ap (λ t. getD t a 0) (e .0) ∙ written-behind (scoreOn w n allowed) a lentScores a (omega arith) ∙ h a (r .some) l in
+          let below : ScoresBelow w ok a scores = λ b k. ap (λ t. getD t b 0) (e .0) ∙ written-at (scoreOn w ok) a lentScores b k in
+          let weight : getD scores a 0 ≡ w a = ap (λ t. getD t a 0) (e .0) ∙ written-behind (scoreOn w ok) a lentScores a (omega arith) ∙ h a (r .some) l in
           let set-both = settles w light below weight in
           let ns = r .scores-long in
           let np = r .splits-long in (
-            set-both .0 ∙ ap (λ t. set t a (scoreOn w n allowed a)) (e .0) ∙ written-next (scoreOn w n allowed) a lentScores (omega arith),
-            set-both .1 ∙ ap (λ t. set t a (splitOn w n allowed a)) (e .1) ∙ written-next (splitOn w n allowed) a lentSplits (omega arith),
+            set-both .0 ∙ ap (λ t. set t a (scoreOn w ok a)) (e .0) ∙ written-next (scoreOn w ok) a lentScores (omega arith),
+            set-both .1 ∙ ap (λ t. set t a (splitOn w ok a)) (e .1) ∙ written-next (splitOn w ok) a lentSplits (omega arith),
           )
 
 -- all entries are there: those of the tables as they were lent stay from 2^n on
@@ -167,11 +164,11 @@ all-written : (f : ℕ → ℕ) (n a v : ℕ) (l : List ℕ) → a ≡ 2 ^ n →
 all-written f n a v l e =
     ap (λ k. written f k (set l 0 v)) e ∙ written-entries f (2 ^ n) (set l 0 v) ∙ ap (λ t. map f (upTo (2 ^ n)) ++ t) (drop-set-lt (2 ^ n) l 0 v (pow-pos n))
 
-pub reached-end : {n : ℕ} {allowed scores splits : List ℕ} {a : ℕ} (lentScores lentSplits : List ℕ)
-    → Reached n allowed (set lentScores 0 noTree) (set lentSplits 0 0) scores splits a → 2 ^ n ≤ a
-    → Fills n allowed lentScores lentSplits scores splits
-reached-end {n} {allowed} {scores} {splits} {a} lentScores lentSplits r past w light h =
+pub reached-end : {n : ℕ} {ok : ℕ → Bool} {scores splits : List ℕ} {a : ℕ} (lentScores lentSplits : List ℕ)
+    → Reached n ok (set lentScores 0 noTree) (set lentSplits 0 0) scores splits a → 2 ^ n ≤ a
+    → Fills n ok lentScores lentSplits scores splits
+reached-end {n} {ok} {scores} {splits} {a} lentScores lentSplits r past w light h =
     let last = r .last in
     let e : a ≡ 2 ^ n = omega arith in
     let both = r .tables w light (λ b one l. kept-behind lentScores noTree b one ∙ h b l) in
-    (both .0 ∙ all-written (scoreOn w n allowed) n a noTree lentScores e, both .1 ∙ all-written (splitOn w n allowed) n a 0 lentSplits e)
+    (both .0 ∙ all-written (scoreOn w ok) n a noTree lentScores e, both .1 ∙ all-written (splitOn w ok) n a 0 lentSplits e)

@@ -9,7 +9,8 @@ use Rattle.splits.specs.BinaryTrees.Binary.{tip, fork}
 use Rattle.splits.specs.Least.{best, scoreEntry, splitEntry, filled}
 use Rattle.splits.specs.Ties.{tieEntry}
 use Rattle.splits.specs.Work.{Light, Scored, ScoresBelow}
-use Rattle.terms.specs.Allowed.{allowedIn}
+use Rattle.terms.specs.declared.allowing.Allowance.{Allowance}
+use Rattle.terms.specs.declared.allowing.Allowance.the-variants.{Marked}
 
 -- ---- the entries of one cluster
 
@@ -34,20 +35,19 @@ Settles ok a scores splits scoresAfter splitsAfter =
 abbrev pub Weights : ℕ → (ℕ → ℕ) → List ℕ → Type 0
 Weights n w scores = (b : ℕ) → b < 2 ^ n → getD scores b 0 ≡ w b
 
--- 2^n entries are there, and those of the score table are at most 131,072
-pub record Fillable (n : ℕ) (allowed scores splits : List ℕ) : Type 0 where
+-- 2^n entries are there, in the allowed set too where it is looked at, and those of the score table are at most 131,072
+pub record Fillable (allowance : Allowance) (n : ℕ) (allowed scores splits : List ℕ) : Type 0 where
   pub few : n ≤ 16
-  pub allowed-long : 2 ^ n ≤ length allowed
+  pub allowed-long : allowance ≡ Marked → 2 ^ n ≤ length allowed
   pub scores-long : 2 ^ n ≤ length scores
   pub splits-long : 2 ^ n ≤ length splits
   pub light : (b : ℕ) → b < 2 ^ n → getD scores b 0 ≤ 131072
 
 -- both tables are filled, whatever the weights that the score table holds
-abbrev pub Fills : ℕ → List ℕ → List ℕ → List ℕ → List ℕ → List ℕ → Type 0
-Fills n allowed scores splits scoresAfter splitsAfter =
+abbrev pub Fills : ℕ → (ℕ → Bool) → List ℕ → List ℕ → List ℕ → List ℕ → Type 0
+Fills n ok scores splits scoresAfter splitsAfter =
     (w : ℕ → ℕ) → Light w → Weights n w scores
-    → (scoresAfter ≡ filled n (λ a. scoreEntry w (best w (allowedIn n allowed) a)) scores)
-    × (splitsAfter ≡ filled n (λ a. splitEntry (best w (allowedIn n allowed) a)) splits)
+    → (scoresAfter ≡ filled n (λ a. scoreEntry w (best w ok a)) scores) × (splitsAfter ≡ filled n (λ a. splitEntry (best w ok a)) splits)
 
 -- ---- the third table
 

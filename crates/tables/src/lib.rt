@@ -4,7 +4,8 @@ mod tree;
 
 use splits::NO_TREE;
 use splits::best_split;
-use terms::allowing::is_allowed;
+use terms::allowing::Allowance;
+use terms::allowing::is_allowed_for;
 pub use tied::count_ties;
 pub use tree::collect;
 ghost use mathlib.Core.Path.{_≡_};
@@ -12,7 +13,8 @@ ghost use mathlib.Core.Bool.{Bool, true};
 ghost use Prim.Native.Nat.{ℕ, _+_, _-_, _<_, _≤_};
 ghost use lib.ListN.{length};
 ghost use Rattle.clusters.specs.Sets.{size};
-ghost use Rattle.terms.specs.Allowed.{allowedIn};
+ghost use Rattle.terms.specs.Allowed.{allowedFor};
+ghost use Rattle.terms.specs.declared.allowing.Allowance.the-variants.{Marked};
 ghost use Rattle.tables.specs.Work.{Next, Settles, Fillable, Fills};
 
 // The score of a cluster: its own weight, once, and the score of its two parts.
@@ -41,13 +43,20 @@ fn join(scores: &mut [u32], splits: &mut [u16], a: usize)
 }
 
 // The entries of one cluster, those of all smaller ones being there.
-fn settle(n: usize, allowed: &[u8], scores: &mut [u32], splits: &mut [u16], a: usize)
+fn settle(
+    allowance: Allowance,
+    n: usize,
+    allowed: &[u8],
+    scores: &mut [u32],
+    splits: &mut [u16],
+    a: usize,
+)
     requires { ⌜ Next a (now scores) (now splits) ⌝ }
     requires { ⌜ n ≤ 16 ⌝ }
-    requires { ⌜ a < length (now allowed) ⌝ }
-    ensures { λ _. ⌜ Settles (allowedIn n (now (allowed .entry))) a (now (scores .entry)) (now (splits .entry)) (now (scores .exit)) (now (splits .exit)) ⌝ }
+    requires { ⌜ (allowance ≡ Marked → a < length (now allowed)) ⌝ }
+    ensures { λ _. ⌜ Settles (allowedFor allowance n (now (allowed .entry))) a (now (scores .entry)) (now (splits .entry)) (now (scores .exit)) (now (splits .exit)) ⌝ }
 {
-    if !is_allowed(n, allowed, a) {
+    if !is_allowed_for(allowance, n, allowed, a) {
         scores[a] = NO_TREE;
         splits[a] = 0;
         return;
@@ -60,16 +69,16 @@ fn settle(n: usize, allowed: &[u8], scores: &mut [u32], splits: &mut [u16], a: u
 }
 
 // Fills the first 2^n entries of both tables, the score table holding the weights. `solver` calls it, for `search`, whose checks have passed then.
-pub fn fill(n: usize, allowed: &[u8], scores: &mut [u32], splits: &mut [u16])
-    requires { ⌜ Fillable n (now allowed) (now scores) (now splits) ⌝ }
-    ensures { λ _. ⌜ Fills n (now (allowed .entry)) (now (scores .entry)) (now (splits .entry)) (now (scores .exit)) (now (splits .exit)) ⌝ }
+pub fn fill(allowance: Allowance, n: usize, allowed: &[u8], scores: &mut [u32], splits: &mut [u16])
+    requires { ⌜ Fillable allowance n (now allowed) (now scores) (now splits) ⌝ }
+    ensures { λ _. ⌜ Fills n (allowedFor allowance n (now (allowed .entry))) (now (scores .entry)) (now (splits .entry)) (now (scores .exit)) (now (splits .exit)) ⌝ }
 {
     scores[0] = NO_TREE;
     splits[0] = 0;
     let all = clusters::whole(n) as usize;
     let mut a = 1;
     while a <= all {
-        settle(n, allowed, scores, splits, a);
+        settle(allowance, n, allowed, scores, splits, a);
         a += 1;
     }
 }

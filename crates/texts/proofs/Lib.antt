@@ -2,9 +2,12 @@ pub mod TableNames
 pub mod Storing
 pub mod TwoForms
 pub mod LabelSums
+pub mod NoteSums
 pub mod Lengths
 pub mod Largest
 pub mod Childwise
 pub mod NodeText
+pub mod Noted
 pub mod SpeciesText
+pub mod Bearing
 pub mod LongestText

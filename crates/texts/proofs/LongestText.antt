@@ -19,7 +19,7 @@ use Rattle.trees.proofs.UpTo.{map-upTo}
 use Rattle.roster.specs.Roster.{same, position}
 use Rattle.roster.proofs.Each.{Each}
 use Rattle.roster.proofs.Positions.{Distinct}
-use Rattle.texts.specs.Writing.{nodeText, othersText, treeText, written}
+use Rattle.texts.specs.Writing.{written}
 
 -- one name of fifteen quotes, and fifteen of a letter and fourteen quotes
 abbrev quotedNames : List (List ℕ)
@@ -69,5 +69,5 @@ unfolding validGene valid every among some rising singlesFrom nested has within 
 one-by-one-valid = refl
 
 pub longest-reached : length (written quotedNames oneByOne) ≡ 543
-unfolding written treeText nodeText othersText drawn drawnTo children byLowest placed maximal properly keep some size lowest within ones trailingZeros labelOf mayBeBare doubled
+unfolding written drawn drawnTo children byLowest placed maximal properly keep some size lowest within ones trailingZeros labelOf mayBeBare doubled
 longest-reached = refl

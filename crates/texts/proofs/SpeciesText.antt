@@ -11,5 +11,5 @@ use Rattle.texts.specs.Writing.{treeText, written}
 
 pub species-written :
     (names : List (List ℕ)) {r : List ℕ} → SpeciesValid (length names) r → written names r ≡ treeText names (drawn (listed r) (whole (length names)))
-unfolding written
+unfolding written treeText
 species-written names {r} v = ap (λ (s : ℕ). treeText names (drawn (listed r) s)) (largest-of-valid v)

@@ -3,3 +3,4 @@ mod child;
 mod forms;
 pub mod label;
 pub mod node;
+pub mod note;

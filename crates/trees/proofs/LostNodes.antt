@@ -20,7 +20,7 @@ use Rattle.trees.proofs.Nodes.{clusters-once}
 mutual
   unfolding clusters clustersOf cluster allNodes allNodesOf
 
-  nodes-clusters : (t : Tree) → map cluster (allNodes t) ≡ clusters t
+  pub nodes-clusters : (t : Tree) → map cluster (allNodes t) ≡ clusters t
   nodes-clusters (leaf i b) = refl
   nodes-clusters (node t f b) =
       map-append cluster (allNodes t ++ allNodesOf f) (node t f b ∷ [])

@@ -1,4 +1,6 @@
 // The call of a case, by its letter.
+use crate::checking;
+use crate::counting;
 use crate::judging;
 use crate::marking;
 use crate::reading;
@@ -36,6 +38,8 @@ fn run_with_text(case: &[u8], letter: u8) {
             reading::run(Kind::Gene, threshold, case, text)
         }
         b'W' => writing::run(case, text),
+        b'C' => checking::run(case, text),
+        b'O' => counting::run(case, text),
         _ => reporting::run(text),
     }
 }
@@ -67,7 +71,7 @@ fn run_with_genes(case: &[u8], letter: u8) {
 pub fn run(case: &[u8]) {
     let letter = byte(case, 0);
     match letter {
-        b'J' | b'R' | b'G' | b'T' | b'W' | b'P' => run_with_text(case, letter),
+        b'J' | b'R' | b'G' | b'T' | b'W' | b'C' | b'O' | b'P' => run_with_text(case, letter),
         b'K' | b'S' | b'M' | b'F' | b'E' | b'H' | b'L' => run_with_genes(case, letter),
         b'k' | b's' | b'm' | b'f' | b'e' | b'h' | b'l' => run_with_genes(case, letter),
         _ => show::text(b"no such call\n"),

@@ -1,6 +1,8 @@
 // Runs the cases of standard input through the public calls, one a line, and prints each answer.
 // docs/src/cases.rs says how a case and its answer are written, and does the same in Rust.
 mod calls;
+mod checking;
+mod counting;
 mod judging;
 mod marking;
 mod reading;

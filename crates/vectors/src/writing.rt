@@ -3,14 +3,10 @@ use crate::replies;
 use cases::fields::lent_size;
 use cases::packed::tree;
 use cases::room;
-use showing::show;
 
 fn write(case: &[u8], line: &[u8], out: &mut [u8]) {
     let reply = writer::write(line, tree(case, 1), out);
-    replies::with_lent(reply, out);
-    show::byte(b' ');
-    show::start_of(out, reply.value);
-    show::byte(b'\n');
+    replies::with_text(reply, out);
 }
 
 pub fn run(case: &[u8], line: &[u8]) {

@@ -16,7 +16,50 @@ use Rattle.roster.specs.Verdict.{Verdict, verdict, lengthTest}
 use Rattle.roster.specs.declared.Reply.{Reply}
 use Rattle.texts.specs.Writing.{written}
 use Rattle.writer.specs.Promise.{rosterTest, recordTest, writeTests, Writes}
+use Rattle.writer.specs.Work.{fits, Puts}
 use Rattle.writer.proofs.RosterNames.{good-names}
+
+-- ---- a text that is put into lent bytes
+
+-- one outcome
+pub puts-once : {text out : List ℕ} {p p′ : Reply} {after after′ : List ℕ} → Puts text out p after → Puts text out p′ after′ → (p ≡ p′) × (after ≡ after′)
+puts-once w w′ = (w .answer ∙ sym (w′ .answer), w .bytes ∙ sym (w′ .bytes))
+
+module _ (text out : List ℕ) where
+  short-fits : length out < length text → fits text out ≡ record { number = 12; place = 0 }
+  unfolding fits verdict lengthTest
+  short-fits s = rw (lt-ltb (length out) (length text) s)
+
+  done-fits : length text ≤ length out → fits text out ≡ record { number = 0; place = 0 }
+  unfolding fits verdict lengthTest
+  done-fits s = rw (le-ltb (length out) (length text) s)
+
+  pub puts-short : {p : Reply} {after : List ℕ} → length out < length text → p ≡ refusal 12 0 → after ≡ out → Puts text out p after
+  puts-short s a b = let e = short-fits s in record { answer = a ∙ rw e; bytes = b ∙ rw e }
+
+  pub puts-done : {p : Reply} {after : List ℕ} → length text ≤ length out → p ≡ done (length text) → after ≡ text ++ drop (length text) out → Puts text out p after
+  puts-done s a b = let e = done-fits s in record { answer = a ∙ rw e; bytes = b ∙ rw e }
+
+  -- a text that was put, and not refused
+  pub record Stands (p : Reply) (after : List ℕ) : Type 0 where
+    pub room : length text ≤ length out
+    pub value : p .value ≡ length text
+    pub bytes : after ≡ text ++ drop (length text) out
+
+  pub puts-zero : {p : Reply} {after : List ℕ} → Puts text out p after → p .number ≡ 0 → Stands p after
+  puts-zero {p} {after} w z = roomy (ltb (length out) (length text)) refl
+    where
+      roomy : (t : Bool) → ltb (length out) (length text) ≡ t → Stands p after
+      roomy true e =
+          let k = ap (λ (a : Reply). a .number) (w .answer) in
+          let l = ap (λ (a : Verdict). a .number) (short-fits (ltb-true (length out) (length text) e)) in
+          absurd (omega arith)
+      roomy false e =
+          let l = ltb-false (length out) (length text) e in
+          let d = done-fits l in
+          record { room = l; value = ap (λ (a : Reply). a .value) (w .answer) ∙ rw d; bytes = w .bytes ∙ rw d }
+
+-- ---- the call
 
 -- the promise admits one outcome
 pub writes-once : {line r out : List ℕ} {p p′ : Reply} {after after′ : List ℕ} → Writes line r out p after → Writes line r out p′ after′ → (p ≡ p′) × (after ≡ after′)
@@ -37,19 +80,12 @@ module _ (line r out : List ℕ) where
   unfolding verdict writeTests rosterTest recordTest
   invalid-verdict f v = rw (f, v)
 
-  short-verdict :
-      faulty speciesMost line ≡ false → validGene (length (names line)) r ≡ true → length out < size
-      → verdict (writeTests line r out) ≡ record { number = 12; place = 0 }
-  unfolding verdict writeTests rosterTest recordTest lengthTest
-  short-verdict f v s = rw (f, v, lt-ltb (length out) (length (written (names line) r)) s)
+  -- behind both it is whether the text fits
+  checked-verdict : faulty speciesMost line ≡ false → validGene (length (names line)) r ≡ true → verdict (writeTests line r out) ≡ fits (written (names line) r) out
+  unfolding verdict writeTests rosterTest recordTest fits
+  checked-verdict f v = rw (f, v)
 
-  done-verdict :
-      faulty speciesMost line ≡ false → validGene (length (names line)) r ≡ true → size ≤ length out
-      → verdict (writeTests line r out) ≡ record { number = 0; place = 0 }
-  unfolding verdict writeTests rosterTest recordTest lengthTest
-  done-verdict f v s = rw (f, v, le-ltb (length out) (length (written (names line) r)) s)
-
-  -- ---- the four ways
+  -- ---- the ways
 
   module _ {p : Reply} {after : List ℕ} {n q : ℕ} (e : verdict (writeTests line r out) ≡ record { number = suc n; place = q }) where
     refused-by : p ≡ refusal (suc n) q → after ≡ out → Writes line r out p after
@@ -63,14 +99,15 @@ module _ (line r out : List ℕ) where
       → Writes line r out p after
   writes-invalid f v = refused-by (invalid-verdict f v)
 
-  pub writes-short :
-      {p : Reply} {after : List ℕ} → faulty speciesMost line ≡ false → validGene (length (names line)) r ≡ true → length out < size → p ≡ refusal 12 0
-      → after ≡ out → Writes line r out p after
-  writes-short f v s = refused-by (short-verdict f v s)
+  module _ {p : Reply} {after : List ℕ} (f : faulty speciesMost line ≡ false) (v : validGene (length (names line)) r ≡ true) where
+    pub writes-put : Puts (written (names line) r) out p after → Writes line r out p after
+    writes-put w = let e = checked-verdict f v in record { answer = w .answer ∙ rw e; bytes = w .bytes ∙ rw e }
 
-  pub writes-done : {p : Reply} {after : List ℕ} → faulty speciesMost line ≡ false → validGene (length (names line)) r ≡ true → size ≤ length out
-      → p ≡ done size → after ≡ written (names line) r ++ drop size out → Writes line r out p after
-  writes-done f v s a b = let e = done-verdict f v s in record { answer = a ∙ rw e; bytes = b ∙ rw e }
+    put-writes : Writes line r out p after → Puts (written (names line) r) out p after
+    put-writes w = let e = checked-verdict f v in record { answer = w .answer ∙ rw e; bytes = w .bytes ∙ rw e }
+
+    pub writes-done : size ≤ length out → p ≡ done size → after ≡ written (names line) r ++ drop size out → Writes line r out p after
+    writes-done s a b = writes-put (puts-done (written (names line) r) out s a b)
 
 -- ---- number 0
 
@@ -88,23 +125,10 @@ writes-zero {line} {r} {out} {p} {after} w z = judged (faulty speciesMost line) 
     other : {n q : ℕ} → verdict (writeTests line r out) ≡ record { number = suc n; place = q } → ⊥
     other e = let k = ap (λ (a : Reply). a .number) (w .answer) in let l = ap (λ (a : Verdict). a .number) e in omega arith
 
-    roomy :
-        (t : Bool) → ltb (length out) (length (written (names line) r)) ≡ t → faulty speciesMost line ≡ false
-        → validGene (length (names line)) r ≡ true → Wrote line r out p after
-    roomy true e f v = absurd (other (short-verdict line r out f v (ltb-true (length out) (length (written (names line) r)) e)))
-    roomy false e f v =
-        let l = ltb-false (length out) (length (written (names line) r)) e in
-        let d = done-verdict line r out f v l in
-        record {
-          good = f;
-          valid = gene-decides r (good-names line f .few) .holds v;
-          room = l;
-          value = ap (λ (a : Reply). a .value) (w .answer) ∙ rw d;
-          bytes = w .bytes ∙ rw d;
-        }
-
     checked : (t : Bool) → validGene (length (names line)) r ≡ t → faulty speciesMost line ≡ false → Wrote line r out p after
-    checked true v f = roomy (ltb (length out) (length (written (names line) r))) refl f v
+    checked true v f =
+        let s = puts-zero (written (names line) r) out (put-writes line r out f v w) z in
+        record { good = f; valid = gene-decides r (good-names line f .few) .holds v; room = s .room; value = s .value; bytes = s .bytes }
     checked false v f = absurd (other (invalid-verdict line r out f v))
 
     judged : (t : Bool) → faulty speciesMost line ≡ t → Wrote line r out p after

@@ -1,5 +1,5 @@
--- Reading what was written gives the record back.
-use Prim.Native.Nat.{ℕ, _-_}
+-- Reading what was written gives the record back, also where counts stand behind the nodes.
+use Prim.Native.Nat.{ℕ, _-_, _^_, _≤_, _<_}
 use mathlib.Core.Path.{_≡_, refl, sym, ap, _∙_, subst}
 use mathlib.Core.Bool.{false}
 use mathlib.Core.List.{List, []}
@@ -7,8 +7,10 @@ use native.Mathlib.Omega.{arith}
 use lib.ListN.{length, take, drop, replicate}
 use lib.Seq.{take-append-seam}
 use Rattle.clusters.specs.Sets.{whole}
-use Rattle.trees.specs.Records.{listed, largest, GeneValid}
-use Rattle.trees.specs.Drawn.{drawn}
+use Rattle.trees.specs.Lists.{Among}
+use Rattle.trees.specs.Tree.{Tree, Behind}
+use Rattle.trees.specs.Records.{listed, largest, recordOf, GeneValid}
+use Rattle.trees.specs.Drawn.{bare, drawn}
 use Rattle.trees.proofs.Drawing.{drawn-on, drawn-record}
 use Rattle.trees.proofs.GeneRecords.{gene-small}
 use Rattle.roster.specs.Roster.{names, faulty}
@@ -25,45 +27,86 @@ use Rattle.reader.specs.declared.Reading.{Reading}
 use Rattle.reader.proofs.Accepts.{derives-accepted}
 use Rattle.reader.proofs.Replies.{reads-zero}
 use Rattle.reader.proofs.ByKind.{kinds-compared}
-use Rattle.texts.specs.Writing.{written}
-use Rattle.texts.proofs.Lengths.{text-most}
+use Rattle.texts.specs.Writing.{note, countNote, writtenWith, written, bearing, countBehind, counted}
+use Rattle.texts.proofs.Lengths.{noted-bound, text-most}
+use Rattle.texts.proofs.NoteSums.{decimal-within}
+use Rattle.texts.proofs.Bearing.{bearing-leaves, bearing-cluster, bearing-clusters}
 use Rattle.writer.specs.Promise.{Writes}
-use Rattle.writer.proofs.RosterNames.{good-names}
-use Rattle.writer.proofs.Derives.{derives-written}
+use Rattle.writer.proofs.RosterNames.{GoodNames, good-names}
+use Rattle.writer.proofs.Derives.{Says, says-nothing, says-count, derives-written, drawn-bare}
 use Rattle.writer.proofs.Outcomes.{writes-once, writes-zero}
 
 -- ---- a valid gene record written, and read
 
 module _ (line : List ℕ) {r : List ℕ} (good : faulty speciesMost line ≡ false) (v : GeneValid (length (names line)) r) where
+  -- the tree that it draws
+  abbrev tree : Tree
+  tree = drawn (listed r) (largest r)
+
+  named : GoodNames (names line)
+  named = good-names line good
+
   -- as a tree of a kind that has its species
   module _ (kind : Kind) (species : MayHave kind (length (names line)) (largest r)) where
-    -- the text draws the tree that the record draws
-    written-draws : Draws kind NoThreshold line (written (names line) r) 0 (drawn (listed r) (largest r)) []
-    written-draws =
-        let g = good-names line good in
-        let l = text-most (names line) (g .few) v (g .each) in
-        let o = drawn-on (v .valid) (gene-small (g .few) v) in
-        record {
-          good = good;
-          short = omega arith;
-          inside = omega arith;
-          derives = derives-written (names line) g v;
-          once = o .once;
-          species = subst (λ (s : ℕ). MayHave kind (length (names line)) s) (sym (o .all)) species;
-        }
+    -- with notes of at most thirteen bytes that say what stands behind the nodes
+    module _ (notes : ℕ → List ℕ) (behind : ℕ → Behind) (short : (a : ℕ) → Among a (listed r) → length (notes a) ≤ 13)
+        (says : (a : ℕ) → Among a (listed r) → Says (names line) notes behind a) where
+      abbrev text : List ℕ
+      text = writtenWith notes (names line) r
 
-    -- for every valid record, reading what the writer wrote gives that record
-    pub round-trip : answerTo kind NoThreshold line (written (names line) r) 0 ≡ parsed (drawn (listed r) (largest r)) [] (length (written (names line) r))
-    round-trip = derives-accepted kind NoThreshold line (written (names line) r) 0 written-draws ∙ ap (λ (q : ℕ). parsed (drawn (listed r) (largest r)) [] q) (omega arith)
+      -- the text draws the tree that the record draws, with that behind its nodes
+      text-draws : Draws kind NoThreshold line text 0 (bearing behind tree) []
+      text-draws =
+          let l = text-most (names line) (named .few) v (named .each) in
+          let m = noted-bound (names line) (named .few) v notes 13 short in
+          let c = v .valid .form .counted in
+          let o = drawn-on (v .valid) (gene-small (named .few) v) in
+          record {
+            good = good;
+            short = omega arith;
+            inside = omega arith;
+            derives = derives-written (names line) named v notes behind says;
+            once = rw (bearing-leaves behind tree) (o .once);
+            species = subst (λ (s : ℕ). MayHave kind (length (names line)) s) (sym (bearing-cluster behind tree ∙ o .all)) species;
+          }
 
-    -- the reader's whole answer: number 0, the record, and the offset behind the text
+      -- reading it gives that tree
+      text-read : answerTo kind NoThreshold line text 0 ≡ parsed (bearing behind tree) [] (length text)
+      text-read = derives-accepted kind NoThreshold line text 0 text-draws ∙ ap (λ (q : ℕ). parsed (bearing behind tree) [] q) (omega arith)
+
+      -- the reader's whole answer: number 0, the record, and the offset behind the text
+      text-reads-back : {q : Reading} → Reads kind NoThreshold line text 0 q → q ≡ record { number = 0; place = 0; next = length text; numbers = r }
+      unfolding Reads
+      text-reads-back h =
+          h ∙ ap (readingOf NoThreshold 0) text-read
+          ∙ ap (λ (k : List ℕ). record { number = 0; place = 0; next = length text; numbers = k })
+          (ap recordOf (bearing-clusters behind tree) ∙ drawn-record (v .valid) (gene-small (named .few) v))
+
+    -- without notes: for every valid record, reading what the writer wrote gives that record
+    pub round-trip : answerTo kind NoThreshold line (written (names line) r) 0 ≡ parsed tree [] (length (written (names line) r))
+    unfolding written
+    round-trip =
+        text-read note (λ a. bare) (λ a m. omega arith) (λ a m. says-nothing (names line) a)
+        ∙ ap (λ (t : Tree). parsed t [] (length (writtenWith note (names line) r))) (drawn-bare (names line) named v)
+
     pub reads-back : {q : Reading} → Reads kind NoThreshold line (written (names line) r) 0 q
         → q ≡ record { number = 0; place = 0; next = length (written (names line) r); numbers = r }
-    unfolding Reads
-    reads-back h =
-        h ∙ ap (readingOf NoThreshold 0) round-trip
-        ∙ ap (λ (k : List ℕ). record { number = 0; place = 0; next = length (written (names line) r); numbers = k })
-        (drawn-record (v .valid) (gene-small (good-names line good .few) v))
+    unfolding written
+    reads-back h = text-reads-back note (λ a. bare) (λ a m. omega arith) (λ a m. says-nothing (names line) a) h
+
+    -- with counts of at most twelve digits (#114): reading gives the tree with each count behind its node, and the same record
+    module _ (counts : ℕ → ℕ) (small : (a : ℕ) → Among a (listed r) → counts a < 10 ^ 12) where
+      count-short : (a : ℕ) → Among a (listed r) → length (countNote counts a) ≤ 13
+      count-short a m = let s = small a m in let d = decimal-within 11 (counts a) (omega arith) s in omega arith
+
+      pub counted-round-trip :
+          answerTo kind NoThreshold line (writtenWith (countNote counts) (names line) r) 0
+          ≡ parsed (counted counts tree) [] (length (writtenWith (countNote counts) (names line) r))
+      counted-round-trip = text-read (countNote counts) (countBehind counts) count-short (λ a m. says-count (names line) counts a (small a m))
+
+      pub counted-reads-back : {q : Reading} → Reads kind NoThreshold line (writtenWith (countNote counts) (names line) r) 0 q
+          → q ≡ record { number = 0; place = 0; next = length (writtenWith (countNote counts) (names line) r); numbers = r }
+      counted-reads-back h = text-reads-back (countNote counts) (countBehind counts) count-short (λ a m. says-count (names line) counts a (small a m)) h
 
   -- as a gene tree: whatever species it has
   pub reads-back-gene : {q : Reading} → Reads Gene NoThreshold line (written (names line) r) 0 q

@@ -1,4 +1,5 @@
 //! What this version does in two ways comes out alike, on random inputs from fixed seeds.
+use reference::counts::{check, write_counts};
 use reference::label;
 use reference::lineages::Rooting::{self, Rooted, Unrooted};
 use reference::lineages::{extra, extra_by_pass, k, k_by_pass, mark, records, score, shown, weight_of};
@@ -878,4 +879,45 @@ fn a_sheet_and_single_calls() {
         }
     }
     assert!(gets.iter().all(|&times| times > 200), "{gets:?}");
+}
+
+#[test]
+fn counts_written_are_passed_and_with_a_digit_changed_refused() {
+    let mut s = Seeded::new(27);
+    let (mut above, mut refused) = (0, [0; 2]);
+    for _ in 0..1500 {
+        let n = 1 + s.below(8);
+        let names = if s.one_in(2) { s.names(n) } else { s.printables(n) };
+        let line = s.labels(&names).join(&b' ');
+        let (genes, species) = (genes(&mut s, n), s.gene(n, true));
+        let mut text = vec![0; 744];
+        let length = write_counts(&line, &genes.concat(), genes.len(), &species, &mut text).unwrap();
+        text.truncate(length);
+        let tables = || (vec![7; 1 << n], vec![9; 1 << n]);
+        let checked = |text: &[u8]| {
+            let (mut scores, mut splits) = tables();
+            (check(&line, text, 0, &genes.concat(), genes.len(), &mut scores, &mut splits), (scores, splits))
+        };
+
+        let (mut scores, mut splits) = tables();
+        let (least, _) = search(Rooted, n, &genes.concat(), genes.len(), &vec![1; 1 << n], &mut scores, &mut splits).unwrap();
+        let distance = score(Rooted, n, &genes.concat(), genes.len(), &species).unwrap() - least;
+        assert_eq!(checked(&text), (Ok(distance), (scores, splits)), "{line:?}, {text:?}, gene trees {genes:?}");
+        above += (distance > 0) as usize;
+
+        let digits: Vec<usize> = (0..length).filter(|&at| text[at].is_ascii_digit()).collect();
+        let at = digits[s.below(digits.len())];
+        text[at] = b'0' + (text[at] - b'0' + 1 + s.below(9) as u8) % 10;
+        let refusal = match read(Kind::Species, None, &line, &text, 0) {
+            Ok((record, _)) => {
+                // the digit was a count's: every name stands in the tree, so a name that is changed is unknown or stands there twice
+                assert_eq!(record, species);
+                (23, text[..at].iter().rposition(|&b| b == b':').unwrap())
+            }
+            Err(refusal) => refusal,
+        };
+        assert_eq!(checked(&text), (Err(refusal), tables()), "{line:?}, {text:?}, gene trees {genes:?}");
+        refused[(refusal.0 == 23) as usize] += 1;
+    }
+    assert!(above > 500 && refused[0] > 100 && refused[1] > 500, "{above} above the least, refused {refused:?}");
 }

@@ -7,8 +7,8 @@ use native.Mathlib.Omega.{arith}
 use Rattle.clusters.specs.Sets.{single}
 use Rattle.lineages.specs.InOrder.{Shaped}
 use Rattle.lineages.proofs.Verdicts.{shaped-at}
-use Rattle.solver.specs.Work.{LongEnough}
 use Rattle.terms.proofs.Refusing.{strange-is}
+use Rattle.search.specs.Work.{LongEnough}
 use Rattle.search.proofs.Finding.{checked, finds-shape, finds-short, finds-bad, finds-strange, finds-solved}
 use Rattle.search.proofs.search.Statement.{statement}
 use Rattle.search.proofs.search.Tie as tie

@@ -5,6 +5,7 @@ use borrow.Author.Needs.{needs}
 use native.Mathlib.Omega.{arith}
 use lib.ListN.{length}
 use Rattle.trees.specs.Records.{recordsIn}
+use Rattle.terms.specs.Allowed.{allowedFor}
 use Rattle.solver.proofs.Solving.{BothFilled, part-sized, back-length, all-few, all-fits, all-splits, weights-fillable, both-filled, solves-none, solves-chooses, solves-found}
 use Rattle.solver.proofs.solve.Statement.{statement}
 use Rattle.solver.proofs.solve.Tie as tie
@@ -15,17 +16,16 @@ part-lengths :
     (length (c .fill .last .1 .1 .1 .1 .0) ≡ 2 ^ n) × (length (c .fill .last .1 .1 .1 .1 .1 .0) ≡ 2 ^ n)
 part-lengths c =
     let start = c .before .before .before .before .before .before .before .before in
-    let long = start .pre .long in
     let is = c .before .before .before .whole .ensures in (
-      c .fill .kept .1 .1 .1 .1 .0 ∙ part-sized (start .args .n) is (start .args .scores .now) (long .scores-long),
-      c .fill .kept .1 .1 .1 .1 .1 .0 ∙ part-sized (start .args .n) is (start .args .splits .now) (long .splits-long),
+      c .fill .kept .1 .1 .1 .1 .0 ∙ part-sized (start .args .n) is (start .args .scores .now) (start .pre .scores-long),
+      c .fill .kept .1 .1 .1 .1 .1 .0 ∙ part-sized (start .args .n) is (start .args .splits .now) (start .pre .splits-long),
     )
 
 -- behind the second call both tables are there
 both-tables :
     (c : tie.After-fill2) → let args = c .before .before .before .before .before .before .before .before .before .before .before .before .before .before .before .args in
-    BothFilled (args .rooting) (args .n) (recordsIn (args .count) (args .genes .now)) (args .allowed .now) (args .scores .now) (args .splits .now)
-    (c .fill2 .last .1 .1 .0) (c .fill2 .last .1 .1 .1 .0)
+    BothFilled (args .rooting) (args .n) (recordsIn (args .count) (args .genes .now)) (allowedFor (args .allowance) (args .n) (args .allowed .now))
+    (args .scores .now) (args .splits .now) (c .fill2 .last .1 .1 .1 .0) (c .fill2 .last .1 .1 .1 .1 .0)
 both-tables c =
     let weighed = c .before .before .before .before .before .before .before in
     let all = weighed .before .before .before in
@@ -34,16 +34,15 @@ both-tables c =
 -- and as long as they were
 same-tables :
     (c : tie.After-fill2) → let args = c .before .before .before .before .before .before .before .before .before .before .before .before .before .before .before .args in
-    (length (c .fill2 .last .1 .1 .0) ≡ length (args .scores .now)) × (length (c .fill2 .last .1 .1 .1 .0) ≡ length (args .splits .now))
+    (length (c .fill2 .last .1 .1 .1 .0) ≡ length (args .scores .now)) × (length (c .fill2 .last .1 .1 .1 .1 .0) ≡ length (args .splits .now))
 same-tables c =
     let weighed = c .before .before .before .before .before .before .before in
     let all = weighed .before .before .before in
     let start = all .before .before .before .before .before in
-    let long = start .pre .long in
     let parts = part-lengths weighed in
     let scores = back-length (start .args .n) (all .whole .ensures) (weighed .fill .last .1 .1 .1 .1 .0) (start .args .scores .now) in
     let splits = back-length (start .args .n) (all .whole .ensures) (weighed .fill .last .1 .1 .1 .1 .1 .0) (start .args .splits .now) in
-    (c .fill2 .kept .1 .1 .0 ∙ scores (long .scores-long) (parts .0), c .fill2 .kept .1 .1 .1 .0 ∙ splits (long .splits-long) (parts .1))
+    (c .fill2 .kept .1 .1 .1 .0 ∙ scores (start .pre .scores-long) (parts .0), c .fill2 .kept .1 .1 .1 .1 .0 ∙ splits (start .pre .splits-long) (parts .1))
 
 whole-requires : tie.Need-whole-requires
 whole-requires c κs = let few = c .before .before .before .before .pre .weighable .few-species in omega arith
@@ -60,8 +59,8 @@ fill-requires c κs =
     let is = c .before .before .whole .ensures in (
       start .pre .weighable,
       (
-        part-sized (start .args .n) is (start .args .scores .now) (start .pre .long .scores-long),
-        part-sized (start .args .n) is (start .args .splits .now) (start .pre .long .splits-long),
+        part-sized (start .args .n) is (start .args .scores .now) (start .pre .scores-long),
+        part-sized (start .args .n) is (start .args .splits .now) (start .pre .splits-long),
       ),
     )
 

@@ -5,15 +5,16 @@ use borrow.Author.Needs.{needs}
 use native.Mathlib.Omega.{arith}
 use lib.ListN.{length-set}
 use lib.Pow.{pow-pos}
+use Rattle.terms.specs.Allowed.{allowedFor}
 use Rattle.tables.proofs.Reached.{below-of-whole, past-whole, Reached, reached-start, reached-lengths, reached-next-cluster, reached-next, reached-end}
 use Rattle.tables.proofs.fill.Statement.{statement}
 use Rattle.tables.proofs.fill.Tie as tie
 
 abbrev Inv-loop : tie.InvT-loop
-Inv-loop n allowed scores₀ splits₀ all a₀ scores splits a = Reached n allowed scores₀ splits₀ scores splits a
+Inv-loop allowance n allowed scores₀ splits₀ all a₀ scores splits a = Reached n (allowedFor allowance n allowed) scores₀ splits₀ scores splits a
 
 abbrev μ-loop : tie.MeasureT-loop
-μ-loop n allowed scores₀ splits₀ all a₀ scores splits a = all + 1 - a
+μ-loop allowance n allowed scores₀ splits₀ all a₀ scores splits a = all + 1 - a
 
 slice-write-scores : tie.Need-slice-write-scores Inv-loop μ-loop
 slice-write-scores c =
@@ -31,16 +32,16 @@ whole-requires : tie.Need-whole-requires Inv-loop μ-loop
 whole-requires c κs = let few = c .before .before .before .pre .few in omega arith
 
 loop-holds : tie.Need-loop-holds Inv-loop μ-loop
-loop-holds c = reached-start (c .before .before .before .before .pre)
+loop-holds c = reached-start _ (c .before .before .before .before .pre)
 
 settle-requires : tie.Need-settle-requires Inv-loop μ-loop
 settle-requires c κs =
     let at-loop = c .before .before .before in
     let reached = at-loop .loop .inv in
     let all = at-loop .before in
-    let below = below-of-whole (all .before .before .before .before .args .n) (at-loop .loop .a) (omega (arith, all .whole .ensures)) in
-    let long = reached .allowed-long in
-    (reached-next-cluster reached below, (reached .few, omega arith))
+    let start = all .before .before .before .before in
+    let below = below-of-whole (start .args .n) (at-loop .loop .a) (omega (arith, all .whole .ensures)) in
+    (reached-next-cluster reached below, (reached .few, λ marked. omega (arith, start .pre .allowed-long marked)))
 
 loop-again : tie.Need-loop-again Inv-loop μ-loop
 loop-again c =

@@ -2,7 +2,7 @@
 use mathlib.Core.Path.{sym, _∙_}
 use borrow.Author.Needs.{needs}
 use borrow.Author.Tests.{not-true, not-false}
-use Rattle.terms.specs.Allowed.{allowedIn}
+use Rattle.terms.specs.Allowed.{allowedFor}
 use Rattle.tables.proofs.Settling.{settles-refused, settles-single, two-of-more}
 use Rattle.tables.proofs.settle.Statement.{statement}
 use Rattle.tables.proofs.settle.Tie as tie
@@ -10,14 +10,16 @@ use Rattle.tables.proofs.settle.Tie as tie
 returns : tie.Need-returns
 returns c =
     let start = c .before .before .before .before .before in
-    settles-refused (allowedIn (start .args .n) (start .args .allowed .now)) (start .args .a) (start .args .scores .now) (start .args .splits .now)
-    (sym (c .before .is-allowed .ensures) ∙ not-true _ (c .if1 .taken))
+    settles-refused (allowedFor (start .args .allowance) (start .args .n) (start .args .allowed .now)) (start .args .a)
+    (start .args .scores .now) (start .args .splits .now)
+    (sym (c .before .is-allowed-for .ensures) ∙ not-true _ (c .if1 .taken))
 
 returns-2 : tie.Need-returns-2
 returns-2 c =
     let start = c .before .before .before .before .before .before .before in
-    settles-single (allowedIn (start .args .n) (start .args .allowed .now)) (start .args .a) (start .args .scores .now) (start .args .splits .now)
-    (sym (c .before .before .before .is-allowed .ensures) ∙ not-false _ (c .before .before .if1 .left)) (sym (c .before .size .ensures) ∙ c .if2 .taken)
+    settles-single (allowedFor (start .args .allowance) (start .args .n) (start .args .allowed .now)) (start .args .a)
+    (start .args .scores .now) (start .args .splits .now)
+    (sym (c .before .before .before .is-allowed-for .ensures) ∙ not-false _ (c .before .before .if1 .left)) (sym (c .before .size .ensures) ∙ c .if2 .taken)
 
 join-requires : tie.Need-join-requires
 join-requires c κs =
@@ -27,8 +29,8 @@ join-requires c κs =
 returns-3 : tie.Need-returns-3
 returns-3 c =
     let start = c .before .before .before .before .before .before .before .before .before .before .before .before .before .before in
-    c .before .before .before .before .join .ensures (allowedIn (start .args .n) (start .args .allowed .now))
-    (sym (c .before .before .before .before .before .before .before .before .before .before .is-allowed .ensures)
+    c .before .before .before .before .join .ensures (allowedFor (start .args .allowance) (start .args .n) (start .args .allowed .now))
+    (sym (c .before .before .before .before .before .before .before .before .before .before .is-allowed-for .ensures)
     ∙ not-false _ (c .before .before .before .before .before .before .before .before .before .if1 .left))
 
 pub settle-spec : {M : Type 1} → statement M

@@ -1,6 +1,5 @@
--- `writer::write` meets its contract: each refusal has its own return, and the text is written once its length is judged.
-use Prim.Native.Nat.{ℕ, _≤_}
-use mathlib.Core.Path.{_≡_, refl, sym, ap, _∙_}
+-- `writer::write` meets its contract: each refusal has its own return, and behind both checks the text is put without counts.
+use mathlib.Core.Path.{_≡_, refl, sym, _∙_}
 use mathlib.Core.Bool.{true}
 use native.Mathlib.Omega.{arith}
 use borrow.Author.Needs.{needs}
@@ -10,11 +9,10 @@ use Rattle.trees.specs.Valid.{validGene}
 use Rattle.trees.specs.Records.{GeneValid}
 use Rattle.roster.specs.Roster.{names}
 use Rattle.roster.specs.Judged.{speciesMost}
-use Rattle.roster.specs.declared.Reply.{Reply}
 use Rattle.roster.proofs.Judging.{read-good, read-faulty}
-use Rattle.texts.specs.Writing.{written}
-use Rattle.writer.proofs.WholeText.{Given, given-few, given-table, given-test, given-count, given-listed, given-counts, given-length, given-room, end-room, given-stored}
-use Rattle.writer.proofs.Outcomes.{writes-faulty, writes-invalid, writes-short, writes-done}
+use Rattle.writer.specs.Work.{Given}
+use Rattle.writer.proofs.WholeText.{given-few, given-test, given-plain}
+use Rattle.writer.proofs.Outcomes.{writes-faulty, writes-invalid, writes-put}
 use Rattle.writer.proofs.write.Statement.{statement}
 use Rattle.writer.proofs.write.Tie as tie
 
@@ -48,19 +46,6 @@ tested c =
     let v = c .before .valid-gene in
     sym (given-test (given named) (v .result) (start .args .tree .numbers) (v .ensures)) ∙ not-false (v .result) (c .if2 .left)
 
--- the length is that of the text, and the text has room
-length-there :
-    (c : tie.After-text-length)
-    → let start = c .before .before .before .before .before .before .before .before .before .before .before in
-    c .text-length .result ≡ length (written (names (start .args .line .now)) (start .args .tree .numbers))
-length-there c = given-length (given (c .before .before .before .before)) (valid-there (c .before .before)) refl (c .text-length .ensures)
-
-room-there :
-    (c : tie.Else3)
-    → let start = c .before .before .before .before .before .before .before .before .before .before .before .before in
-    length (written (names (start .args .line .now)) (start .args .tree .numbers)) ≤ length (start .args .out .now)
-room-there c = let l = length-there (c .before) in omega arith
-
 returns : tie.Need-returns
 returns c =
     let s = c .before .before .before .before .before .args in
@@ -77,47 +62,19 @@ returns-2 c =
     let t = sym (given-test g (v .result) (s .tree .numbers) (v .ensures)) ∙ not-true (v .result) (c .before .if2 .taken) in
     writes-invalid (s .line .now) (s .tree .numbers) (s .out .now) (g .good) t (c .refused2 .ensures) refl
 
+put-requires : tie.Need-put-requires
+put-requires c κs =
+    let sound = c .before .before .before .before in
+    let start = sound .before .before .before .before .before .before .before .before .before in
+    ((start .args .line .now, given (sound .before .before)), (valid-there sound, λ some. absurd (omega arith)))
+
 returns-3 : tie.Need-returns-3
 returns-3 c =
-    let sound = c .before .before .before .before in
-    let named = sound .before .before in
-    let s = named .before .before .before .before .before .before .before .args in
-    let l = length-there (c .before .before) in
-    writes-short (s .line .now) (s .tree .numbers) (s .out .now) (given named .good) (tested sound) (omega arith) (c .refused3 .ensures) refl
-
-node-requires : tie.Need-node-requires
-node-requires c κs =
-    let sound = c .before .before .before .before .before .before in
-    let named = sound .before .before in
-    let start = named .before .before .before .before .before .before .before in
-    let g = given named in
-    let v = valid-there sound in
-    (given-listed g v refl, (given-table g, given-room g v refl (start .args .out .now) (room-there (c .before .before .before))))
-
-slice-write-out : tie.Need-slice-write-out
-slice-write-out c =
-    let roomy = c .before .before .before .before .before .before in
-    let sound = roomy .before .before .before in
-    let named = sound .before .before in
-    let start = named .before .before .before .before .before .before .before in
-    end-room (given named) (valid-there sound) refl (start .args .out .now) (room-there roomy) (c .before .before .node .ensures)
-
-abbrev reply-of : ℕ → ℕ → ℕ → Reply
-reply-of number place value = record { number = number; place = place; value = value }
-
-returns-4 : tie.Need-returns-4
-returns-4 c =
-    let roomy = c .before .before .before .before .before .before in
-    let measured = roomy .before in
-    let sound = measured .before .before in
+    let sound = c .before .before .before .before .before .before .before in
     let named = sound .before .before in
     let s = named .before .before .before .before .before .before .before .args in
     let g = given named in
-    let r = room-there roomy in
-    let b = given-stored g (valid-there sound) refl (s .out .now) r (c .before .before .node .ensures) in
-    -- the reply has the length that was counted
-    let replied = ap (reply-of 0 0) (length-there measured) in
-    writes-done (s .line .now) (s .tree .numbers) (s .out .now) (g .good) (tested sound) r replied b
+    writes-put (s .line .now) (s .tree .numbers) (s .out .now) (g .good) (tested sound) (given-plain g (c .before .before .put .ensures))
 
 pub write-spec : {M : Type 1} → statement M
 write-spec =
@@ -132,16 +89,7 @@ write-spec =
     returns-2
     (λ c. search needs)
     (λ c. search needs)
-    (λ c. omega (arith, given-count (given (c .before .before)) (valid-there c)))
-    (λ c. omega (arith, given-count (given (c .before .before)) (valid-there c)))
     (λ c. search needs)
+    put-requires
     (λ c. search needs)
-    (λ c κs. given-counts (given (c .before .before .before)) (valid-there (c .before)) refl)
-    (λ c κs. search needs)
-    returns-3
-    (λ c. search needs)
-    (λ c. search needs)
-    node-requires
-    slice-write-out
-    (λ c. search needs)
-    returns-4)
+    returns-3)

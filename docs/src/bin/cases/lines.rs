@@ -68,6 +68,15 @@ impl Cases {
         self.add_count(b'H', &[decimal(n), numbers(genes), decimal(count), numbers(records), positions.join(" ").into_bytes()]);
     }
 
+    pub fn check(&mut self, line: &[u8], text: &[u8], start: usize, genes: &[u16], count: usize, tables: [usize; 2]) {
+        let [scores, splits] = tables.map(decimal);
+        self.add(b'C', &[escaped(line), escaped(text), decimal(start), numbers(genes), decimal(count), scores, splits]);
+    }
+
+    pub fn write_counts(&mut self, line: &[u8], genes: &[u16], count: usize, species: &[u16; 32], out: usize) {
+        self.add(b'O', &[escaped(line), numbers(genes), decimal(count), numbers(species), decimal(out)]);
+    }
+
     pub fn report(&mut self, input: &[u8]) {
         self.add(b'P', &[escaped(input)]);
     }

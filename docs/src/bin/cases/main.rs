@@ -1,5 +1,6 @@
 //! Prints the case file: the borders of document 01 by hand, then cases from a fixed seed, then those of requests that came later.
 mod borders;
+mod counts;
 mod drawn;
 mod lines;
 mod lost;
@@ -24,6 +25,7 @@ fn main() {
     ties::ties(&mut cases, seeded);
     plain::plain(&mut cases, seeded);
     sheet::sheet(&mut cases, seeded);
+    counts::counts(&mut cases, seeded);
     let mut out = std::io::stdout().lock();
     for line in &cases.lines {
         out.write_all(line).unwrap();
