@@ -1,5 +1,6 @@
 //! Cases from a seed: good and damaged rosters, texts, records and inputs.
 use crate::lines::Cases;
+use reference::lineages::Rooting;
 use reference::reader::Kind;
 use reference::roster::joined;
 use reference::seeded::Seeded;
@@ -130,4 +131,16 @@ fn full_inputs(c: &mut Cases, s: &mut Seeded) {
         }
         input.extend_from_slice(&text);
     }
+}
+
+/// The records of gene trees that may be counted by the rooting; one time in eight one of them is spoiled.
+pub fn genes_by_rooting(rooting: Rooting, s: &mut Seeded, n: usize, count: usize) -> Vec<u16> {
+    let unrooted = rooting == Rooting::Unrooted;
+    let mut genes: Vec<u16> = (0..count).flat_map(|_| if unrooted { s.unrooted(n).record() } else { s.gene_on_kept(n, false) }).collect();
+    if s.one_in(8) {
+        let at = 32 * s.below(count);
+        let bad = s.spoiled(genes[at..at + 32].try_into().unwrap());
+        genes[at..at + 32].copy_from_slice(&bad);
+    }
+    genes
 }

@@ -1,4 +1,5 @@
 //! A sheet of candidate trees (#107): the borders by hand, then cases from a seed.
+use crate::drawn::genes_by_rooting;
 use crate::lines::Cases;
 use reference::lineages::Rooting::{Rooted, Unrooted};
 use reference::seeded::Seeded;
@@ -40,13 +41,7 @@ fn borders(c: &mut Cases) {
 fn drawn(c: &mut Cases, s: &mut Seeded) {
     let n = 1 + s.below(16);
     let count = 1 + s.below(3);
-    let unrooted = c.rooting == Unrooted;
-    let mut genes: Vec<u16> = (0..count).flat_map(|_| if unrooted { s.unrooted(n).record() } else { s.gene_on_kept(n, false) }).collect();
-    if s.one_in(8) {
-        let at = 32 * s.below(count);
-        let bad = s.spoiled(genes[at..at + 32].try_into().unwrap());
-        genes[at..at + 32].copy_from_slice(&bad);
-    }
+    let genes = genes_by_rooting(c.rooting, s, n, count);
     let rivals = 1 + s.below(4);
     let mut records: Vec<u16> = Vec::new();
     for _ in 0..rivals {
