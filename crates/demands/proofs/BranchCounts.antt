@@ -1,11 +1,11 @@
 -- Trees that come with branch counts (#114): when `check` says yes, what goes with a yes, and that what `write_counts` writes is always passed.
-use Prim.Native.Nat.{ℕ, _+_, _*_, _^_, _≤_, _<_}
+use Prim.Native.Nat.{ℕ, _+_, _^_, _≤_}
 use mathlib.Core.Path.{_≡_, refl, sym, ap, _∙_, subst}
 use mathlib.Core.Logic.{_↔_, inl}
 use mathlib.Core.Option.{some}
 use mathlib.Core.List.{List, _++_, List·Memᴰ, Memᴰ·map}
 use native.Mathlib.Omega.{arith}
-use lib.ListN.{length, getD, take, drop, length-replicate, getD-replicate}
+use lib.ListN.{length, take, drop, length-replicate, getD-replicate}
 use Rattle.clusters.proofs.Sets.{below-of-within, whole-below}
 use Rattle.trees.specs.Tree.{Tree, cluster, clusters}
 use Rattle.trees.specs.Lists.{Among}
@@ -26,7 +26,7 @@ use Rattle.branches.specs.Ends.{countIn}
 use Rattle.weights.specs.Count.{score}
 use Rattle.weights.specs.declared.Rooting.the-variants.{Rooted}
 use Rattle.writer.specs.Promise.{rosterTest}
-use Rattle.lineages.specs.Promise.{Weighs, Scores}
+use Rattle.lineages.specs.Promise.{Weighs}
 use Rattle.search.specs.Candidates.{BinarySpecies, SameAllowed, SameTable}
 use Rattle.search.specs.Promise.{Finds}
 use Rattle.search.proofs.EveryCluster.{all-compete}
@@ -36,7 +36,7 @@ use Rattle.terms.specs.declared.Found.{Found}
 use Rattle.counts.specs.Promise.{everyCluster, leastScore, Checks, countsText, WritesCounts}
 use Rattle.counts.specs.Passes.{CallInOrder, DrawsBinary, Passes}
 use Rattle.counts.proofs.DrawnBinary.{read-as, drawn-species}
-use Rattle.counts.proofs.Nearest.{drawnScore, yes-distance, yes-nearest, yes-tables}
+use Rattle.counts.proofs.Nearest.{yes-distance, yes-nearest, yes-tables}
 use Rattle.counts.proofs.Yes.{says-yes}
 use Rattle.counts.proofs.Answered.{counts-zero}
 use Rattle.counts.proofs.CountedText.{write-counts-read}
@@ -142,7 +142,7 @@ module _ (line text : List ℕ) (start : ℕ) (genes : List ℕ) (count : ℕ) (
           let z = scored-exactly Rooted n genes count tree t scored .1 scorable in
           let searched = as-searched q all in
           let far = yes-distance line text start genes count scores splits c yes own-tree in
-          (searched .0, z, ap (λ (m : ℕ). r .value + m) (searched .1) ∙ far ∙ sym (scored-value Rooted n genes count tree t scored z));
+          (searched .0, z, omega (arith, far, searched .1, scored-value Rooted n genes count tree t scored z));
       nearest = yes-nearest line text start genes count scores splits c yes own-tree;
     }
 

@@ -10,9 +10,9 @@ use lib.ListN.{length, drop}
 use borrow.Author.Tests.{not-true}
 use Rattle.clusters.specs.Sets.{whole}
 use Rattle.trees.specs.Tree.{Tree, On, Binary, clusters}
-use Rattle.trees.specs.Records.{recordOf, recordsIn, BinaryOn}
+use Rattle.trees.specs.Records.{recordOf, recordsIn}
 use Rattle.trees.specs.Valid.{binary}
-use Rattle.trees.proofs.Booleans.{unless, never-both}
+use Rattle.trees.proofs.Booleans.{unless}
 use Rattle.trees.proofs.Counts.{clusters-of-binary, binary-of-clusters}
 use Rattle.trees.proofs.Recorded.{count-record}
 use Rattle.trees.proofs.ValidTest.{Tells, denied, tells-also, binary-decides}
@@ -39,7 +39,6 @@ use Rattle.counts.proofs.Yes.{says-which}
 use Rattle.demands.specs.CheckFaults.{UnresolvedFault, CountsFault, BehindReading, CheckFault}
 use Rattle.demands.specs.CheckFaults.UnresolvedFault.{not-binary}
 use Rattle.demands.specs.CheckFaults.CountsFault.{first-node-at-fault}
-use Rattle.demands.specs.TextFaults.{TextFault}
 use Rattle.demands.proofs.FirstFaults.{Exact, Meets, names-first, names-later, exact-one, exact-none, exact-next, refused-at, one-fault}
 use Rattle.demands.proofs.TestFaults.{count-met, length-met, records-met}
 use Rattle.demands.proofs.TextFaults.{fault-of-refusal, plain-fault-numbers, fault-one, read-has-none}

@@ -1,9 +1,9 @@
 -- What `check` and `write_counts` do not look at (#114): bytes that do not decide how the text is read, and entries beyond the need.
 use Prim.Native.Nat.{ℕ, _-_, _*_, _^_, _≤_}
 use mathlib.Core.Path.{_≡_, refl, sym, ap, ap₂, _∙_, subst}
-use mathlib.Core.Logic.{_↔_, inl}
+use mathlib.Core.Logic.{_↔_}
 use mathlib.Core.Bool.{false}
-use mathlib.Core.List.{List, _++_}
+use mathlib.Core.List.{List}
 use native.Mathlib.Omega.{arith}
 use lib.ListN.{length, take, drop, length-take, length-replicate, getD-replicate}
 use Rattle.clusters.proofs.Sets.{whole-below}
@@ -12,7 +12,7 @@ use Rattle.trees.specs.Thinned.{allNodes}
 use Rattle.trees.specs.Records.{recordsIn}
 use Rattle.trees.proofs.Lent.{records-needed}
 use Rattle.roster.specs.Roster.{names}
-use Rattle.roster.specs.Verdict.{Test, Verdict, verdict, lengthTest, replyOf}
+use Rattle.roster.specs.Verdict.{lengthTest, replyOf}
 use Rattle.roster.specs.declared.Reply.{Reply}
 use Rattle.tokens.specs.declared.answer.Threshold.the-variants.{NoThreshold}
 use Rattle.tokens.specs.Answers.{Answer}
@@ -31,7 +31,7 @@ use Rattle.terms.proofs.AllMarked.{all-judged}
 use Rattle.search.specs.Candidates.{SameTable}
 use Rattle.search.proofs.Unread.{both-fit}
 use Rattle.counts.specs.Promise.{weightIn, everyCluster, checkTests, checkVerdict, distanceOf, Checks, countsText, writeCountsTests, WritesCounts}
-use Rattle.counts.proofs.Checking.{nodes-many, saidOf}
+use Rattle.counts.proofs.Checking.{nodes-many}
 use Rattle.counts.proofs.Nearest.{yes-tables}
 use Rattle.demands.specs.BranchCounts.{OverAllClusters}
 use Rattle.demands.specs.Deciding.{SameBytes, Agree}

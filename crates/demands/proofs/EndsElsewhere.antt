@@ -15,11 +15,11 @@ use Rattle.nodes.specs.Grammar.{Rules, strict, Blanks, Numbers, Inner, Node, Ch
 use Rattle.nodes.specs.Grammar.Node.{a-leaf, an-inner}
 use Rattle.nodes.specs.Grammar.Children.{the-last, one-more}
 use Rattle.nodes.specs.Grammar.Text.{text as ended-text}
-use Rattle.nodes.proofs.Derivations.{two-wanted, Steps, over-node}
+use Rattle.nodes.proofs.Derivations.{two-wanted, over-node}
 use Rattle.nodes.proofs.Fronts.{strict-placeless, BlanksAnd, blanks-front, byte-front, numbers-front, inner-front}
 use Rattle.branches.specs.Ends.{behinds, behindsOf, End, endsFrom}
 use Rattle.branches.proofs.Found.{among}
-use Rattle.branches.proofs.DrawnEnds.{EndsOf, text-ends}
+use Rattle.branches.proofs.DrawnEnds.{text-ends}
 
 -- ---- lists of texts
 

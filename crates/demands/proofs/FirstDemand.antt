@@ -50,7 +50,7 @@ use Rattle.search.specs.declared.tied.Tied.{Tied}
 use Rattle.search.proofs.Accepted.{none-gives}
 use Rattle.search.proofs.Tying.{tests-passed}
 use Rattle.search.proofs.Ties.{is-a-search, some-tie-exactly}
-use Rattle.counts.specs.Promise.{everyCluster, distance, firstWrong, drawnTest, countsTest, checkTests, checkVerdict, distanceOf, Checks, countsText, writeCountsTests, WritesCounts}
+use Rattle.counts.specs.Promise.{everyCluster, distance, drawnTest, countsTest, checkTests, checkVerdict, distanceOf, Checks, countsText, writeCountsTests, WritesCounts}
 use Rattle.counts.proofs.Checking.{saidOf, wrongIn}
 use Rattle.counts.proofs.Nearest.{refusal-keeps}
 use Rattle.report.specs.Promise.{output, Reports}

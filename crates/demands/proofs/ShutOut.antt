@@ -3,7 +3,6 @@ use Prim.Native.Nat.{ℕ, _+_, _-_, _^_, _≤_, _<_}
 use mathlib.Core.Path.{_≡_, refl, sym, ap, _∙_}
 use mathlib.Core.List.{List, [], _∷_, _++_, List·Memᴰ, List·Memᴰ·cases-cons, List·Memᴰ·eq-of-singleton}
 use mathlib.Core.Logic.{_⊎_, inl, inr}
-use mathlib.Core.Bool.{true}
 use native.Mathlib.Omega.{arith}
 use lib.Count.{ones, onesIn, trailingZeros}
 use lib.ListN.{length, take, drop, getD, replicate}

@@ -33,7 +33,7 @@ use Rattle.splits.specs.Least.{those, all, scoreOf, treesOver, leastTrees, best
 use Rattle.splits.specs.Best.{bestFor}
 use Rattle.terms.specs.Allowed.{allowedIn}
 use Rattle.counts.specs.Promise.{leastScore, distance, firstWrong, drawnTest, checkTests, checkVerdict, Checks, countsText, writeCountsTests, WritesCounts}
-use Rattle.demands.specs.Handed.{Bytes, Numbers, AnyRecord, ToRead, ToCheck, ToWriteCounts}
+use Rattle.demands.specs.Handed.{Bytes, Numbers, ToCheck, ToWriteCounts}
 use Rattle.demands.proofs.SmallInputs.{slice-told, abc-line, ab-c, ac-b, lent}
 
 -- ---- what is computed: texts on the roster `a b c` with two gene trees, which are alike or not
