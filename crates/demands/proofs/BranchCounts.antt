@@ -1,9 +1,9 @@
 -- Trees that come with branch counts (#114): when `check` says yes, what goes with a yes, and that what `write_counts` writes is always passed.
 use Prim.Native.Nat.{ℕ, _+_, _^_, _≤_}
-use mathlib.Core.Path.{_≡_, refl, sym, ap, _∙_, subst}
-use mathlib.Core.Logic.{_↔_, inl}
-use mathlib.Core.Option.{some}
-use mathlib.Core.List.{List, _++_, List·Memᴰ, Memᴰ·map}
+use mathlib.Core.Path.{_≡_, refl, sym, ap, ap₂, _∙_, subst}
+use mathlib.Core.Logic.{_⊎_, inl, inr, _↔_}
+use mathlib.Core.Option.{Option, some}
+use mathlib.Core.List.{List, [], _∷_, _++_, map, map-map, List·Memᴰ, List·Memᴰ·head as here, List·Memᴰ·tail as there, List·Memᴰ·not-nil, List·Memᴰ·cases-cons, Memᴰ·map}
 use native.Mathlib.Omega.{arith}
 use lib.ListN.{length, take, drop, length-replicate, getD-replicate}
 use Rattle.clusters.proofs.Sets.{below-of-within, whole-below}
@@ -33,15 +33,15 @@ use Rattle.search.proofs.EveryCluster.{all-compete}
 use Rattle.search.proofs.Unread.{same-outcome}
 use Rattle.terms.proofs.AllMarked.{all-judged}
 use Rattle.terms.specs.declared.Found.{Found}
-use Rattle.counts.specs.Promise.{everyCluster, leastScore, Checks, countsText, WritesCounts}
-use Rattle.counts.specs.Passes.{CallInOrder, DrawsBinary, Passes}
+use Rattle.counts.specs.Promise.{weightIn, everyCluster, leastScore, Checks, countsText, WritesCounts}
+use Rattle.counts.specs.Passes.{CallInOrder, DrawsBinary, CountRight, Passes}
 use Rattle.counts.proofs.DrawnBinary.{read-as, drawn-species}
-use Rattle.counts.proofs.Nearest.{yes-distance, yes-nearest, yes-tables}
+use Rattle.counts.proofs.Nearest.{drawnScore, yes-distance, yes-nearest, yes-tables}
 use Rattle.counts.proofs.Yes.{says-yes}
 use Rattle.counts.proofs.Answered.{counts-zero}
 use Rattle.counts.proofs.CountedText.{write-counts-read}
 use Rattle.counts.proofs.WrittenPasses.{always-passed}
-use Rattle.demands.specs.BranchCounts.{OverAllClusters, CountsWeighed, GoesWithYes, CountsWritable}
+use Rattle.demands.specs.BranchCounts.{OverAllClusters, countsOf, CountsWeighed, GoesWithYes, CountsWritable}
 use Rattle.demands.specs.CallFaults.{SpeciesRecordFault, WriteCountsFault}
 use Rattle.demands.specs.CallFaults.SpeciesRecordFault.{not-valid-or-binary}
 use Rattle.demands.specs.Lots.{Searched}
@@ -168,6 +168,66 @@ module _ (line text : List ℕ) (start : ℕ) (genes : List ℕ) (count : ℕ) (
             let inside = own-species .valid .inside (cluster u) listed in
             let z = weighed-exactly Rooted n genes count (cluster u) w weighs .1 (record { in-order = order .genes-in-order; cluster = (inside .0, below-of-within n (inside .1)) }) in
             (z, passes .counts u m ∙ ap (λ (x : ℕ). some x) (sym (weighed-value Rooted n genes count (cluster u) w weighs z)))
+
+-- ---- what is written behind a node matters no further than its count
+
+module _ (f g : Tree → Option ℕ) where
+  -- two functions that agree on a list, and on each of it
+  agree-each : (l : List Tree) → map f l ≡ map g l → (u : Tree) → List·Memᴰ u l → f u ≡ g u
+  agree-each [] same u m = absurd (List·Memᴰ·not-nil m)
+  agree-each (v ∷ l) same u m =
+      let first : f v ≡ g v = cc in
+      let others : map f l ≡ map g l = cc in
+      go first (List·Memᴰ·cases-cons m) (λ k. agree-each l others u k)
+    where
+      go : f v ≡ g v → (u ≡ v) ⊎ List·Memᴰ u l → (List·Memᴰ u l → f u ≡ g u) → f u ≡ g u
+      go first (inl is) later = rw is first
+      go first (inr k) later = later k
+
+  each-agrees : (l : List Tree) → ((u : Tree) → List·Memᴰ u l → f u ≡ g u) → map f l ≡ map g l
+  each-agrees [] same = refl
+  each-agrees (v ∷ l) same = ap₂ _∷_ (same v (here refl)) (each-agrees l (λ u m. same u (there m)))
+
+-- all counts are right exactly when they are the weights of the clusters, one by one
+right-exactly :
+    (genes : List ℕ) (count : ℕ) (t : Tree)
+    → ((u : Tree) → List·Memᴰ u (allNodes t) → CountRight genes count u) ↔ (countsOf t ≡ map (λ (a : ℕ). some (weightIn genes count a)) (clusters t))
+right-exactly genes count t =
+    let own : Tree → Option ℕ = λ u. countIn (behindOf u) in
+    let due : Tree → Option ℕ = λ u. some (weightIn genes count (cluster u)) in
+    let weighed : map due (allNodes t) ≡ map (λ (a : ℕ). some (weightIn genes count a)) (clusters t)
+    = sym (map-map (λ (a : ℕ). some (weightIn genes count a)) cluster (allNodes t)) ∙ ap (map (λ (a : ℕ). some (weightIn genes count a))) (nodes-clusters t) in
+    (λ right. each-agrees own due (allNodes t) right ∙ weighed, λ same. agree-each own due (allNodes t) (same ∙ sym weighed))
+
+passed-too :
+    {line text text′ : List ℕ} {start start′ : ℕ} {genes : List ℕ} {count : ℕ} {scores splits : List ℕ} {r r′ : Reply} {s p s′ p′ : List ℕ}
+    → Checks line text start genes count scores splits r s p → Checks line text′ start′ genes count scores splits r′ s′ p′
+    → (d : DrawsBinary line text start) (d′ : DrawsBinary line text′ start′) → clusters (d .tree) ≡ clusters (d′ .tree) → countsOf (d .tree) ≡ countsOf (d′ .tree)
+    → r .number ≡ 0 → r′ .number ≡ 0
+passed-too {line} {text} {text′} {start} {start′} {genes} {count} {scores} {splits} c c′ d d′ same counts z =
+    let own = yes-exactly-when line text start genes count scores splits c .0 z in
+    let answered = sym (read-as line text start (own .0 .draws)) ∙ read-as line text start d in
+    let tree : own .0 .draws .tree ≡ d .tree = cc in
+    let due : List ℕ → List (Option ℕ) = map (λ (a : ℕ). some (weightIn genes count a)) in
+    let right : countsOf (d .tree) ≡ due (clusters (d .tree)) = rw tree at (right-exactly genes count (own .0 .draws .tree) .0 (own .0 .counts)) in
+    let right′ : countsOf (d′ .tree) ≡ due (clusters (d′ .tree)) = sym counts ∙ right ∙ ap due same in
+    yes-exactly-when line text′ start′ genes count scores splits c′ .1 (record { draws = d′; counts = right-exactly genes count (d′ .tree) .1 right′ }, own .1)
+
+-- "zeros in front change nothing" (#114), nor do blanks or the names of inner nodes: of two texts that draw the same clusters with the same counts
+-- both are passed, with one distance, or neither
+pub only-counts-matter :
+    (line text text′ : List ℕ) (start start′ : ℕ) (genes : List ℕ) (count : ℕ) (scores splits : List ℕ) (r r′ : Reply) (s p s′ p′ : List ℕ)
+    → Checks line text start genes count scores splits r s p → Checks line text′ start′ genes count scores splits r′ s′ p′
+    → (d : DrawsBinary line text start) (d′ : DrawsBinary line text′ start′) → clusters (d .tree) ≡ clusters (d′ .tree) → countsOf (d .tree) ≡ countsOf (d′ .tree)
+    → ((r .number ≡ 0) ↔ (r′ .number ≡ 0)) × (r .number ≡ 0 → r .value ≡ r′ .value)
+only-counts-matter line text text′ start start′ genes count scores splits r r′ s p s′ p′ c c′ d d′ same counts = (
+  (passed-too c c′ d d′ same counts, passed-too c′ c d′ d (sym same) (sym counts)),
+  λ z.
+      let far = yes-distance line text start genes count scores splits c z d in
+      let far′ = yes-distance line text′ start′ genes count scores splits c′ (passed-too c c′ d d′ same counts z) d′ in
+      let scores : drawnScore genes count d ≡ drawnScore genes count d′ = ap (λ (l : List ℕ). score Rooted (recordsIn count genes) (recordOf l)) same in
+      omega (arith, far, far′, scores),
+)
 
 -- ---- the writer with counts
 

@@ -3,8 +3,8 @@ use Prim.Native.Nat.{ℕ, _+_, _*_, _^_, _≤_, _<_}
 use mathlib.Core.Path.{_≡_}
 use mathlib.Core.Logic.{_↔_}
 use mathlib.Core.Bool.{false}
-use mathlib.Core.Option.{some}
-use mathlib.Core.List.{List, List·Memᴰ}
+use mathlib.Core.Option.{Option, some}
+use mathlib.Core.List.{List, map, List·Memᴰ}
 use lib.ListN.{length, getD, take}
 use Rattle.trees.specs.Tree.{Tree, cluster}
 use Rattle.trees.specs.Thinned.{allNodes}
@@ -29,6 +29,10 @@ pub record OverAllClusters (genes : List ℕ) (count : ℕ) {n : ℕ} (q : Searc
   pub every : (a : ℕ) → 1 ≤ a → a < 2 ^ n → getD (q .allowed) a 0 ≡ 1
   pub byte-0 : getD (q .allowed) 0 0 ≤ 1
   pub lent : Lent q
+
+-- the counts behind the nodes of a drawn tree, in the order in which they end
+abbrev pub countsOf : Tree → List (Option ℕ)
+countsOf t = map (λ (u : Tree). countIn (behindOf u)) (allNodes t)
 
 -- "each number is the weight of that node's cluster" (#114), by the call that weighs
 pub record CountsWeighed (n : ℕ) (genes : List ℕ) (count : ℕ) (t : Tree) : Type 0 where
