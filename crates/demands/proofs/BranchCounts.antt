@@ -199,6 +199,7 @@ right-exactly genes count t =
     = sym (map-map (λ (a : ℕ). some (weightIn genes count a)) cluster (allNodes t)) ∙ ap (map (λ (a : ℕ). some (weightIn genes count a))) (nodes-clusters t) in
     (λ right. each-agrees own due (allNodes t) right ∙ weighed, λ same. agree-each own due (allNodes t) (same ∙ sym weighed))
 
+-- where a text is passed, so is another that draws the same clusters with the same counts
 passed-too :
     {line text text′ : List ℕ} {start start′ : ℕ} {genes : List ℕ} {count : ℕ} {scores splits : List ℕ} {r r′ : Reply} {s p s′ p′ : List ℕ}
     → Checks line text start genes count scores splits r s p → Checks line text′ start′ genes count scores splits r′ s′ p′
@@ -246,7 +247,7 @@ module _ (line genes : List ℕ) (count : ℕ) (species out : List ℕ) {r : Rep
       never : {k p : ℕ} → SpeciesRecordFault (length (names line)) species k p → ⊥
       never (not-valid-or-binary f) = f (h .scorable .species-valid, h .scorable .species-binary)
 
-  -- number 0 exactly when all of that holds
+  -- number 0 exactly when the writer with counts accepts what it is handed
   pub counts-written-exactly : (r .number ≡ 0) ↔ CountsWritable line genes count species out
   counts-written-exactly = (
     λ z.

@@ -44,7 +44,8 @@ use Rattle.demands.specs.CallFaults.{RosterFault, RootingFault, NoTreeFa
 use Rattle.demands.specs.CallFaults.{WriteFault, WriteCountsFault, WeightFault, ScoreFault, MarkFault, BehindLengths, SearchRest, SearchFault, TiesFault, PlainFault, SheetFault}
 use Rattle.demands.specs.CallFaults.NoTreeFault.{no-tree}
 use Rattle.demands.proofs.FirstFaults.{Exact, Meets, exact-last, exact-next, refused-at, one-fault, behind-passed}
-use Rattle.demands.proofs.TestFaults.{species-met, over-seven-met, count-met, length-met, species-record-met, records-met, records-passed, rooting-met, record-met, cluster-met, allowed-met, roster-met}
+use Rattle.demands.proofs.TestFaults.{roster-met, species-met, over-seven-met, count-met, length-met, species-record-met}
+use Rattle.demands.proofs.TestFaults.{records-met, records-passed, rooting-met, record-met, cluster-met, allowed-met}
 
 -- ---- judging a roster
 

@@ -103,7 +103,7 @@ module _ (line text : List ℕ) (start : ℕ) (genes : List ℕ) (count : ℕ) (
 
   -- ---- all of them, in order
 
-  -- what is known of the call behind 15
+  -- where none of its tests finds a fault, the call is refused by no number
   calls-pass :
       (t : Tree) → countTest count .fault ≡ false → lengthTest (length genes) (32 * count) .fault ≡ false → lengthTest (length scores) (2 ^ n) .fault ≡ false
       → lengthTest (length splits) (2 ^ n) .fault ≡ false → drawnTest n t .fault ≡ false → recordsTest n (recordsIn count genes) .fault ≡ false
