@@ -53,70 +53,43 @@ far-text = 40 ∷ 40 ∷ 97 ∷ 58 ∷ 48 ∷ 44 ∷ 99 ∷ 58 ∷ 48 ∷ 41 ∷
 room : List ℕ
 room = replicate 20 9
 
-check-alike :
-    (r : Reply) (s p : List ℕ) → Checks abc-line alike-text 0 (ab-c ++ ab-c) 2 lent lent r s p
-    → (r ≡ record { number = 0; place = 0; value = 0 }) × (getD s 0 0 ≡ noTree) × (getD p 0 0 ≡ 0)
-unfolding abc-line alike-text ab-c lent distance leastScore checkVerdict checkTests drawnTest firstWrong ones onesIn trailingZeros whole single union has within
-    apart size lowest run nextIs nextLabel
-    bareLetters letters lettersFrom doubled rawTo told padded properly maximal placed byLowest children drawnTo drawn upTo keep some insert sorted pieces total
-    recordOf cluster clusters every among rising singlesFrom nested valid validGene binary same position inQuotes begins beginnings nameAt names strayAt longAt
-    manyAt againAt openAt faultAt least firstFault faulty verdict lengthTest blanks skip number numberBehind numbers name innerName supported writes writtenBehind
-    leafBy closingBy readTreeToBy readTreeBy readNodeBy answerTo lead nextEnd endsFrom isCount countIn kOf extra weight score countTest firstFailing recordsTest
-    clustersIn isLow lows each forks treesTo treesOn those all scoreOf treesOver leastTrees best bestFor allowedIn
-check-alike r s p c = (c .reply, ap (λ (l : List ℕ). getD l 0 0) (c .scoreTable), ap (λ (l : List ℕ). getD l 0 0) (c .splitTable))
-
-check-unlike :
-    (r : Reply) (s p : List ℕ) → Checks abc-line alike-text 0 (ab-c ++ ac-b) 2 lent lent r s p → r ≡ record { number = 23; place = 10; value = 0 }
-unfolding abc-line alike-text ab-c ac-b lent distance leastScore checkVerdict checkTests drawnTest firstWrong ones onesIn trailingZeros whole single union has
-    within apart size lowest run nextIs nextLabel
-    bareLetters letters lettersFrom doubled rawTo told padded properly maximal placed byLowest children drawnTo drawn upTo keep some insert sorted pieces total
-    recordOf cluster clusters every among rising singlesFrom nested valid validGene binary same position inQuotes begins beginnings nameAt names strayAt longAt
-    manyAt againAt openAt faultAt least firstFault faulty verdict lengthTest blanks skip number numberBehind numbers name innerName supported writes writtenBehind
-    leafBy closingBy readTreeToBy readTreeBy readNodeBy answerTo lead nextEnd endsFrom isCount countIn kOf extra weight score countTest firstFailing recordsTest
-    clustersIn isLow lows each forks treesTo treesOn those all scoreOf treesOver leastTrees best bestFor allowedIn
-check-unlike r s p c = c .reply
-
-check-far :
-    (r : Reply) (s p : List ℕ) → Checks abc-line far-text 0 (ab-c ++ ab-c) 2 lent lent r s p → r ≡ record { number = 0; place = 0; value = 2 }
-unfolding abc-line far-text ab-c lent distance leastScore checkVerdict checkTests drawnTest firstWrong ones onesIn trailingZeros whole single union has within
-    apart size lowest run nextIs nextLabel
-    bareLetters letters lettersFrom doubled rawTo told padded properly maximal placed byLowest children drawnTo drawn upTo keep some insert sorted pieces total
-    recordOf cluster clusters every among rising singlesFrom nested valid validGene binary same position inQuotes begins beginnings nameAt names strayAt longAt
-    manyAt againAt openAt faultAt least firstFault faulty verdict lengthTest blanks skip number numberBehind numbers name innerName supported writes writtenBehind
-    leafBy closingBy readTreeToBy readTreeBy readNodeBy answerTo lead nextEnd endsFrom isCount countIn kOf extra weight score countTest firstFailing recordsTest
-    clustersIn isLow lows each forks treesTo treesOn those all scoreOf treesOver leastTrees best bestFor allowedIn
-check-far r s p c = c .reply
-
-write-alike :
-    (r : Reply) (after : List ℕ) → WritesCounts abc-line (ab-c ++ ab-c) 2 ab-c room r after
-    → (r ≡ record { number = 0; place = 0; value = 20 }) × (after ≡ alike-text)
-unfolding abc-line alike-text ab-c room writeCountsTests rosterTest countTest lengthTest speciesRecordTest firstFailing recordsTest verdict countsText writtenWith
-    treeWith nodeWith digitsTo decimal labelOf mayBeBare ones onesIn trailingZeros whole single union has within apart size lowest run nextIs bareLetters letters
-    lettersFrom doubled rawTo told upTo keep some insert sorted pieces total properly maximal placed byLowest children drawnTo drawn recordOf cluster every among rising
-    singlesFrom nested valid validGene binary same position inQuotes begins beginnings nameAt names strayAt longAt manyAt againAt openAt faultAt least firstFault faulty
-    kOf extra weight
-write-alike r after w = (w .answer, w .bytes)
-
-write-unlike :
-    (r : Reply) (after : List ℕ) → WritesCounts abc-line (ab-c ++ ac-b) 2 ab-c room r after
-    → (r ≡ record { number = 0; place = 0; value = 20 }) × (after ≡ unlike-text)
-unfolding abc-line unlike-text ab-c ac-b room writeCountsTests rosterTest countTest lengthTest speciesRecordTest firstFailing recordsTest verdict countsText
-    writtenWith
-    treeWith nodeWith digitsTo decimal labelOf mayBeBare ones onesIn trailingZeros whole single union has within apart size lowest run nextIs bareLetters letters
-    lettersFrom doubled rawTo told upTo keep some insert sorted pieces total properly maximal placed byLowest children drawnTo drawn recordOf cluster every among rising
-    singlesFrom nested valid validGene binary same position inQuotes begins beginnings nameAt names strayAt longAt manyAt againAt openAt faultAt least firstFault faulty
-    kOf extra weight
-write-unlike r after w = (w .answer, w .bytes)
-
 -- the same without counts: `((a,b),c);`
 plain-text : List ℕ
 plain-text = 40 ∷ 40 ∷ 97 ∷ 44 ∷ 98 ∷ 41 ∷ 44 ∷ 99 ∷ 41 ∷ 59 ∷ []
 
-write-plain : written (names abc-line) ab-c ≡ plain-text
-unfolding plain-text abc-line ab-c written writtenWith treeWith nodeWith labelOf mayBeBare ones onesIn trailingZeros whole single union has within apart size lowest
-    run nextIs bareLetters letters lettersFrom doubled rawTo told upTo keep some insert sorted properly maximal placed byLowest children drawnTo drawn recordOf cluster
-    names same position inQuotes begins beginnings nameAt
-write-plain = refl
+-- what is answered of the first text for gene trees that are alike, and for those that are not; and of the far one
+checks-computed :
+    ((r : Reply) (s p : List ℕ) → Checks abc-line alike-text 0 (ab-c ++ ab-c) 2 lent lent r s p
+    → (r ≡ record { number = 0; place = 0; value = 0 }) × (getD s 0 0 ≡ noTree) × (getD p 0 0 ≡ 0))
+    × ((r : Reply) (s p : List ℕ) → Checks abc-line alike-text 0 (ab-c ++ ac-b) 2 lent lent r s p → r ≡ record { number = 23; place = 10; value = 0 })
+    × ((r : Reply) (s p : List ℕ) → Checks abc-line far-text 0 (ab-c ++ ab-c) 2 lent lent r s p → r ≡ record { number = 0; place = 0; value = 2 })
+unfolding abc-line alike-text far-text ab-c ac-b lent distance leastScore checkVerdict checkTests drawnTest firstWrong ones onesIn trailingZeros whole single union
+    has within apart size lowest run nextIs nextLabel
+    bareLetters letters lettersFrom doubled rawTo told padded properly maximal placed byLowest children drawnTo drawn upTo keep some insert sorted pieces total
+    recordOf cluster clusters every among rising singlesFrom nested valid validGene binary same position inQuotes begins beginnings nameAt names strayAt longAt
+    manyAt againAt openAt faultAt least firstFault faulty verdict lengthTest blanks skip number numberBehind numbers name innerName supported writes writtenBehind
+    leafBy closingBy readTreeToBy readTreeBy readNodeBy answerTo lead nextEnd endsFrom isCount countIn kOf extra weight score countTest firstFailing recordsTest
+    clustersIn isLow lows each forks treesTo treesOn those all scoreOf treesOver leastTrees best bestFor allowedIn
+checks-computed = (
+  λ r s p c. (c .reply, ap (λ (l : List ℕ). getD l 0 0) (c .scoreTable), ap (λ (l : List ℕ). getD l 0 0) (c .splitTable)),
+  λ r s p c. c .reply,
+  λ r s p c. c .reply,
+)
+
+-- what is written of `((a,b),c);` for both lists of gene trees, and without counts
+writes-computed :
+    ((r : Reply) (after : List ℕ) → WritesCounts abc-line (ab-c ++ ab-c) 2 ab-c room r after
+    → (r ≡ record { number = 0; place = 0; value = 20 }) × (after ≡ alike-text))
+    × ((r : Reply) (after : List ℕ) → WritesCounts abc-line (ab-c ++ ac-b) 2 ab-c room r after
+    → (r ≡ record { number = 0; place = 0; value = 20 }) × (after ≡ unlike-text))
+    × (written (names abc-line) ab-c ≡ plain-text)
+unfolding abc-line alike-text unlike-text plain-text ab-c ac-b room writeCountsTests rosterTest countTest lengthTest speciesRecordTest firstFailing recordsTest verdict
+    countsText written writtenWith
+    treeWith nodeWith digitsTo decimal labelOf mayBeBare ones onesIn trailingZeros whole single union has within apart size lowest run nextIs bareLetters letters
+    lettersFrom doubled rawTo told upTo keep some insert sorted pieces total properly maximal placed byLowest children drawnTo drawn recordOf cluster every among rising
+    singlesFrom nested valid validGene binary same position inQuotes begins beginnings nameAt names strayAt longAt manyAt againAt openAt faultAt least firstFault faulty
+    kOf extra weight
+writes-computed = (λ r after w. (w .answer, w .bytes), λ r after w. (w .answer, w .bytes), refl)
 
 -- ---- these inputs can be handed over
 
@@ -181,13 +154,13 @@ module _ (f : List ℕ → List ℕ → ℕ → List ℕ → ℕ → List ℕ �
       (f abc-line alike-text 0 (ab-c ++ ab-c) 2 lent lent ≡ record { number = 0; place = 0; value = 0 })
       × (getD (s abc-line alike-text 0 (ab-c ++ ab-c) 2 lent lent) 0 0 ≡ noTree)
       × (getD (p abc-line alike-text 0 (ab-c ++ ab-c) 2 lent lent) 0 0 ≡ 0)
-  checked-alike = check-alike _ _ _ (meets abc-line alike-text 0 (ab-c ++ ab-c) 2 lent lent to-check-alike)
+  checked-alike = checks-computed .0 _ _ _ (meets abc-line alike-text 0 (ab-c ++ ab-c) 2 lent lent to-check-alike)
 
   checked-unlike : f abc-line alike-text 0 (ab-c ++ ac-b) 2 lent lent ≡ record { number = 23; place = 10; value = 0 }
-  checked-unlike = check-unlike _ _ _ (meets abc-line alike-text 0 (ab-c ++ ac-b) 2 lent lent to-check-unlike)
+  checked-unlike = checks-computed .1 _ _ _ (meets abc-line alike-text 0 (ab-c ++ ac-b) 2 lent lent to-check-unlike)
 
   checked-far : f abc-line far-text 0 (ab-c ++ ab-c) 2 lent lent ≡ record { number = 0; place = 0; value = 2 }
-  checked-far = check-far _ _ _ (meets abc-line far-text 0 (ab-c ++ ab-c) 2 lent lent to-check-far)
+  checked-far = checks-computed .2 _ _ _ (meets abc-line far-text 0 (ab-c ++ ab-c) 2 lent lent to-check-far)
 
   alike-passed : f abc-line alike-text 0 (ab-c ++ ab-c) 2 lent lent .number ≡ 0
   alike-passed = ap (λ (r : Reply). r .number) (checked-alike .0)
@@ -249,11 +222,11 @@ module _ (f : List ℕ → List ℕ → ℕ → List ℕ → List ℕ → Reply)
     → WritesCounts line genes count species out (f line genes count species out) (after line genes count species out)) where
   written-alike :
       (f abc-line (ab-c ++ ab-c) 2 ab-c room ≡ record { number = 0; place = 0; value = 20 }) × (after abc-line (ab-c ++ ab-c) 2 ab-c room ≡ alike-text)
-  written-alike = write-alike _ _ (meets abc-line (ab-c ++ ab-c) 2 ab-c room (to-write (ab-c ++ ab-c) alike-genes))
+  written-alike = writes-computed .0 _ _ (meets abc-line (ab-c ++ ab-c) 2 ab-c room (to-write (ab-c ++ ab-c) alike-genes))
 
   written-unlike :
       (f abc-line (ab-c ++ ac-b) 2 ab-c room ≡ record { number = 0; place = 0; value = 20 }) × (after abc-line (ab-c ++ ac-b) 2 ab-c room ≡ unlike-text)
-  written-unlike = write-unlike _ _ (meets abc-line (ab-c ++ ac-b) 2 ab-c room (to-write (ab-c ++ ac-b) unlike-genes))
+  written-unlike = writes-computed .1 _ _ (meets abc-line (ab-c ++ ac-b) 2 ab-c room (to-write (ab-c ++ ac-b) unlike-genes))
 
   alike-written : f abc-line (ab-c ++ ab-c) 2 ab-c room .number ≡ 0
   alike-written = ap (λ (r : Reply). r .number) (written-alike .0)
@@ -281,7 +254,7 @@ module _ (f : List ℕ → List ℕ → ℕ → List ℕ → List ℕ → Reply)
   write-counts-writes-counts plain =
       let bare = plain abc-line (ab-c ++ ab-c) 2 ab-c room (to-write (ab-c ++ ab-c) alike-genes) alike-written in
       let front : List ℕ → List ℕ = λ l. take (length l) (after abc-line (ab-c ++ ab-c) 2 ab-c room) in
-      let e : take 10 alike-text ≡ plain-text = sym (ap (take 10) (written-alike .1)) ∙ sym (ap front write-plain) ∙ bare ∙ write-plain in
+      let e : take 10 alike-text ≡ plain-text = sym (ap (take 10) (written-alike .1)) ∙ sym (ap front (writes-computed .2)) ∙ bare ∙ writes-computed .2 in
       omega (arith, ap (λ (l : List ℕ). getD l 3 0) e)
 
   -- "one that counts the first gene tree and passes over the others"
