@@ -20,7 +20,7 @@ use Rattle.tokens.specs.Supports.{supported}
 use Rattle.tokens.specs.Values.{written, writtenBehind}
 use Rattle.nodes.specs.Reading.{leafBy, closingBy, readTreeToBy, readTreeBy, readNodeBy}
 use Rattle.tokens.specs.declared.answer.Threshold.the-variants.{NoThreshold}
-use Rattle.reader.specs.Promise.{answerTo}
+use Rattle.reader.specs.Promise.{answerWithin, answerTo}
 use Rattle.reader.specs.declared.Kind.the-variants.{Species}
 use Rattle.branches.specs.Ends.{lead, nextEnd, endsFrom, isCount, countIn}
 use Rattle.weights.specs.Count.{kOf, extra, weight, score}
@@ -83,7 +83,7 @@ unfolding replyTo checkVerdict checkTests drawnTest firstWrong ones onesIn trail
     bareLetters letters lettersFrom doubled rawTo told padded properly maximal placed byLowest children drawnTo drawn upTo keep some insert sorted pieces total
     recordOf cluster clusters every among rising singlesFrom nested valid validGene binary same position inQuotes begins beginnings nameAt names strayAt longAt
     manyAt againAt openAt faultAt least firstFault faulty verdict lengthTest blanks skip number numberBehind numbers name innerName supported written writtenBehind
-    leafBy closingBy readTreeToBy readTreeBy readNodeBy answerTo lead nextEnd endsFrom isCount countIn kOf extra weight score countTest firstFailing recordsTest
+    leafBy closingBy readTreeToBy readTreeBy readNodeBy answerWithin lead nextEnd endsFrom isCount countIn kOf extra weight score countTest firstFailing recordsTest
     clustersIn isLow lows each forks treesTo treesOn those all scoreOf treesOver leastTrees best bestFor allowedIn
 replies = (refl, refl, refl, refl, refl, refl)
 

@@ -24,7 +24,8 @@ use Rattle.tokens.specs.Answers.Answer.{parsed, refused}
 use Rattle.tokens.specs.declared.answer.Threshold.the-variants.{NoThreshold}
 use Rattle.nodes.proofs.RefusedBy.{tree-numbered}
 use Rattle.reader.specs.Accepted.{Draws}
-use Rattle.reader.specs.Promise.{answerTo, needed}
+use Rattle.nodes.specs.Reading.{openMost}
+use Rattle.reader.specs.Promise.{narrow, answerTo, needed}
 use Rattle.reader.specs.declared.Kind.the-variants.{Species}
 use Rattle.reader.proofs.Accepts.{accepted-derives, derives-accepted}
 use Rattle.reader.proofs.Replies.{refusal-is, refusal-some}
@@ -44,10 +45,10 @@ use Rattle.counts.proofs.FirstWrong.{Beside, ends-beside}
 -- species text is refused by 1 to 10
 pub text-refused : (line text : List ℕ) (start : ℕ) {n p : ℕ} → answerTo Species NoThreshold line text start ≡ refused n p → (1 ≤ n) × (n ≤ 10)
 text-refused line text start {n} e = (
-  refusal-some Species NoThreshold line text start e,
-  refusal-is (λ k. k ≤ 10) (omega arith) (omega arith) (omega arith) Species NoThreshold line text start
+  refusal-some narrow Species NoThreshold line text start e,
+  refusal-is (λ k. k ≤ 10) (omega arith) (omega arith) (omega arith) narrow Species NoThreshold line text start
       (λ r.
-      let of = tree-numbered false (names line) (needed Species (length (names line))) (drop start text) start r in
+      let of = tree-numbered false (names line) openMost (needed Species (length (names line))) (drop start text) start r in
       of .1 (λ z. false≢true (of .2 z))) e,
 )
 

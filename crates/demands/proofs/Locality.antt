@@ -22,7 +22,7 @@ use Rattle.nodes.specs.Deciding.{border}
 use Rattle.nodes.proofs.Fronts.{strict-placeless, text-elsewhere}
 use Rattle.nodes.proofs.Locality.{locality}
 use Rattle.meanings.proofs.Refusals.{refusal-before, refusal-inside, refusal-numbers}
-use Rattle.reader.specs.Promise.{textMost, needed, readingOf, fromStart, inLimit, onRoster, answerTo, Reads}
+use Rattle.reader.specs.Promise.{narrow, textMost, needed, readingOf, fromStart, inLimit, onRoster, answerWithin, answerTo, Reads}
 use Rattle.reader.specs.Accepted.{Draws, JustBehind}
 use Rattle.reader.specs.declared.Kind.{Kind}
 use Rattle.reader.specs.declared.Reading.{Reading}
@@ -39,26 +39,26 @@ pub answer-is-local :
     → answerTo kind threshold line text start ≡ refused number (start + d) → 3 ≤ number → (number ≡ 10 → ⊥) → length text′ ≤ textMost → start ≤ length text′
     → SameBefore text text′ start number d
     → answerTo kind threshold line text′ start ≡ refused number (start + d)
-unfolding answerTo
+unfolding answerWithin
 answer-is-local kind threshold line text text′ start d number h low byte short inside agree = judged (faulty speciesMost line) h
   where
     started :
-        (b : Bool) → fromStart kind threshold b (names line) text start ≡ refused number (start + d)
-        → readTree (isGiven threshold) (names line) (needed kind (length (names line))) (drop start text′) start ≡ refused number (start + d)
+        (b : Bool) → fromStart narrow kind threshold b (names line) text start ≡ refused number (start + d)
+        → readTree (isGiven threshold) (names line) openMost (needed kind (length (names line))) (drop start text′) start ≡ refused number (start + d)
     started true e =
-        locality (isGiven threshold) (names line) (needed kind (length (names line))) (drop start text) (drop start text′) start
+        locality (isGiven threshold) (names line) openMost (needed kind (length (names line))) (drop start text) (drop start text′) start
         d number e low byte (agree .bytes) (agree .alike)
     started false e = absurd (let z : number ≡ 10 = cc in byte z)
 
     limited :
-        (b : Bool) → inLimit kind threshold b (names line) text start ≡ refused number (start + d)
-        → readTree (isGiven threshold) (names line) (needed kind (length (names line))) (drop start text′) start ≡ refused number (start + d)
+        (b : Bool) → inLimit narrow kind threshold b (names line) text start ≡ refused number (start + d)
+        → readTree (isGiven threshold) (names line) openMost (needed kind (length (names line))) (drop start text′) start ≡ refused number (start + d)
     limited true e = started (leb start (length text)) e
     limited false e = absurd (let z : number ≡ 2 = cc in omega arith)
 
     judged :
-        (b : Bool) → onRoster kind threshold b line text start ≡ refused number (start + d)
-        → onRoster kind threshold b line text′ start ≡ refused number (start + d)
+        (b : Bool) → onRoster narrow kind threshold b line text start ≡ refused number (start + d)
+        → onRoster narrow kind threshold b line text′ start ≡ refused number (start + d)
     judged true e = absurd (let z : number ≡ 1 = cc in omega arith)
     judged false e =
         rw (le-leb (length text′) textMost short, le-leb start (length text′) inside) (limited (leb (length text) textMost) e)
@@ -122,17 +122,17 @@ module _ (kind : Kind) (threshold : Threshold) (line text text′ : List ℕ) (s
 
   ends-again : faulty speciesMost line ≡ false → drop start text′ ≡ drop start text → length text′ ≡ length text
       → answerTo kind threshold line text start ≡ answerTo kind threshold line text′ start
-  unfolding answerTo
+  unfolding answerWithin
   ends-again good same-end same-length =
       rw (good, same-length, le-leb (length text) textMost short, same-length) (started (leb start (length text)))
     where
-      started : (b : Bool) → fromStart kind threshold b (names line) text start ≡ fromStart kind threshold b (names line) text′ start
+      started : (b : Bool) → fromStart narrow kind threshold b (names line) text start ≡ fromStart narrow kind threshold b (names line) text′ start
       started true = rw same-end refl
       started false = rw same-length refl
 
   fault-again : {number place : ℕ} → answerTo kind threshold line text start ≡ refused number place → TextFault kind threshold line text start number place
       → Agree text text′ start (readingOf threshold start (refused number place)) → Again (refused number place)
-  unfolding answerTo
+  unfolding answerWithin
   fault-again h (of-roster f) agree = ap (readingOf threshold start) (sym (refusal-of-fault (of-roster f)))
   fault-again h (too-long good l) agree = absurd (omega arith)
   fault-again h (beyond good l b) agree =

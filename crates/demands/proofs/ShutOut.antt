@@ -26,7 +26,7 @@ use Rattle.tokens.specs.declared.answer.Threshold.the-variants.{NoThreshold, Be
 use Rattle.tokens.specs.Supports.{supported}
 use Rattle.tokens.specs.Values.{leading, decimals, writtenBehind, written as writes, filled, tooFine, thousandths}
 use Rattle.tokens.specs.Tokens.{blanks, skip, number, numberBehind, numbers, name, innerName}
-use Rattle.reader.specs.Promise.{answerTo, Reads}
+use Rattle.reader.specs.Promise.{answerWithin, Reads}
 use Rattle.nodes.specs.Reading.{leafBy, closingBy, readTreeToBy, readTreeBy, readNodeBy}
 use Rattle.reader.specs.declared.Kind.{Kind}
 use Rattle.reader.specs.declared.Kind.the-variants.{Species, Gene}
@@ -93,7 +93,7 @@ judge-a r p = p
 read-a :
     (kind : Kind) (threshold : Threshold) (r : Reading) → Reads kind threshold a-line a-text 0 r
     → r ≡ record { number = 0; place = 0; next = 2; numbers = a-record }
-unfolding a-line a-text a-record Reads ones onesIn trailingZeros whole single union has within apart size lowest answerTo leafBy closingBy
+unfolding a-line a-text a-record Reads ones onesIn trailingZeros whole single union has within apart size lowest answerWithin leafBy closingBy
     readTreeToBy readTreeBy readNodeBy nextIs nextLabel blanks skip number numberBehind numbers supported name innerName run bareLetters letters lettersFrom
     doubled rawTo told padded upTo same position inQuotes begins beginnings nameAt names strayAt longAt manyAt againAt openAt faultAt least firstFault
     faulty keep some insert sorted recordOf cluster clusters clustersLeft tooFine decimals leading
@@ -107,7 +107,7 @@ ab-line : List ℕ
 ab-line = 97 ∷ 32 ∷ 98 ∷ []
 
 read-a-of-two : (r : Reading) → Reads Species NoThreshold ab-line a-text 0 r → Reads Gene NoThreshold ab-line a-text 0 r → ⊥
-unfolding ab-line a-text Reads ones onesIn trailingZeros whole single union has within apart size lowest answerTo leafBy closingBy readTreeToBy
+unfolding ab-line a-text Reads ones onesIn trailingZeros whole single union has within apart size lowest answerWithin leafBy closingBy readTreeToBy
     readTreeBy readNodeBy nextIs nextLabel blanks skip number numberBehind numbers supported name innerName run bareLetters letters lettersFrom doubled rawTo
     told padded upTo same position inQuotes begins beginnings nameAt names strayAt longAt manyAt againAt openAt faultAt least firstFault faulty keep
     some insert sorted recordOf cluster clusters
@@ -118,7 +118,7 @@ half-text : List ℕ
 half-text = 40 ∷ 40 ∷ 97 ∷ 44 ∷ 98 ∷ 41 ∷ 58 ∷ 58 ∷ 48 ∷ 46 ∷ 53 ∷ 44 ∷ 99 ∷ 41 ∷ 59 ∷ []
 
 read-half : (kind : Kind) (r : Reading) → Reads kind (Below 500) abc-line half-text 0 r → Reads kind (Below 501) abc-line half-text 0 r → ⊥
-unfolding abc-line half-text Reads ones onesIn trailingZeros whole single union has within apart size lowest answerTo leafBy closingBy readTreeToBy
+unfolding abc-line half-text Reads ones onesIn trailingZeros whole single union has within apart size lowest answerWithin leafBy closingBy readTreeToBy
     readTreeBy readNodeBy nextIs nextLabel blanks skip number numberBehind numbers supported name innerName run bareLetters letters lettersFrom doubled rawTo
     told padded upTo same position inQuotes begins beginnings nameAt names strayAt longAt manyAt againAt openAt faultAt least firstFault faulty keep
     some insert sorted recordOf cluster clusters clustersLeft leftBelow tooFine decimals leading thousandths writtenBehind writes filled
@@ -306,7 +306,7 @@ unfolding a-input lineLength firstLine behindLine endsInFeed modePlace treesPlac
     decimal output ones onesIn
     trailingZeros whole single union has within apart size lowest keep some insert sorted recordOf properly maximal every among rising singlesFrom
     nested valid validGene binary verdict lengthTest kOf extra total weight score pieces speciesTest countTest firstFailing recordsTest shown marks upTo
-    least clustersIn isLow lows each forks treesTo treesOn those all scoreOf treesOver leastTrees best allowedIn bestFor answerTo leafBy closingBy
+    least clustersIn isLow lows each forks treesTo treesOn those all scoreOf treesOver leastTrees best allowedIn bestFor answerWithin leafBy closingBy
     readTreeToBy readTreeBy readNodeBy nextIs nextLabel blanks skip number numberBehind numbers supported name innerName run bareLetters letters lettersFrom
     doubled rawTo told padded same position inQuotes begins beginnings nameAt names strayAt longAt manyAt againAt openAt faultAt firstFault faulty
     cluster clusters placed byLowest children drawnTo drawn treeText written nodeText labelOf mayBeBare tieEntry tiesFor
@@ -314,7 +314,7 @@ a-output = refl
 
 no-output : output [] ≡ refusedText ++ 49 ∷ atText ++ 48 ∷ 10 ∷ []
 unfolding lineLength firstLine behindLine endsInFeed modePlace treesPlace modeOf gatherTo walk gather rootingTest searched program digitsTo decimal
-    output answerTo leafBy
+    output answerWithin leafBy
     closingBy readTreeToBy readTreeBy readNodeBy nextIs nextLabel blanks skip number numberBehind numbers supported name innerName run bareLetters letters
     lettersFrom doubled rawTo told padded same position inQuotes begins beginnings nameAt names strayAt longAt manyAt againAt openAt faultAt
     firstFault faulty cluster clusters upTo least keep some

@@ -17,8 +17,9 @@ use Rattle.tokens.specs.declared.answer.Threshold.{Threshold}
 use Rattle.tokens.specs.declared.answer.Threshold.the-variants.{NoThreshold}
 use Rattle.tokens.specs.Answers.{Answer}
 use Rattle.tokens.specs.Answers.Answer.{parsed, refused}
+use Rattle.nodes.specs.Reading.{openMost}
 use Rattle.nodes.proofs.Answers.{refused-parsed}
-use Rattle.reader.specs.Promise.{textMost, needed, fromStart, inLimit, onRoster, answerTo}
+use Rattle.reader.specs.Promise.{narrow, textMost, needed, fromStart, inLimit, onRoster, answerWithin, answerTo}
 use Rattle.reader.specs.declared.Kind.{Kind}
 use Rattle.reader.specs.declared.Kind.the-variants.{Gene}
 use Rattle.writer.specs.Promise.{rosterTest}
@@ -34,15 +35,15 @@ use Rattle.demands.proofs.TestFaults.{roster-met}
 pub fault-of-refusal :
     (kind : Kind) (threshold : Threshold) (line text : List ℕ) (start number place : ℕ) → answerTo kind threshold line text start ≡ refused number place
     → TextFault kind threshold line text start number place
-unfolding answerTo rosterTest
+unfolding answerWithin rosterTest
 fault-of-refusal kind threshold line text start number place = judged (faulty speciesMost line) refl
   where
     started :
         (b : Bool) → leb start (length text) ≡ b → faulty speciesMost line ≡ false → length text ≤ textMost
-        → fromStart kind threshold b (names line) text start ≡ refused number place → TextFault kind threshold line text start number place
+        → fromStart narrow kind threshold b (names line) text start ≡ refused number place → TextFault kind threshold line text start number place
     started true is good short e =
         as-met good short (leb-true start (length text) is)
-        (refusal-means (isGiven threshold) (names line) (needed kind (length (names line))) (drop start text) start e)
+        (refusal-means (isGiven threshold) (names line) openMost (needed kind (length (names line))) (drop start text) start e)
     started false is good short e =
         let k : 10 ≡ number = cc in
         let q : length text ≡ place = cc in
@@ -50,7 +51,7 @@ fault-of-refusal kind threshold line text start number place = judged (faulty sp
 
     limited :
         (b : Bool) → leb (length text) textMost ≡ b → faulty speciesMost line ≡ false
-        → inLimit kind threshold b (names line) text start ≡ refused number place → TextFault kind threshold line text start number place
+        → inLimit narrow kind threshold b (names line) text start ≡ refused number place → TextFault kind threshold line text start number place
     limited true is good e = started (leb start (length text)) refl good (leb-true (length text) textMost is) e
     limited false is good e =
         let k : 2 ≡ number = cc in
@@ -58,7 +59,7 @@ fault-of-refusal kind threshold line text start number place = judged (faulty sp
         rw (← k, ← q) (too-long good (leb-false (length text) textMost is))
 
     judged :
-        (b : Bool) → faulty speciesMost line ≡ b → onRoster kind threshold b line text start ≡ refused number place
+        (b : Bool) → faulty speciesMost line ≡ b → onRoster narrow kind threshold b line text start ≡ refused number place
         → TextFault kind threshold line text start number place
     judged true is e =
         let k : 1 ≡ number = cc in
@@ -82,7 +83,7 @@ fault-numbers {kind} {threshold} {line} {text} {start} {number} (as-met g l b r)
     by : (number ≤ 10) ⊎ (number ≡ 18) → (number ≤ 10) ⊎ ((number ≡ 18) × (isGiven threshold ≡ true))
     by (inl few) = inl few
     by (inr e) =
-        let Says : ℕ → Type 0 = λ k. Means (isGiven threshold) (names line) (needed kind (length (names line))) (drop start text) (r .byte) k in
+        let Says : ℕ → Type 0 = λ k. Means (isGiven threshold) (names line) openMost (needed kind (length (names line))) (drop start text) (r .byte) k in
         inr (e, says-18 (isGiven threshold) (subst Says e (r .means)) .0)
 
 -- without a threshold they are those from 1 to 10
@@ -101,7 +102,7 @@ gene-fault-not-nine (of-roster f) nine = let k = roster-number f in omega arith
 gene-fault-not-nine (too-long g l) nine = omega arith
 gene-fault-not-nine (beyond g l b) nine = omega arith
 gene-fault-not-nine {threshold} {line} {text} {start} (as-met g l b r) nine =
-    let m = says-9 (isGiven threshold) (subst (λ (k : ℕ). Means (isGiven threshold) (names line) 0 (drop start text) (r .byte) k) nine (r .means)) in
+    let m = says-9 (isGiven threshold) (subst (λ (k : ℕ). Means (isGiven threshold) (names line) openMost 0 (drop start text) (r .byte) k) nine (r .means)) in
     has-zero (m .species) (m .wanted)
 
 -- a refusal's number, and its place
@@ -117,13 +118,13 @@ module _ {kind : Kind} {threshold : Threshold} {line text : List ℕ} {start : �
   -- the fault that a text has is what is answered
   pub refusal-of-fault :
       {number place : ℕ} → TextFault kind threshold line text start number place → answerTo kind threshold line text start ≡ refused number place
-  unfolding answerTo rosterTest
+  unfolding answerWithin rosterTest
   refusal-of-fault (of-roster f) = let h = roster-met line .only f in rw (h .0, h .1, h .2) refl
   refusal-of-fault (too-long good long) = rw (good, lt-leb (length text) textMost long) refl
   refusal-of-fault (beyond good short out) = rw (good, le-leb (length text) textMost short, lt-leb start (length text) out) refl
   refusal-of-fault (as-met good short inside r) =
       rw (good, le-leb (length text) textMost short, le-leb start (length text) inside)
-      (means-refusal (isGiven threshold) (names line) (needed kind (length (names line))) (drop start text) start r)
+      (means-refusal (isGiven threshold) (names line) openMost (needed kind (length (names line))) (drop start text) start r)
 
   -- a text has one fault at the most, by number and place
   pub fault-one :

@@ -8,6 +8,7 @@ use Rattle.roster.specs.Roster.{names, faulty}
 use Rattle.roster.specs.Judged.{speciesMost}
 use Rattle.tokens.specs.Supports.{isGiven}
 use Rattle.tokens.specs.declared.answer.Threshold.{Threshold}
+use Rattle.nodes.specs.Reading.{openMost}
 use Rattle.reader.specs.Promise.{textMost, needed}
 use Rattle.reader.specs.declared.Kind.{Kind}
 use Rattle.meanings.specs.Meaning.{Refusal}
@@ -25,5 +26,5 @@ pub data TextFault (kind : Kind) (threshold : Threshold) (line text : List ℕ) 
   as-met :
       {number place : ℕ}
       → faulty speciesMost line ≡ false → length text ≤ textMost → start ≤ length text
-      → Refusal (isGiven threshold) (names line) (needed kind (length (names line))) (drop start text) start number place
+      → Refusal (isGiven threshold) (names line) openMost (needed kind (length (names line))) (drop start text) start number place
       → TextFault kind threshold line text start number place
