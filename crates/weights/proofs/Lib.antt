@@ -3,6 +3,7 @@
 pub mod Tops
 pub mod CountedDrawn
 pub mod Joining
+pub mod Groups
 pub mod CountedDown
 pub mod Compared
 pub mod UnrootedClusters
