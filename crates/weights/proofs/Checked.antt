@@ -17,7 +17,7 @@ use Rattle.weights.specs.declared.Rooting.{Rooting}
 -- ---- where the clusters of a record stand
 
 pub listed-fits : {g : List ℕ} → Form g → count g ≤ length (drop 1 g)
-listed-fits {g} f = let l = f .thirty-two in let k = f .counted in omega (arith, length-drop 1 g)
+listed-fits {g} f = let l = f .sized in let k = f .counted in omega (arith, length-drop 1 g)
 
 -- of the first m clusters those from the i-th on, counted from 1 as they stand in the record
 pub first-from : {g : List ℕ} (m i : ℕ) → Form g → m ≤ count g → 1 ≤ i → i ≤ m → drop (i - 1) (take m (drop 1 g)) ≡ getD g i 0 ∷ drop (i + 1 - 1) (take m (drop 1 g))
@@ -44,7 +44,7 @@ pub listed-from : {g : List ℕ} (i : ℕ) → Form g → 1 ≤ i → i ≤ coun
 listed-from {g} i f one last = first-from (count g) i f (omega arith) one last
 
 pub listed-at : {g : List ℕ} (i : ℕ) → Form g → 1 ≤ i → i ≤ count g → Among (getD g i 0) (listed g)
-listed-at {g} i f one last = place-among g (count g) (f .thirty-two) (f .counted) i one last
+listed-at {g} i f one last = place-among g (count g) (f .sized) (f .counted) i one last
 
 -- ---- bounds
 

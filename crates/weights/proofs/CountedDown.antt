@@ -352,7 +352,7 @@ k-counted-down {s} {t} a o =
 pub k-of-record : {s : ℕ} {t : Tree} (a : ℕ) → On s t → kOf (listed (recordOf (clusters t))) a ≡ lineages a t
 k-of-record {s} {t} a o =
     let once = clusters-once t (o .once) in
-    ap (λ (l : List ℕ). kOf l a) (listed-record (clusters t))
+    ap (λ (l : List ℕ). kOf l a) (listed-record 16 (clusters t))
     ∙ k-same (sorted (clusters t)) (clusters t) a (tree-clusters t (o .once)) (rising-none-twice (sorted (clusters t)) (rising-sorted (clusters t) once)) once
     (λ x h. among-sorted (clusters t) h) (λ x h. sorted-among (clusters t) h)
     ∙ k-counted-down a o

@@ -140,7 +140,7 @@ drawn-counted-down {s} {t} a o = drawn-down a t (o .once)
 pub drawn-of-record : {s : ℕ} {t : Tree} (a : ℕ) → On s t → kDrawn (listed (recordOf (clusters t))) a ≡ lineagesDrawn a t
 drawn-of-record {s} {t} a o =
     let once = clusters-once t (o .once) in
-    ap (λ (l : List ℕ). kDrawn l a) (listed-record (clusters t))
+    ap (λ (l : List ℕ). kDrawn l a) (listed-record 16 (clusters t))
     ∙ drawn-same (sorted (clusters t)) (clusters t) a (rising-none-twice (sorted (clusters t)) (rising-sorted (clusters t) once)) once
     (λ x h. among-sorted (clusters t) h) (λ x h. sorted-among (clusters t) h)
     ∙ drawn-counted-down a o

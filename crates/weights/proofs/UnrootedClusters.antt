@@ -101,22 +101,22 @@ module _ {s : ℕ} {g : List ℕ} (v : ValidOn s g) {x : ℕ} where
 
 module _ {s : ℕ} {t u : Tree} (small : s < 2 ^ 16) (o : On s t) (r : Redrawn t u) where
   whole-of : {v : Tree} → On s v → largest (recordOf (clusters v)) ≡ s
-  whole-of p = largest-of-valid (valid-of-drawn p small)
+  whole-of p = largest-of-valid (valid-of-drawn {b = 16} p small)
 
   -- the drawn clusters for those of the record
   in-record : {v : Tree} {x : ℕ} → On s v → WithoutRoot s (clusters v) x → OfUnrooted (recordOf (clusters v)) x
   in-record {v} {x} p w = subst (λ (s : ℕ). WithoutRoot s (listed (recordOf (clusters v))) x) (sym (whole-of p)) (go w)
     where
       go : WithoutRoot s (clusters v) x → WithoutRoot s (listed (recordOf (clusters v))) x
-      go (inl m) = inl (record-among (clusters v) m)
-      go (inr c) = inr (record { of = c .of; among = record-among (clusters v) (c .among); other = c .other; is = c .is })
+      go (inl m) = inl (record-among 16 (clusters v) m)
+      go (inr c) = inr (record { of = c .of; among = record-among 16 (clusters v) (c .among); other = c .other; is = c .is })
 
   of-record : {v : Tree} {x : ℕ} → On s v → OfUnrooted (recordOf (clusters v)) x → WithoutRoot s (clusters v) x
   of-record {v} {x} p w = go (subst (λ (s : ℕ). WithoutRoot s (listed (recordOf (clusters v))) x) (whole-of p) w)
     where
       go : WithoutRoot s (listed (recordOf (clusters v))) x → WithoutRoot s (clusters v) x
-      go (inl m) = inl (among-record (clusters v) m)
-      go (inr c) = inr (record { of = c .of; among = among-record (clusters v) (c .among); other = c .other; is = c .is })
+      go (inl m) = inl (among-record 16 (clusters v) m)
+      go (inr c) = inr (record { of = c .of; among = among-record 16 (clusters v) (c .among); other = c .other; is = c .is })
 
   -- each set is a cluster of both records without a root, or of neither
   pub redrawn-has : (x : ℕ) → unrootedHas (recordOf (clusters t)) x ≡ unrootedHas (recordOf (clusters u)) x
