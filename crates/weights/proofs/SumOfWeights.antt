@@ -1,5 +1,5 @@
 -- The weights of all clusters by sums over subsets (#109): the weight of A from how many sets of two lists lie within A, and so from two transformed tables.
-use Prim.Native.Nat.{ℕ, _+_, _-_, _%_, _^_, _≤_, _<_}
+use Prim.Native.Nat.{ℕ, _+_, _-_, _%_, _^_, _≤_, _<_, min}
 use mathlib.Core.Path.{_≡_, refl, sym, ap, _∙_, subst}
 use mathlib.Core.Bool.{Bool, true, false}
 use mathlib.Core.List.{List, [], _∷_, List·Memᴰ, List·Memᴰ·head as here, List·Memᴰ·tail as there, List·Memᴰ·not-nil, Memᴰ·of-map}
@@ -7,11 +7,11 @@ use native.Mathlib.Omega.{arith}
 use lib.ListN.{length, getD, length-map}
 use Rattle.clusters.specs.Sets.{Within, Apart, within, apart, whole}
 use Rattle.clusters.proofs.Sets.{within-whole, whole-below, within-apart, apart-sym, apart-within, apart-true, true-apart, apart-false, false-apart, false-within, minus-apart, within-below}
-use Rattle.clusters.proofs.Sizes.{size-zero}
 use Rattle.trees.specs.Lists.{Among}
-use Rattle.trees.specs.Records.{listed, largest, GeneValid, AllValid}
+use Rattle.trees.specs.Records.{listed, largest, GeneValidFor, GeneValid, AllValid}
 use Rattle.trees.specs.Unrooted.{mayUnroot}
 use Rattle.trees.proofs.Bounds.{whole-below-sixteen}
+use Rattle.trees.proofs.Breadth.{Small}
 use Rattle.trees.proofs.Children.{hierarchy-of-valid}
 use Rattle.trees.proofs.GeneRecords.{gene-small, species-of-gene}
 use Rattle.trees.proofs.MayUnroot.{apart-rest, Resolved, rooted-resolved, may-unroot-drawn}
@@ -22,15 +22,39 @@ use Rattle.weights.specs.Subsets.{many, gathered, plusBy, minusBy, plusA
 use Rattle.weights.specs.declared.Rooting.{Rooting}
 use Rattle.weights.specs.declared.Rooting.the-variants.{Rooted, Unrooted}
 use Rattle.weights.proofs.Joining.{tells-same}
-use Rattle.weights.proofs.Bounds.{extra-lt-size}
-use Rattle.weights.proofs.Sums.{weight-none, weight-cons, weight-le, weight-bound, valid-countable}
-use Rattle.weights.proofs.Lost.{met-adds-k-less-one}
+use Rattle.weights.proofs.Sums.{weight-none, weight-cons, none-weigh-nothing, weight-most, valid-countable}
+use Rattle.weights.proofs.Lost.{apart-adds-nothing, met-adds-k-less-one}
 use Rattle.weights.proofs.SumOfLists.{many-nil, many-cons, many-append, many-same, many-none, among-gathered}
 use Rattle.weights.proofs.SumOfRooted.{k-rooted-sum, plus-rooted-of, minus-rooted-of}
 use Rattle.weights.proofs.SumOfUnrooted.{k-unrooted-sum, k-unrooted-some, plus-unrooted-of, minus-unrooted-of}
 use Rattle.weights.proofs.Zeta.{zeta-of-lists, told-by-remainders}
 
 -- ---- one gene record
+
+module _ {b n : ℕ} {g : List ℕ} (few : n ≤ min b 32) (v : GeneValidFor b n g) (a : ℕ) where
+  -- sets of the tree do not lie within what is apart from it
+  none-apart : (l : List ℕ) → ((x : ℕ) → Among x l → (1 ≤ x) × Within x (largest g)) → Apart (largest g) a → many (λ x. within x a) l ≡ 0
+  none-apart l f d =
+      many-none (λ x. within x a) l (λ x m.
+      let k = f x m in false-within x a (λ w. omega (arith, within-apart a w (apart-within x (largest g) a (k .1) d))))
+
+  -- with a root: the extra lineages of A, one, and the sets taken off that lie within A are as many as the sets counted that lie within A, and one where the tree has no species of A
+  pub rooted-extra : extra Rooted g a + 1 + many (λ x. within x a) (minusBy Rooted g) ≡ many (λ x. within x a) (plusBy Rooted g) + oneIf (apart (largest g) a)
+  rooted-extra = go (apart (largest g) a) refl
+    where
+      small : Small b (largest g)
+      small = gene-small few v
+
+      none-counted : Apart (largest g) a → many (λ x. within x a) (plusBy Rooted g) ≡ 0
+      none-counted d = none-apart (plusBy Rooted g) (plus-rooted-of (v .valid) small) d
+
+      go : (b : Bool) → apart (largest g) a ≡ b
+          → extra Rooted g a + 1 + many (λ x. within x a) (minusBy Rooted g) ≡ many (λ x. within x a) (plusBy Rooted g) + oneIf b
+      go true e =
+          let d = apart-true (largest g) a e in
+          omega (arith, k-rooted-sum (v .valid) small a, none-counted d, apart-adds-nothing few v a (apart-sym (largest g) a d))
+      go false e =
+          omega (arith, k-rooted-sum (v .valid) small a, met-adds-k-less-one few v a (λ d. apart-false (largest g) a e (apart-sym a (largest g) d)))
 
 module _ {n : ℕ} {g : List ℕ} (few : n ≤ 16) (v : GeneValid n g) where
   small : largest g < 2 ^ 16
@@ -54,43 +78,22 @@ module _ {n : ℕ} {g : List ℕ} (few : n ≤ 16) (v : GeneValid n g) where
   minus-of Rooted enter x m = minus-rooted-of (v .valid) small x m
   minus-of Unrooted enter x m = minus-unrooted-of (v .valid) small (entered (enter refl) .1) x m
 
-  module _ (a : ℕ) where
-    -- sets of the tree do not lie within what is apart from it
-    none-apart : (l : List ℕ) → ((x : ℕ) → Among x l → (1 ≤ x) × Within x (largest g)) → Apart (largest g) a → many (λ x. within x a) l ≡ 0
-    none-apart l f d =
-        many-none (λ x. within x a) l (λ x m.
-        let k = f x m in false-within x a (λ w. omega (arith, within-apart a w (apart-within x (largest g) a (k .1) d))))
-
-    rooted-extra :
-        (b : Bool) → apart (largest g) a ≡ b
-        → extra Rooted g a + 1 + many (λ x. within x a) (minusBy Rooted g) ≡ many (λ x. within x a) (plusBy Rooted g) + oneIf b
-    unfolding extra
-    rooted-extra true e =
-        let d = apart-true (largest g) a e in
-        omega (
-          arith,
-          k-rooted-sum (v .valid) small a,
-          none-apart (plusBy Rooted g) (plus-rooted-of (v .valid) small) d,
-        )
-    rooted-extra false e =
-        omega (arith, k-rooted-sum (v .valid) small a, met-adds-k-less-one few v a (λ d. apart-false (largest g) a e (apart-sym a (largest g) d)))
-
-    -- the extra lineages of A, one, and the sets taken off that lie within A: the sets counted that lie within A, and one where the tree has no species of A
-    extra-sum :
-        (rooting : Rooting) → (rooting ≡ Unrooted → mayUnroot n g ≡ true) → 1 ≤ a → a < 2 ^ n
-        → extra rooting g a + 1 + many (λ x. within x a) (minusBy rooting g) ≡ many (λ x. within x a) (plusBy rooting g) + oneIf (apart (largest g) a)
-    unfolding extra
-    extra-sum Rooted enter some below = rooted-extra (apart (largest g) a) refl
-    extra-sum Unrooted enter some below =
-        let e = entered (enter refl) in
-        let part : Within a (largest g) = rw (e .0) (within-whole n below) in
-        let met = false-apart (largest g) a (λ d. omega (arith, within-apart (largest g) part (apart-sym (largest g) a d))) in
-        omega (
-          arith,
-          k-unrooted-sum (v .valid) small (e .1) a part,
-          k-unrooted-some (v .valid) small (e .1) a some part,
-          ap oneIf met,
-        )
+  -- and without a root, of A within the whole set
+  extra-sum :
+      (a : ℕ) (rooting : Rooting) → (rooting ≡ Unrooted → mayUnroot n g ≡ true) → 1 ≤ a → a < 2 ^ n
+      → extra rooting g a + 1 + many (λ x. within x a) (minusBy rooting g) ≡ many (λ x. within x a) (plusBy rooting g) + oneIf (apart (largest g) a)
+  unfolding extra
+  extra-sum a Rooted enter some below = rooted-extra few v a
+  extra-sum a Unrooted enter some below =
+      let e = entered (enter refl) in
+      let part : Within a (largest g) = rw (e .0) (within-whole n below) in
+      let met = false-apart (largest g) a (λ d. omega (arith, within-apart (largest g) part (apart-sym (largest g) a d))) in
+      omega (
+        arith,
+        k-unrooted-sum (v .valid) small (e .1) a part,
+        k-unrooted-some (v .valid) small (e .1) a some part,
+        ap oneIf met,
+      )
 
 -- ---- all gene records
 
@@ -161,12 +164,6 @@ summed-told {n} {plus} {minus} {wholes} {weigh} {f} {h} summed first second a en
 
 -- ---- the weights
 
--- no species weigh nothing
-weight-of-none :
-    (rooting : Rooting) {n : ℕ} (genes : List (List ℕ)) → n ≤ 16 → AllValid n genes → weight rooting genes 0 ≡ 0
-weight-of-none rooting genes few valid =
-    omega (arith, weight-le rooting 0 genes 0 (λ g m. omega (arith, extra-lt-size (valid g m .valid) (gene-small few (valid g m)) rooting 0, size-zero)))
-
 module _ {n : ℕ} (rooting : Rooting) (genes : List (List ℕ)) (few : n ≤ 16) (valid : AllValid n genes)
     (enter : rooting ≡ Unrooted → (g : List ℕ) → List·Memᴰ g genes → mayUnroot n g ≡ true) where
   below-of : {g : List ℕ} {x : ℕ} → List·Memᴰ g genes → (1 ≤ x) × Within x (largest g) → x < 2 ^ n
@@ -191,8 +188,8 @@ module _ {n : ℕ} (rooting : Rooting) (genes : List (List ℕ)) (few : n ≤ 16
     plus-below = plus-below;
     minus-below = minus-below;
     wholes-below = whole-sets-below;
-    none = weight-of-none rooting genes few valid;
-    small = λ a. omega (arith, weight-bound rooting genes a (valid-countable few valid));
+    none = none-weigh-nothing rooting genes few valid;
+    small = λ a. omega (arith, weight-most rooting genes a limit (valid-countable few valid));
     sum = λ a some below.
         omega (
           arith,
