@@ -14,7 +14,7 @@ use borrow.Author.Tests.{not-true, not-false}
 use lib.Bits.{bitAnd}
 use Rattle.clusters.specs.Sets.{Has, Within, Apart, within, apart, has, single, union, whole}
 use Rattle.clusters.proofs.Members.{has-dec, has-union, union-has-left, union-has-right, has-zero, has-and, and-has, some-has, has-some, single-has, has-single, has-whole, whole-has, has-below, same-members, within-of-has, has-of-within, apart-of-has, has-of-apart}
-use Rattle.clusters.proofs.Sets.{union-zero, zero-union, union-assoc, apart-dec, apart-true, true-apart, apart-false, false-apart, within-whole, below-of-within}
+use Rattle.clusters.proofs.Sets.{union-zero, zero-union, union-assoc, apart-dec, apart-true, true-apart, apart-false, false-apart, within-whole, below-of-within, single-within}
 use Rattle.trees.specs.Lists.{Among}
 use Rattle.trees.proofs.Places.{at-among}
 use Rattle.trees.proofs.ValidTest.{tells-within, tells-apart, tells-has}
@@ -75,10 +75,6 @@ module _ (give : ℕ → ℕ → ℕ) where
       place : 0 + length (take i l) ≡ i
       place = omega (arith, length-take i l)
 
-  pub over-none : (l : List ℕ) → unionOver give 0 (take 0 l) ≡ 0
-  unfolding unionOver
-  over-none l = refl
-
 -- ---- the individuals of a set of species
 
 set-if : {b : Bool} (x j : ℕ) → Has (setIf b x) j → (b ≡ true) × Has x j
@@ -107,6 +103,35 @@ module _ (groups : List ℕ) (a : ℕ) where
       over-has (λ i group. setIf (has a i) group) 0 groups i j less
       (if-set {b = has a (0 + i)} (getD groups i 0) j (tells-has a (0 + i) .told (subst (λ (i : ℕ). Has a i) place h)) k)
 
+-- the set of no species has none
+pub individuals-of-none : (groups : List ℕ) → individualsOf groups 0 ≡ 0
+individuals-of-none groups =
+    same-members (individualsOf groups 0) 0 (λ j h. let k = has-individuals groups 0 j h in absurd (has-zero (k .0) (k .2))) (λ j h. absurd (has-zero j h))
+
+-- a species is in A where it lies within A alone
+has-within : (a i : ℕ) → has a i ≡ within (single i) a
+has-within a i =
+    tells-same (tells-has a i) (tells-within (single i) a) (λ h. single-within a i h) (λ w. has-of-within (single i) a i w (single-has i))
+
+-- of no species there is none
+pub individuals-none : (a : ℕ) → individualsOf [] a ≡ 0
+unfolding individualsOf unionOver
+individuals-none a = refl
+
+-- one species more: its group where it is in A, else nothing
+module _ (groups : List ℕ) (a i : ℕ) (less : i < length groups) where
+  individuals-more : individualsOf (take (i + 1) groups) a ≡ union (individualsOf (take i groups) a) (setIf (has a i) (getD groups i 0))
+  unfolding individualsOf
+  individuals-more = over-next (λ i group. setIf (has a i) group) groups i less
+
+  pub individuals-joined : within (single i) a ≡ true → individualsOf (take (i + 1) groups) a ≡ union (individualsOf (take i groups) a) (getD groups i 0)
+  individuals-joined e = individuals-more ∙ ap (λ (b : Bool). union (individualsOf (take i groups) a) (setIf b (getD groups i 0))) (has-within a i ∙ e)
+
+  pub individuals-passed : within (single i) a ≡ false → individualsOf (take (i + 1) groups) a ≡ individualsOf (take i groups) a
+  individuals-passed e =
+      individuals-more ∙ ap (λ (b : Bool). union (individualsOf (take i groups) a) (setIf b (getD groups i 0))) (has-within a i ∙ e)
+      ∙ union-zero (individualsOf (take i groups) a)
+
 -- ---- the species of a set of individuals
 
 module _ (groups : List ℕ) (x : ℕ) where
@@ -128,6 +153,23 @@ module _ (groups : List ℕ) (x : ℕ) where
       over-has (λ i group. setIf (not (apart group x)) (single i)) 0 groups i i less
       (if-set {b = not (apart (getD groups i 0) x)} (single (0 + i)) i (ap not (false-apart (getD groups i 0) x (λ d. has-of-apart (getD groups i 0) x j d h k)))
       (subst (λ (n : ℕ). Has (single n) i) place (single-has i)))
+
+-- one group more: its species where it has one of them, else nothing
+module _ (groups : List ℕ) (x i : ℕ) (less : i < length groups) where
+  species-more : speciesIn (take (i + 1) groups) x ≡ union (speciesIn (take i groups) x) (setIf (not (apart (getD groups i 0) x)) (single i))
+  unfolding speciesIn
+  species-more = over-next (λ i group. setIf (not (apart group x)) (single i)) groups i less
+
+  pub species-joined : apart (getD groups i 0) x ≡ false → speciesIn (take (i + 1) groups) x ≡ union (speciesIn (take i groups) x) (single i)
+  species-joined e = species-more ∙ ap (λ (b : Bool). union (speciesIn (take i groups) x) (setIf (not b) (single i))) e
+
+  pub species-passed : apart (getD groups i 0) x ≡ true → speciesIn (take (i + 1) groups) x ≡ speciesIn (take i groups) x
+  species-passed e =
+      species-more ∙ ap (λ (b : Bool). union (speciesIn (take i groups) x) (setIf (not b) (single i))) e ∙ union-zero (speciesIn (take i groups) x)
+
+pub species-none : (x : ℕ) → speciesIn [] x ≡ 0
+unfolding speciesIn unionOver
+species-none x = refl
 
 -- some individual of theirs is in the group of each
 pub species-holds : (groups : List ℕ) (x i : ℕ) → Has (speciesIn groups x) i → (j : ℕ) × Has (getD groups i 0) j × Has x j

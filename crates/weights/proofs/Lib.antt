@@ -11,6 +11,7 @@ pub mod Complements
 pub mod Bounds
 pub mod UnrootedLess
 pub mod Sums
+pub mod StandWeights
 pub mod Lost
 pub mod Dropped
 pub mod Pass

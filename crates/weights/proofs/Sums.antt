@@ -50,7 +50,7 @@ pub weights-cons : (rooting : Rooting) (genes : List (List ℕ)) (a : ℕ) (cs :
 unfolding weights total
 weights-cons rooting genes a cs = refl
 
-weights-append : (rooting : Rooting) (g h : List (List ℕ)) (cs : List ℕ) → weights rooting (g ++ h) cs ≡ weights rooting g cs + weights rooting h cs
+pub weights-append : (rooting : Rooting) (g h : List (List ℕ)) (cs : List ℕ) → weights rooting (g ++ h) cs ≡ weights rooting g cs + weights rooting h cs
 weights-append rooting g h [] = omega (arith, weights-none rooting (g ++ h), weights-none rooting g, weights-none rooting h)
 weights-append rooting g h (a ∷ cs) =
     omega (arith, weights-cons rooting (g ++ h) a cs, weights-cons rooting g a cs, weights-cons rooting h a cs, weight-append rooting g h a, weights-append rooting g h cs)
@@ -79,7 +79,7 @@ weight-reordered rooting a nothing = refl
 weight-reordered rooting a (put {x = x} {l = l} front behind o) = omega
     (arith, weight-cons rooting x l a, weight-reordered rooting a o, weight-anywhere rooting front x behind a)
 
-weights-reordered : (rooting : Rooting) {l k : List (List ℕ)} (cs : List ℕ) → InAnyOrder l k → weights rooting l cs ≡ weights rooting k cs
+pub weights-reordered : (rooting : Rooting) {l k : List (List ℕ)} (cs : List ℕ) → InAnyOrder l k → weights rooting l cs ≡ weights rooting k cs
 weights-reordered rooting {l} {k} [] r = omega (arith, weights-none rooting l, weights-none rooting k)
 weights-reordered rooting {l} {k} (a ∷ cs) r =
     omega (arith, weights-cons rooting l a cs, weights-cons rooting k a cs, weight-reordered rooting a r, weights-reordered rooting cs r)

@@ -1,10 +1,10 @@
 -- What counting and marking ask of gene records, and the bytes while they are marked.
-use Prim.Native.Nat.{ℕ, _-_, _^_, _≤_, _<_, min}
+use Prim.Native.Nat.{ℕ, _-_, _*_, _^_, _≤_, _<_, min}
 use mathlib.Core.List.{List, [], _∷_, _++_, map, List·Memᴰ}
-use lib.ListN.{set, take, drop}
+use lib.ListN.{length, set, take, drop}
 use Rattle.clusters.specs.Sets.{Within}
 use Rattle.trees.specs.Lists.{Among, upTo}
-use Rattle.trees.specs.Records.{count, listed, largest, Form, ValidFor}
+use Rattle.trees.specs.Records.{count, listed, largest, Form, ValidFor, wideRecordsIn}
 use Rattle.weights.specs.Count.{complement}
 use Rattle.weights.specs.Marks.{shown, flag}
 use Rattle.weights.specs.declared.Rooting.{Rooting}
@@ -27,6 +27,14 @@ AllCountableFor b genes = (g : List ℕ) → List·Memᴰ g genes → CountableF
 -- the same of 01's records
 abbrev pub AllCountable : List (List ℕ) → Type 0
 AllCountable genes = AllCountableFor 16 genes
+
+-- a stand on which can be counted: the groups of at most 16 species, and at most 4,096 gene records of breadth 32 that can be counted, lent whole
+pub record StandCountable (groups : List ℕ) (n : ℕ) (genes : List ℕ) (count : ℕ) : Type 0 where
+  pub few-species : n ≤ 16
+  pub groups-long : n ≤ length groups
+  pub few-genes : count ≤ 4096
+  pub genes-long : 64 * count ≤ length genes
+  pub countable : AllCountableFor 32 (wideRecordsIn count genes)
 
 -- y is the smallest cluster of a gene record that holds all of b
 pub record SmallestHolder (g : List ℕ) (b y : ℕ) : Type 0 where
