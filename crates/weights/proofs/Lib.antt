@@ -29,3 +29,4 @@ pub mod SumOfBinary
 pub mod SumOfUnrooted
 pub mod Zeta
 pub mod SumOfWeights
+pub mod SumOfStand

@@ -8,7 +8,7 @@ use lib.ListN.{length, getD, length-map}
 use Rattle.clusters.specs.Sets.{Within, Apart, within, apart, whole}
 use Rattle.clusters.proofs.Sets.{within-whole, whole-below, within-apart, apart-sym, apart-within, apart-true, true-apart, apart-false, false-apart, false-within, minus-apart, within-below}
 use Rattle.trees.specs.Lists.{Among}
-use Rattle.trees.specs.Records.{listed, largest, GeneValidFor, GeneValid, AllValid}
+use Rattle.trees.specs.Records.{listed, largest, GeneValidFor, GeneValid, AllValidFor, AllValid}
 use Rattle.trees.specs.Unrooted.{mayUnroot}
 use Rattle.trees.proofs.Bounds.{whole-below-sixteen}
 use Rattle.trees.proofs.Breadth.{Small}
@@ -164,36 +164,33 @@ summed-told {n} {plus} {minus} {wholes} {weigh} {f} {h} summed first second a en
 
 -- ---- the weights
 
-module _ {n : ℕ} (rooting : Rooting) (genes : List (List ℕ)) (few : n ≤ 16) (valid : AllValid n genes)
-    (enter : rooting ≡ Unrooted → (g : List ℕ) → List·Memᴰ g genes → mayUnroot n g ≡ true) where
-  below-of : {g : List ℕ} {x : ℕ} → List·Memᴰ g genes → (1 ≤ x) × Within x (largest g) → x < 2 ^ n
-  below-of {g} {x} m k = within-below (largest g) n (k .1) (valid g m .of-roster .1)
+-- sets of the gene trees are sets of n species
+pub gathered-below :
+    {b n : ℕ} (give : List ℕ → List ℕ) (genes : List (List ℕ)) → AllValidFor b n genes
+    → ((g : List ℕ) → List·Memᴰ g genes → (x : ℕ) → Among x (give g) → (1 ≤ x) × Within x (largest g)) → (x : ℕ) → Among x (gathered give genes) → x < 2 ^ n
+gathered-below {b} {n} give genes valid of x m =
+    let g = among-gathered give genes m in
+    within-below (largest (g .0)) n (of (g .0) (g .1) x (g .2) .1) (valid (g .0) (g .1) .of-roster .1)
 
-  plus-below : (x : ℕ) → Among x (plusAll rooting genes) → x < 2 ^ n
-  plus-below x m =
-      let g = among-gathered (λ g. plusBy rooting g) genes m in
-      below-of (g .1) (plus-of few (valid (g .0) (g .1)) rooting (λ e. enter e (g .0) (g .1)) x (g .2))
+-- and so are their whole sets
+pub whole-sets-below : {b n : ℕ} (genes : List (List ℕ)) → AllValidFor b n genes → (x : ℕ) → Among x (wholeSets genes) → x < 2 ^ n
+whole-sets-below {b} {n} genes valid x m = let g = Memᴰ·of-map largest genes m in subst (λ (y : ℕ). y < 2 ^ n) (g .2) (valid (g .0) (g .1) .of-roster .1)
 
-  minus-below : (x : ℕ) → Among x (minusAll rooting genes) → x < 2 ^ n
-  minus-below x m =
-      let g = among-gathered (λ g. minusBy rooting g) genes m in
-      below-of (g .1) (minus-of few (valid (g .0) (g .1)) rooting (λ e. enter e (g .0) (g .1)) x (g .2))
-
-  whole-sets-below : (x : ℕ) → Among x (wholeSets genes) → x < 2 ^ n
-  whole-sets-below x m = let g = Memᴰ·of-map largest genes m in subst (λ (y : ℕ). y < 2 ^ n) (g .2) (valid (g .0) (g .1) .of-roster .1)
-
-  -- the sets counted and taken off and the whole sets of the gene trees tell the weights
-  pub weights-summed : length genes ≤ 4096 → Summed n (plusAll rooting genes) (minusAll rooting genes) (wholeSets genes) (λ a. weight rooting genes a)
-  weights-summed limit = record {
-    plus-below = plus-below;
-    minus-below = minus-below;
-    wholes-below = whole-sets-below;
-    none = none-weigh-nothing rooting genes few valid;
-    small = λ a. omega (arith, weight-most rooting genes a limit (valid-countable few valid));
-    sum = λ a some below.
-        omega (
-          arith,
-          length-map genes largest,
-          weight-sum rooting genes a (λ g m. extra-sum few (valid g m) a rooting (λ e. enter e g m) some below),
-        );
-  }
+-- the sets counted and taken off and the whole sets of the gene trees tell the weights
+pub weights-summed :
+    {n : ℕ} (rooting : Rooting) (genes : List (List ℕ)) → n ≤ 16 → AllValid n genes
+    → (rooting ≡ Unrooted → (g : List ℕ) → List·Memᴰ g genes → mayUnroot n g ≡ true) → length genes ≤ 4096
+    → Summed n (plusAll rooting genes) (minusAll rooting genes) (wholeSets genes) (λ a. weight rooting genes a)
+weights-summed rooting genes few valid enter limit = record {
+  plus-below = gathered-below (λ g. plusBy rooting g) genes valid (λ g m. plus-of few (valid g m) rooting (λ e. enter e g m));
+  minus-below = gathered-below (λ g. minusBy rooting g) genes valid (λ g m. minus-of few (valid g m) rooting (λ e. enter e g m));
+  wholes-below = whole-sets-below genes valid;
+  none = none-weigh-nothing rooting genes few valid;
+  small = λ a. omega (arith, weight-most rooting genes a limit (valid-countable few valid));
+  sum = λ a some below.
+      omega (
+        arith,
+        length-map genes largest,
+        weight-sum rooting genes a (λ g m. extra-sum few (valid g m) a rooting (λ e. enter e g m) some below),
+      );
+}
