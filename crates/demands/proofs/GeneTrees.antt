@@ -125,7 +125,7 @@ may-enter-exactly few = (
 -- what a gene tree adds to a weight
 extra-drawn : (rooting : Rooting) {n : ℕ} {t : Tree} (a : ℕ) → OnSome n t → extra rooting (recordOf (clusters t)) a ≡ kIn rooting t a - 1
 unfolding extra
-extra-drawn Rooted a o = ap (λ (k : ℕ). k - 1) (k-of-record a (on-own o) ∙ sym (k-counted-down a (on-own o)))
+extra-drawn Rooted a o = ap (λ (k : ℕ). k - 1) (k-of-record 16 a (on-own o) ∙ sym (k-counted-down a (on-own o)))
 extra-drawn Unrooted a o = refl
 
 module _ {n : ℕ} {genes : List (List ℕ)} {trees : List Tree} (r : RecordsOf n genes trees) where

@@ -77,10 +77,10 @@ tells-ltb a b = record { holds = ltb-true a b; told = lt-ltb a b }
 pub tells-within : (a b : ℕ) → Tells (within a b) (Within a b)
 tells-within a b = record { holds = within-true a b; told = true-within a b }
 
-tells-apart : (a b : ℕ) → Tells (apart a b) (Apart a b)
+pub tells-apart : (a b : ℕ) → Tells (apart a b) (Apart a b)
 tells-apart a b = record { holds = apart-true a b; told = true-apart a b }
 
-tells-has : (a i : ℕ) → Tells (has a i) (Has a i)
+pub tells-has : (a i : ℕ) → Tells (has a i) (Has a i)
 unfolding has Has
 tells-has a i = tells-eqb (a / 2 ^ i % 2) 1
 

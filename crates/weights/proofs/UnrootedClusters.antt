@@ -8,7 +8,7 @@ use native.Mathlib.Omega.{arith}
 use lib.Dec.{eqb}
 use borrow.Author.Tests.{eqb-true, eqb-false, eq-eqb, ne-eqb, not-true}
 use Rattle.trees.specs.Lists.{Among, NoneTwice, keep, some, upTo, total}
-use Rattle.trees.specs.Records.{listed, largest, recordOf, Form, ValidOn}
+use Rattle.trees.specs.Records.{listed, largest, recordOf, FormFor, ValidFor}
 use Rattle.trees.specs.Valid.{among}
 use Rattle.trees.specs.Tree.{Tree, clusters, On}
 use Rattle.trees.specs.Unrooted.{Redrawn}
@@ -70,9 +70,9 @@ module _ (g : List ℕ) {x : ℕ} where
   among-unrooted m = tells-unrooted .holds (among-keep (λ x. unrootedHas g x) (upTo (suc (largest g))) m .1)
 
   -- and they are all listed
-  pub unrooted-among : Form g → OfUnrooted g x → Among x (unrootedClusters g)
+  pub unrooted-among : {b : ℕ} → FormFor b g → OfUnrooted g x → Among x (unrootedClusters g)
   unfolding unrootedClusters
-  unrooted-among form w =
+  unrooted-among {b} form w =
       keep-among (λ x. unrootedHas g x) (upTo (suc (largest g))) (upTo-among (suc (largest g)) (omega (arith, low w))) (tells-unrooted .told w)
     where
       low : OfUnrooted g x → x ≤ largest g
@@ -90,7 +90,7 @@ unfolding unrootedClusters
 unrooted-once g = none-twice-keep (λ x. unrootedHas g x) (upTo (suc (largest g))) (upTo-once (suc (largest g)))
 
 -- of a valid record, by its whole set
-module _ {s : ℕ} {g : List ℕ} (v : ValidOn s g) {x : ℕ} where
+module _ {b s : ℕ} {g : List ℕ} (v : ValidFor b s g) {x : ℕ} where
   pub without-root : Among x (unrootedClusters g) → WithoutRoot s (listed g) x
   without-root m = subst (λ (s : ℕ). WithoutRoot s (listed g) x) (largest-of-valid v) (among-unrooted g m)
 
