@@ -2,8 +2,8 @@
 use crate::lineages::Rooting;
 use crate::reader::Kind;
 use crate::sheet::{sheet, Entry};
-use crate::trees::Record;
-use crate::{counts, lineages, plain, reader, report, roster, search, writer, Refusal};
+use crate::trees::{Mask, Record};
+use crate::{counts, lineages, plain, reader, report, roster, search, stand, writer, Refusal};
 use std::fmt::Write;
 
 /// What lent buffers hold before a call.
@@ -53,9 +53,9 @@ fn bytes(field: &[u8]) -> Vec<u8> {
     out
 }
 
-/// Numbers with a space before each but the first; `*N` is the number before N times more, `#N` the 32 before N times more.
-fn numbers(field: &[u8]) -> Vec<u16> {
-    let mut out: Vec<u16> = Vec::new();
+/// Numbers with a space before each but the first; `*N` is the number before N times more, `#N` the record before, of so many numbers, N times more.
+fn unfolded(field: &[u8], length: usize) -> Vec<usize> {
+    let mut out: Vec<usize> = Vec::new();
     let mut at = 0;
     while at < field.len() {
         match field[at] {
@@ -68,16 +68,24 @@ fn numbers(field: &[u8]) -> Vec<u16> {
             b'#' => {
                 at += 1;
                 let times = decimal(field, &mut at);
-                let last = out[out.len() - 32..].to_vec();
+                let last = out[out.len() - length..].to_vec();
                 for _ in 0..times {
                     out.extend_from_slice(&last);
                 }
             }
             b' ' => at += 1,
-            _ => out.push(decimal(field, &mut at) as u16),
+            _ => out.push(decimal(field, &mut at)),
         }
     }
     out
+}
+
+fn numbers(field: &[u8]) -> Vec<u16> {
+    unfolded(field, 32).into_iter().map(|x| x as u16).collect()
+}
+
+fn wide_numbers(field: &[u8]) -> Vec<u32> {
+    unfolded(field, 64).into_iter().map(|x| x as u32).collect()
 }
 
 fn number(field: &[u8]) -> usize {
@@ -106,10 +114,21 @@ fn reply(line: &mut String, answer: &Result<usize, Refusal>) {
 }
 
 /// A record's numbers up to its last that is not 0.
-fn listed(line: &mut String, r: &Record) {
-    let upto = r.iter().rposition(|&x| x != 0).map_or(0, |i| i + 1);
+fn listed<M: Mask>(line: &mut String, r: &[M]) {
+    let upto = r.iter().rposition(|&x| x != M::from(0)).map_or(0, |i| i + 1);
     for x in &r[..upto] {
-        write!(line, " {x}").unwrap();
+        write!(line, " {x:?}").unwrap();
+    }
+}
+
+/// The offset behind a tree and its record, or the refusal with the offset that the reader was given.
+fn tree_read<M: Mask, const LENGTH: usize>(line: &mut String, start: usize, answer: Result<([M; LENGTH], usize), Refusal>) {
+    match answer {
+        Ok((record, next)) => {
+            write!(line, "0 0 {next}").unwrap();
+            listed(line, &record);
+        }
+        Err((number, place)) => write!(line, "{number} {place} {start}").unwrap(),
     }
 }
 
@@ -140,6 +159,29 @@ fn searched(line: &mut String, rooting: Rooting, field: &[&[u8]]) {
     let (mut scores, mut splits) = (vec![SCORE; number(field[4])], vec![SPLIT; number(field[5])]);
     found(line, search::search(rooting, number(field[0]), &numbers(field[1]), number(field[2]), &flags(field[3]), &mut scores, &mut splits));
     write!(line, " : {} {}", mixed(&scores), mixed(&splits)).unwrap();
+}
+
+/// The calls on a stand (02, #110), which have both rosters and the mapping first.
+fn on_a_stand(line: &mut String, call: u8, field: &[&[u8]]) {
+    let stand = stand::judge(&bytes(field[0]), &bytes(field[1]), &bytes(field[2]));
+    let genes = || (wide_numbers(field[3]), number(field[4]));
+    match call {
+        b'I' => reply(line, &stand.map(|stand| stand.individuals)),
+        b'X' => {
+            let (genes, count) = genes();
+            reply(line, &stand.and_then(|stand| stand.weight(&genes, count, number(field[5]))));
+        }
+        b'Y' => {
+            let (genes, count) = genes();
+            reply(line, &stand.and_then(|stand| stand.score(&genes, count, &record(field[5]))));
+        }
+        _ => {
+            let (genes, count) = genes();
+            let (mut scores, mut splits) = (vec![SCORE; number(field[6])], vec![SPLIT; number(field[7])]);
+            found(line, stand.and_then(|stand| stand.search(&genes, count, &flags(field[5]), &mut scores, &mut splits)));
+            write!(line, " : {} {}", mixed(&scores), mixed(&splits)).unwrap();
+        }
+    }
 }
 
 fn searched_with_ties(line: &mut String, rooting: Rooting, field: &[&[u8]]) {
@@ -175,14 +217,10 @@ pub fn answer(case: &[u8]) -> Vec<u8> {
             let kind = if case[0] == b'R' { Kind::Species } else { Kind::Gene };
             let start = number(field[2]);
             let threshold = (case[0] == b'T').then(|| number(field[3]));
-            match reader::read(kind, threshold, &bytes(field[0]), &bytes(field[1]), start) {
-                Ok((record, next)) => {
-                    write!(line, "0 0 {next}").unwrap();
-                    listed(&mut line, &record);
-                }
-                Err((number, place)) => write!(line, "{number} {place} {start}").unwrap(),
-            }
+            tree_read(&mut line, start, reader::read(kind, threshold, &bytes(field[0]), &bytes(field[1]), start));
         }
+        b'N' => tree_read(&mut line, number(field[2]), stand::read(&bytes(field[0]), &bytes(field[1]), number(field[2]))),
+        b'I' | b'X' | b'Y' | b'Z' => on_a_stand(&mut line, case[0], &field),
         b'W' => {
             let mut out = vec![BYTE; number(field[2])];
             let answer = writer::write(&bytes(field[0]), &record(field[1]), &mut out);
