@@ -2,6 +2,7 @@
 use crate::lineages::Rooting;
 use crate::reader::Kind;
 use crate::sheet::{sheet, Entry};
+use crate::shelf::{Lent, NUMBERS};
 use crate::trees::{Mask, Record};
 use crate::{counts, lineages, plain, reader, report, roster, search, stand, writer, Refusal};
 use std::fmt::Write;
@@ -13,6 +14,7 @@ const SPLIT: u16 = 9;
 const TIE: u64 = 5;
 const ENTRY_NUMBER: u32 = 5;
 const ENTRY_SCORE: usize = 6;
+const ON_SHELF: u16 = 9;
 
 fn decimal(s: &[u8], at: &mut usize) -> usize {
     let mut value = 0;
@@ -206,6 +208,58 @@ fn filled(line: &mut String, rooting: Rooting, field: &[&[u8]]) {
     }
 }
 
+/// A step on a shelf (02, #112) is done; the answer, which lending and writing a number have not.
+fn step_done(lent: &mut Lent, step: &[u8]) -> Option<String> {
+    let mut at = 2;
+    let first = decimal(step, &mut at);
+    // most steps are a bench's
+    let bench = first;
+    let rest = &step[(at + 1).min(step.len())..];
+    let mut line = String::new();
+    match step[0] {
+        b'l' => {
+            lent.length = first;
+            return None;
+        }
+        b'w' => {
+            lent.numbers()[first] = number(rest) as u16;
+            return None;
+        }
+        b'o' => reply(&mut line, &lent.open(first).map(|()| 0)),
+        b'a' => reply(&mut line, &lent.shelf(bench).and_then(|shelf| shelf.add(bench, &record(rest)))),
+        b'r' => match lent.shelf(bench).and_then(|shelf| shelf.read(bench, number(rest))) {
+            Ok(record) => {
+                line.push_str("0 0");
+                listed(&mut line, &record);
+            }
+            Err((number, place)) => write!(line, "{number} {place}").unwrap(),
+        },
+        b'd' => reply(&mut line, &lent.shelf(bench).and_then(|shelf| shelf.remove(bench, number(rest))).map(|()| 0)),
+        b's' => reply(&mut line, &lent.shelf(bench).and_then(|shelf| shelf.score(bench, &record(rest)))),
+        b'f' => {
+            let entries = if (1..=10).contains(&lent.species()) { 1 << lent.species() } else { 16 };
+            let (mut scores, mut splits) = (vec![SCORE; entries], vec![SPLIT; entries]);
+            found(&mut line, lent.shelf(bench).and_then(|shelf| shelf.search(bench, &flags(rest), &mut scores, &mut splits)));
+            write!(line, " : {} {}", mixed(&scores), mixed(&splits)).unwrap();
+        }
+        other => panic!("no step is named {}", other as char),
+    }
+    Some(line)
+}
+
+/// Steps on one shelf, which at first has three numbers more than it needs; then its fingerprint.
+fn on_a_shelf(line: &mut String, steps: &[&[u8]]) {
+    let mut lent = Lent::new(vec![ON_SHELF; NUMBERS + 3]);
+    for (i, step) in steps.iter().enumerate() {
+        let (step, times) = if step[0] == b'x' { (steps[i - 1], number(&step[2..])) } else { (*step, 1) };
+        let last = (0..times).map(|_| step_done(&mut lent, step)).last();
+        if let Some(Some(answer)) = last {
+            write!(line, "{answer} ; ").unwrap();
+        }
+    }
+    write!(line, "{}", mixed(lent.numbers())).unwrap();
+}
+
 /// The answer to a case, with its line feed.
 pub fn answer(case: &[u8]) -> Vec<u8> {
     let field: Vec<&[u8]> = case[1..].split(|&b| b == b'|').collect();
@@ -244,6 +298,7 @@ pub fn answer(case: &[u8]) -> Vec<u8> {
             let answer = counts::write_counts(&bytes(field[0]), &numbers(field[1]), number(field[2]), &record(field[3]), &mut out);
             written(&mut line, &out, &answer);
         }
+        b'B' => on_a_shelf(&mut line, &field),
         b'P' => return report::report(&bytes(field[0])),
         other => panic!("no call is named {}", other as char),
     }

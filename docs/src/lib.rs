@@ -10,6 +10,7 @@ pub mod roster;
 pub mod search;
 pub mod seeded;
 pub mod sheet;
+pub mod shelf;
 pub mod stand;
 pub mod trees;
 pub mod writer;
