@@ -103,8 +103,64 @@ impl Cases {
         self.add_on_stand(b'Z', texts, &[folded(genes, 64), decimal(count), numbers(allowed), scores, splits]);
     }
 
+    pub fn shelf(&mut self, steps: &Steps) {
+        self.add(b'B', &steps.0);
+    }
+
     pub fn report(&mut self, input: &[u8]) {
         self.add(b'P', &[escaped(input)]);
+    }
+}
+
+/// Steps on one shelf (#112), of which README.md has a table.
+#[derive(Clone, Default)]
+pub struct Steps(Vec<Vec<u8>>);
+
+impl Steps {
+    fn step(&mut self, letter: &str, first: usize, rest: &[u8]) -> &mut Steps {
+        let mut step = format!("{letter} {first}").into_bytes();
+        if !rest.is_empty() {
+            step.push(b' ');
+            step.extend(rest);
+        }
+        self.0.push(step);
+        self
+    }
+
+    pub fn lend(&mut self, length: usize) -> &mut Steps {
+        self.step("l", length, b"")
+    }
+
+    pub fn write(&mut self, index: usize, value: u16) -> &mut Steps {
+        self.step("w", index, &decimal(value as usize))
+    }
+
+    pub fn open(&mut self, n: usize) -> &mut Steps {
+        self.step("o", n, b"")
+    }
+
+    pub fn add(&mut self, bench: usize, r: &[u16; 32]) -> &mut Steps {
+        self.step("a", bench, &numbers(r))
+    }
+
+    pub fn read(&mut self, bench: usize, slot: usize) -> &mut Steps {
+        self.step("r", bench, &decimal(slot))
+    }
+
+    pub fn remove(&mut self, bench: usize, slot: usize) -> &mut Steps {
+        self.step("d", bench, &decimal(slot))
+    }
+
+    pub fn score(&mut self, bench: usize, species: &[u16; 32]) -> &mut Steps {
+        self.step("s", bench, &numbers(species))
+    }
+
+    pub fn search(&mut self, bench: usize, allowed: &[u16]) -> &mut Steps {
+        self.step("f", bench, &numbers(allowed))
+    }
+
+    pub fn again(&mut self, times: usize) -> &mut Steps {
+        self.step("x", times, b"")
     }
 }
 

@@ -7,6 +7,7 @@ mod lost;
 mod plain;
 mod quotes;
 mod sheet;
+mod shelf;
 mod stand;
 mod supports;
 mod ties;
@@ -28,6 +29,7 @@ fn main() {
     sheet::sheet(&mut cases, seeded);
     counts::counts(&mut cases, seeded);
     stand::stand(&mut cases, seeded);
+    shelf::shelf(&mut cases, seeded);
     let mut out = std::io::stdout().lock();
     for line in &cases.lines {
         out.write_all(line).unwrap();
