@@ -7,6 +7,8 @@ mod lost;
 mod plain;
 mod quotes;
 mod sheet;
+mod shelf;
+mod stand;
 mod supports;
 mod ties;
 mod unrooted;
@@ -26,6 +28,8 @@ fn main() {
     plain::plain(&mut cases, seeded);
     sheet::sheet(&mut cases, seeded);
     counts::counts(&mut cases, seeded);
+    stand::stand(&mut cases, seeded);
+    shelf::shelf(&mut cases, seeded);
     let mut out = std::io::stdout().lock();
     for line in &cases.lines {
         out.write_all(line).unwrap();
