@@ -140,7 +140,7 @@ fn refused(start: usize, number: u32, place: usize) -> Reading
 }
 
 // The tree of the kind that begins at `start`, as `read` answers it, with its clusters at the front of `found`, in the order in which its nodes end.
-// `read` calls it, and a call that goes through the nodes of a text again.
+// `read` calls it, and `counts`, which goes through the nodes of the text again.
 pub fn read_into(
     kind: Kind,
     threshold: Threshold,

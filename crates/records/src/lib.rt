@@ -63,7 +63,7 @@ pub fn among(r: &[u16], m: usize, a: u32) -> bool
     false
 }
 
-// Whether r has as many clusters as a binary tree on s. `lineages` asks it of 32 numbers.
+// Whether r has as many clusters as a binary tree on s. `lineages` and `counts` ask it of 32 numbers.
 pub fn binary(r: &[u16], s: u32) -> bool
     requires { ⌜ length (now r) ≡ 32 ⌝ }
     ensures { λ result. ⌜ Decides result (BinaryOn s (now (r .entry))) ⌝ }
