@@ -91,7 +91,7 @@ pub replies :
     × (replyWith none-of-it wide ≡ record { number = 16; place = 0; value = 0 })
 unfolding replyWith checkVerdict checkTests drawnTest firstWrong ones onesIn trailingZeros whole single union has within apart size lowest run nextIs nextLabel
     bareLetters letters lettersFrom doubled rawTo told padded properly maximal placed byLowest children drawnTo drawn upTo keep some insert sorted pieces total
-    recordOf cluster clusters every among rising singlesFrom nested valid validGene binary same position inQuotes begins beginnings nameAt names strayAt longAt
+    recordFor cluster clusters every among rising singlesFrom nested validFor validGeneFor binary same position inQuotes begins beginnings nameAt names strayAt longAt
     manyAt againAt openAt faultAt least firstFault faulty verdict lengthTest blanks skip number numberBehind numbers name innerName supported written writtenBehind
     leafBy closingBy readTreeToBy readTreeBy readNodeBy answerWithin lead nextEnd endsFrom isCount countIn kOf extra weight score countTest firstFailing recordsTest
     clustersIn isLow lows each forks treesTo treesOn those all scoreOf treesOver leastTrees best bestFor allowedIn
