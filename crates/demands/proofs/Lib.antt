@@ -2,6 +2,7 @@ pub mod Examples
 pub mod OneOutcome
 pub mod Refusals
 pub mod TextFaults
+pub mod StandTexts
 pub mod FirstFaults
 pub mod TestFaults
 pub mod CallFaults

@@ -29,7 +29,7 @@ use Rattle.reader.specs.declared.Reading.{Reading}
 use Rattle.reader.proofs.Accepts.{accepted-derives, derives-accepted}
 use Rattle.demands.specs.Deciding.{SameBytes, SameBefore, Agree}
 use Rattle.demands.specs.TextFaults.{TextFault}
-use Rattle.demands.specs.TextFaults.TextFault.{of-roster, too-long, beyond, as-met}
+use Rattle.demands.specs.TextFaults.TextFaultWithin.{of-roster, too-long, beyond, as-met}
 use Rattle.demands.proofs.TextFaults.{fault-of-refusal, refusal-of-fault}
 
 -- a refusal met while reading (3 to 9, and 18) is decided by the bytes from start up to its border, and as far as it asks, by whether a label or a number goes on there:

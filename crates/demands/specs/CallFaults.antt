@@ -24,11 +24,15 @@ pub data _before_ (A B : ℕ → ℕ → Type 0) : ℕ → ℕ → Type 0 where
 
 -- ---- the faults
 
--- "1 | roster faulty .. | first byte at fault": "of several such places the smallest is given"
-pub data RosterFault (line : List ℕ) : ℕ → ℕ → Type 0 where
+-- "1 | roster faulty .. | first byte at fault": "of several such places the smallest is given"; so many names may be on it
+pub data RosterFaultOf (most : ℕ) (line : List ℕ) : ℕ → ℕ → Type 0 where
   roster-faulty :
-      {place : ℕ} → place ≤ length line → faultAt speciesMost line place ≡ true
-      → ((p : ℕ) → p < place → faultAt speciesMost line p ≡ false) → RosterFault line 1 place
+      {place : ℕ} → place ≤ length line → faultAt most line place ≡ true
+      → ((p : ℕ) → p < place → faultAt most line p ≡ false) → RosterFaultOf most line 1 place
+
+-- by 01's limit
+abbrev pub RosterFault : List ℕ → ℕ → ℕ → Type 0
+RosterFault line = RosterFaultOf speciesMost line
 
 -- "1 | .. n not 1 to 16 | .. 0 for n"
 pub data SpeciesFault (n : ℕ) : ℕ → ℕ → Type 0 where

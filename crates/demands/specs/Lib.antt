@@ -2,6 +2,7 @@ pub mod Examples
 pub mod Handed
 pub mod Outcomes
 pub mod TextFaults
+pub mod StandTexts
 pub mod GeneTrees
 pub mod Input
 pub mod Signed

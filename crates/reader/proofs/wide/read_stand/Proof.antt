@@ -2,13 +2,18 @@
 use Prim.Native.Nat.{ℕ}
 use borrow.Author.Needs.{needs}
 use native.Mathlib.Omega.{arith}
-use lib.ListN.{length-replicate}
+use mathlib.Core.List.{List}
+use lib.ListN.{replicate, length-replicate}
 use Rattle.tokens.specs.declared.answer.Threshold.the-variants.{NoThreshold}
 use Rattle.reader.specs.WidePromise.{wide}
 use Rattle.reader.specs.declared.Kind.the-variants.{Gene}
 use Rattle.reader.proofs.Recording.{Stored, answer-refused, stored-front, wide-refused, wide-recorded}
 use Rattle.reader.proofs.wide.read_stand.Statement.{statement}
 use Rattle.reader.proofs.wide.read_stand.Tie as tie
+
+-- the table that is lent
+abbrev lent : List ℕ
+lent = replicate 64 0
 
 slice-aggregate-answered : tie.Need-slice-aggregate-answered
 slice-aggregate-answered c = search needs
@@ -32,9 +37,10 @@ returns : tie.Need-returns
 returns c =
     let start = c .before .before .before .before .before .before .before .before .before in
     let answered = c .before .before .before .before .before .answered in
+    let found = answered .last .1 .1 .1 .1 .1 .1 .1 .0 in
     wide-refused (start .args .individuals .now) (start .args .text .now) (start .args .start) (c .refused .result)
-    (answer-refused wide Gene NoThreshold (start .args .individuals .now) (start .args .text .now) (start .args .start) _ _ (answered .result) (answered .ensures) _
-    (c .before .node-refusal .result) (c .before .before .enum-told .given .1) (c .before .node-refusal .ensures))
+    (answer-refused wide Gene NoThreshold (start .args .individuals .now) (start .args .text .now) (start .args .start) lent found
+    (answered .result) (answered .ensures) _ (c .before .node-refusal .result) (c .before .before .enum-told .given .1) (c .before .node-refusal .ensures))
     (c .refused .ensures)
 
 slice-aggregate-record-of : tie.Need-slice-aggregate-record-of
@@ -49,7 +55,8 @@ stored :
 stored c =
     let start = c .before .before .before .before .before .before .before .before in
     let answered = c .before .before .before .before .answered in
-    stored-front wide Gene NoThreshold (start .args .individuals .now) (start .args .text .now) (start .args .start) _ _ (answered .result) (answered .ensures) _ _
+    let found = answered .last .1 .1 .1 .1 .1 .1 .1 .0 in
+    stored-front wide Gene NoThreshold (start .args .individuals .now) (start .args .text .now) (start .args .start) lent found (answered .result) (answered .ensures) _ _
     (c .before .read .given .1) (omega (arith, length-replicate {A = ℕ} 64 0))
 
 record-of-requires : tie.Need-record-of-requires
