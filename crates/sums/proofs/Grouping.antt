@@ -6,10 +6,9 @@ use native.Mathlib.Decide.{ℕ-discrete}
 use native.Mathlib.Omega.{arith}
 use lib.ListN.{length, getD, set, take, drop, length-take, length-drop, length-map, length-set, List·getD-map}
 use lib.Seq.{ext-getD, getD-drop, getD-set-same, getD-set-other}
-use Rattle.clusters.proofs.Members.{has-zero, same-members}
 use Rattle.weights.specs.Stand.{speciesIn}
 use Rattle.weights.specs.Subsets.{taken}
-use Rattle.weights.proofs.Groups.{species-below, species-holds}
+use Rattle.weights.proofs.Groups.{species-below, species-of-none}
 use Rattle.sums.specs.Work.{Grouped}
 
 -- as many groups as species
@@ -29,11 +28,6 @@ module _ {n : ℕ} {groups : List ℕ} {entries : ℕ} (stand : Grouped n groups
   grouped-same e = record { few = stand .few; long = stand .long; all-sets = e ∙ stand .all-sets }
 
 -- ---- taken to their species in place
-
--- no individual is of no species
-species-of-none : (groups : List ℕ) → speciesIn groups 0 ≡ 0
-species-of-none groups =
-    same-members (speciesIn groups 0) 0 (λ i h. let j = species-holds groups 0 i h in absurd (has-zero (j .0) (j .2))) (λ i h. absurd (has-zero i h))
 
 taken-at : (groups l : List ℕ) (k : ℕ) → getD (taken groups l) k 0 ≡ speciesIn groups (getD l k 0)
 taken-at groups l k = ap (getD (taken groups l) k) (sym (species-of-none groups)) ∙ List·getD-map (λ x. speciesIn groups x) l k 0
