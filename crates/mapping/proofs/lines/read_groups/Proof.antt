@@ -99,7 +99,9 @@ returns-3 : tie.Need-returns-3 Inv-loop μ-loop
 returns-3 c =
     let loop-test = c .before .loop-test in
     let turn = c .before .before .loop in
-    lines-beyond _ _ _ _ _ _ _ _ _ (turn .inv) (loop-test .left) (c .if1 .taken)
+    let stands = c .if1 .taken in
+    let within = turn .inv .within in
+    lines-beyond _ _ _ _ _ _ _ _ _ (turn .inv) (loop-test .left) (omega arith)
 
 whole-requires : tie.Need-whole-requires Inv-loop μ-loop
 whole-requires c κs = search needs
@@ -109,7 +111,9 @@ returns-4 c =
     let if1 = c .before .before .if1 in
     let loop-test = c .before .before .before .loop-test in
     let turn = c .before .before .before .before .loop in
-    lines-leave-out _ _ _ _ _ _ _ _ _ (turn .inv) (loop-test .left) (if1 .left) _ (c .before .whole .ensures) (c .if2 .taken)
+    let past = if1 .left in
+    let other = c .if2 .taken in
+    lines-leave-out _ _ _ _ _ _ _ _ _ (turn .inv) (loop-test .left) (omega arith) _ (c .before .whole .ensures) (λ same. omega arith)
 
 returns-5 : tie.Need-returns-5 Inv-loop μ-loop
 returns-5 c =
@@ -117,7 +121,9 @@ returns-5 c =
     let loop-test = c .before .before .before .loop-test in
     let turn = c .before .before .before .before .loop in
     let start = c .before .before .before .before .before .before .before .before in
-    lines-good _ _ _ _ _ _ _ _ _ (turn .inv) (loop-test .left) (if1 .left) _ (c .before .whole .ensures) (start .pre .0) (c .if2 .left)
+    let past = if1 .left in
+    let same = c .if2 .left in
+    lines-good _ _ _ _ _ _ _ _ _ (turn .inv) (loop-test .left) (omega arith) _ (c .before .whole .ensures) (start .pre .0) (omega arith)
 
 pub read-groups-spec : {M : Type 1} → statement M
 read-groups-spec =
