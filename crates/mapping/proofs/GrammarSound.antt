@@ -17,6 +17,7 @@ use Rattle.trees.proofs.Booleans.{never-both}
 use Rattle.trees.proofs.Listing.{none-twice-append, none-twice-one}
 use Rattle.trees.proofs.ValidTest.{tells-among}
 use Rattle.roster.specs.Roster.{byteAt, nameAt, position}
+use Rattle.roster.proofs.Positions.{position-found}
 use Rattle.mapping.specs.Mapping.{whoAt, named, faultAt, faulty}
 use Rattle.mapping.specs.Grammar.{LabelThen, Items, Lines, Maps}
 use Rattle.mapping.specs.Grammar.Items.{last, more}
@@ -26,7 +27,7 @@ use Rattle.mapping.proofs.Naming.{named-none}
 use Rattle.mapping.proofs.FaultKinds.{no-fault, clean-left-out}
 use Rattle.mapping.proofs.LabelSteps.{ended-within}
 use Rattle.mapping.proofs.Outcomes.{ends-early, no-label, broken-label}
-use Rattle.mapping.proofs.LabelRules.{position-found, at-then}
+use Rattle.mapping.proofs.LabelRules.{at-then}
 use Rattle.mapping.proofs.Walks.{heading-first, wrong-species, head-open, head-stray, head-listing, head-named, unknown-member, member-again, member-new, member-open, list-stray, list-more}
 use Rattle.mapping.proofs.Walks.{list-ends, named-next, stands-beyond, none-missing}
 

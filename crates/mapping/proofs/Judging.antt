@@ -1,8 +1,8 @@
--- The rosters and the mapping judged in their order: what `judge` answers, that there is only one such answer, and what a refusal says.
+-- The rosters and the mapping judged in their order: what `judge` answers, and that there is only one such answer.
 use Prim.Native.Nat.{ℕ, _-_, _*_, _≤_}
 use native.Mathlib.Omega.{arith}
-use mathlib.Core.Path.{_≡_, refl, sym, ap, subst, _∙_}
-use mathlib.Core.Bool.{Bool, true, false}
+use mathlib.Core.Path.{_≡_, sym, ap, subst, _∙_}
+use mathlib.Core.Bool.{true, false}
 use mathlib.Core.List.{List, _++_}
 use lib.ListN.{length, replicate}
 use Rattle.trees.proofs.UpTo.{length-map-upTo}
@@ -18,7 +18,7 @@ use Rattle.mapping.specs.Work.{FirstAt, OfRoster, Reads, Good, GroupsRea
 use Rattle.mapping.specs.declared.Stand.{Stand}
 use Rattle.mapping.specs.declared.part.Part.the-variants.{Read, Faulty}
 use Rattle.mapping.specs.declared.lines.Groups.{Groups}
-use Rattle.mapping.proofs.FaultKinds.{first-fault, first-at}
+use Rattle.mapping.proofs.FaultKinds.{first-at}
 
 -- "promises .. a single outcome": two answers that both meet the promise are equal
 pub parsed-once : (line individuals mapping : List ℕ) (r r′ : Stand) → StandParsed line individuals mapping r → StandParsed line individuals mapping r′ → r ≡ r′
@@ -107,27 +107,3 @@ module _ (line individuals mapping : List ℕ) (first : Roster) (is-first : firs
           let g : Good (names line) (names individuals) mapping (read .groups) =
           subst (Reads (names line) (names individuals) mapping (λ next. Good (names line) (names individuals) mapping (read .groups))) is-read told in
           rw (of .counted, ofs .counted, g .are) (all-pass line individuals mapping (of .good) (ofs .good) (g .clean))
-
--- ---- what a refusal says
-
--- 20: both rosters are good, the first fault of the mapping stands at its place, and nothing is at fault before it
-pub record MappingFault (line individuals mapping : List ℕ) (place : ℕ) : Type 0 where
-  pub first : rosterFaulty 16 line ≡ false
-  pub second : rosterFaulty 32 individuals ≡ false
-  pub fault : FirstAt (names line) (names individuals) mapping place
-
-pub twenty-means : (line individuals mapping : List ℕ) (r : Stand) → StandParsed line individuals mapping r → r .number ≡ 20 → MappingFault line individuals mapping (r .place)
-twenty-means line individuals mapping r p twenty = by (rosterFaulty 16 line) (rosterFaulty 32 individuals) (faulty (names line) (names individuals) mapping) refl refl refl
-  where
-    other : (s : Stand) → StandParsed line individuals mapping s → r ≡ s
-    other s = parsed-once line individuals mapping r s p
-
-    by : (a b c : Bool) → rosterFaulty 16 line ≡ a → rosterFaulty 32 individuals ≡ b → faulty (names line) (names individuals) mapping ≡ c
-        → MappingFault line individuals mapping (r .place)
-    by true b c e f g = let n = ap (λ (s : Stand). s .number) (other (refusedWith 1 (rosterFault 16 line)) (first-refuses line individuals mapping e)) in absurd (omega arith)
-    by false true c e f g =
-        let n = ap (λ (s : Stand). s .number) (other (refusedWith 1 (rosterFault 32 individuals)) (second-refuses line individuals mapping e f)) in absurd (omega arith)
-    by false false true e f g =
-        let place = ap (λ (s : Stand). s .place) (other (refusedWith 20 (firstFault (names line) (names individuals) mapping)) (mapping-refuses line individuals mapping e f g)) in
-        record { first = e; second = f; fault = rw place (first-fault (names line) (names individuals) mapping g) }
-    by false false false e f g = let n = ap (λ (s : Stand). s .number) (parsed-once line individuals mapping r _ p (all-pass line individuals mapping e f g)) in absurd (omega arith)

@@ -1,31 +1,18 @@
 -- Labels by the rules, with a byte behind them, are the labels that are read off a text.
-use Prim.Native.Nat.{ℕ, suc, _+_, _<_}
-use native.Mathlib.Omega.{arith}
+use Prim.Native.Nat.{ℕ, _+_, _<_}
 use native.Mathlib.Numerals.{add-one}
 use mathlib.Core.Path.{_≡_, refl, sym, ap, _∙_}
-use mathlib.Core.Bool.{Bool, true, false, not, false≢true}
+use mathlib.Core.Bool.{true, false, false≢true}
 use mathlib.Core.List.{List, [], _∷_}
-use lib.ListN.{length, getD, drop}
+use lib.ListN.{length, drop}
 use lib.Seq.{drop-cons, drop-drop}
-use Rattle.labels.specs.Bytes.{isLabel, nextLabel, oneMore}
+use Rattle.labels.specs.Bytes.{isLabel, nextLabel}
 use Rattle.labels.specs.Labels.{padded}
 use Rattle.labels.proofs.Spelled.{whole-exact, told-sound, no-label-over, spells-first}
-use Rattle.roster.specs.Roster.{byteAt, nameAt, same, position}
+use Rattle.roster.specs.Roster.{byteAt, nameAt}
 use Rattle.roster.proofs.Heads.{head-within, head-byte, head-rest}
-use Rattle.roster.proofs.Positions.{same-is}
 use Rattle.mapping.specs.Grammar.{LabelThen}
 use Rattle.mapping.specs.Work.{LabelEnds}
-
--- a known name is the one where it stands
-pub position-found : (w : List ℕ) (ns : List (List ℕ)) → position w ns < length ns → getD ns (position w ns) [] ≡ w
-unfolding position
-position-found w [] h = absurd (omega arith)
-position-found w (v ∷ ns) h = by (same w v) refl h (position-found w ns)
-  where
-    by : (t : Bool) → same w v ≡ t → oneMore (not t) (position w ns) < suc (length ns) → (position w ns < length ns → getD ns (position w ns) [] ≡ w)
-        → getD (v ∷ ns) (oneMore (not t) (position w ns)) [] ≡ w
-    by true e h later = sym (same-is w v e)
-    by false e h later = later (omega arith)
 
 -- the label at `at` stands for w; b stands behind it, at `next`, and rest is what follows
 pub record ThenAt (text : List ℕ) (at : ℕ) (w : List ℕ) (b : ℕ) (rest : List ℕ) : Type 0 where

@@ -14,3 +14,5 @@ pub mod LabelRules
 pub mod GrammarComplete
 pub mod GrammarSound
 pub mod Accepts
+pub mod StandMeaning
+pub mod Examples

@@ -14,12 +14,10 @@ unionOf (g ∷ l) = union g (unionOf l)
 
 -- the set of the individuals of a list
 unfoldable pub setOf : List ℕ → ℕ
-unfolding unionOf
 setOf l = unionOf (map single l)
 
 -- "one line per species in roster order: the species name, a colon, its individuals" (#110): the i-th species has the individuals that are named in the i-th line
 unfoldable pub groups : List (List ℕ) → List (List ℕ) → List ℕ → List ℕ
-unfolding setOf
 groups species individuals text = map (λ i. setOf (namedIn individuals text i (length text))) (upTo (length species))
 
 -- sets of m individuals: "Each individual has exactly one species, each species at least one individual" (#110)

@@ -86,17 +86,14 @@ noLabelAt text p = freshAt text p && not (isLabel (byteAt text p))
 
 -- "the species name, a colon" (#110): another byte behind the label of a species
 unfoldable pub noColonAt : List ℕ → ℕ → Bool
-unfolding speciesAt some upTo
 noColonAt text p = behind (speciesAt text) text p && not (eqb (byteAt text p) 58)
 
 -- "its individuals parted by commas, a line feed" (#110): another byte behind the label of an individual
 unfoldable pub noCommaAt : List ℕ → ℕ → Bool
-unfolding memberAt some upTo
 noCommaAt text p = behind (memberAt text) text p && not (eqb (byteAt text p) 44 || eqb (byteAt text p) 10)
 
 -- a byte that may not stand where it stands
 unfoldable pub strayAt : List ℕ → ℕ → Bool
-unfolding noLabelAt noColonAt noCommaAt
 strayAt text p = ltb p (length text) && (noLabelAt text p || noColonAt text p || noCommaAt text p)
 
 -- a label of over fifteen bytes is a wrong name, "at the first byte at fault (a wrong name's first)" (#110); any other fault of a label has the place of its byte
@@ -111,7 +108,6 @@ ownBy (atFault number d) q p = eqb p (placeBy (eqb number 4) q d)
 
 -- a label has a fault of its own (#103) at p: it is too long, a byte within quotes is not printable, a quote closes nothing, or the text ends before one closes
 unfoldable pub ownAt : List ℕ → ℕ → Bool
-unfolding speciesAt memberAt some upTo
 ownAt text p = some (λ q. begins text q && ownBy (told (drop q text)) q p) (upTo (suc p))
 
 -- a label of one kind begins at p whose name is compared: one with a fault of its own is not
@@ -120,37 +116,30 @@ comparedAt kind text p = kind p && endsBy (told (drop p text))
 
 -- "a wrong name's first" (#110): not the species of the line
 unfoldable pub otherAt : List (List ℕ) → List ℕ → ℕ → Bool
-unfolding speciesAt lineAt
 otherAt species text p = comparedAt (speciesAt text) text p && not (eqb (position (nameAt text p) species) (lineAt text p))
 
 -- "a wrong name's first" (#110): no individual
 unfoldable pub unknownAt : List (List ℕ) → List ℕ → ℕ → Bool
-unfolding memberAt
 unknownAt individuals text p = comparedAt (memberAt text) text p && leb (length individuals) (whoAt individuals text p)
 
 -- "Each individual has exactly one species" (#110): one that stands before
 unfoldable pub againAt : List (List ℕ) → List ℕ → ℕ → Bool
-unfolding memberAt named
 againAt individuals text p = comparedAt (memberAt text) text p && among (whoAt individuals text p) (named individuals text p)
 
 -- "one line per species" (#110): a byte behind the last line
 unfoldable pub beyondAt : List (List ℕ) → List ℕ → ℕ → Bool
-unfolding lineAt
 beyondAt species text p = ltb p (length text) && leb (length species) (lineAt text p)
 
 -- "or its length where it ends early" (#110): before the last line's feed
 unfoldable pub openAt : List (List ℕ) → List ℕ → ℕ → Bool
-unfolding lineAt
 openAt species text p = eqb p (length text) && ltb (lineAt text p) (length species)
 
 -- "or leaves an individual out" (#110)
 unfoldable pub leftOutAt : List (List ℕ) → List ℕ → ℕ → Bool
-unfolding named
 leftOutAt individuals text p = eqb p (length text) && some (λ j. not (among j (named individuals text p))) (upTo (length individuals))
 
 -- one of these stands at p
 unfoldable pub faultAt : List (List ℕ) → List (List ℕ) → List ℕ → ℕ → Bool
-unfolding strayAt ownAt otherAt unknownAt againAt beyondAt openAt leftOutAt
 faultAt species individuals text p =
     strayAt text p || ownAt text p || otherAt species text p || unknownAt individuals text p || againAt individuals text p || beyondAt species text p
     || openAt species text p

@@ -25,7 +25,6 @@ mappingTest line individuals mapping =
 
 -- "1 for a fault or a thirty-third name, after the first roster", then 20 (#110)
 unfoldable pub standTests : List ℕ → List ℕ → List ℕ → List Test
-unfolding rosterTest mappingTest
 standTests line individuals mapping = rosterTest speciesMost line ∷ rosterTest individualsMost individuals ∷ mappingTest line individuals mapping ∷ []
 
 -- the sets of individuals in sixteen numbers, zeros behind the last species'; all zeros where there is a refusal
@@ -40,6 +39,5 @@ standOf said n m l =
 
 -- the promise of `judge`: the first fault that the tests find, else each species' individuals
 unfoldable pub StandParsed : List ℕ → List ℕ → List ℕ → Stand → Type 0
-unfolding standTests verdict groups
 StandParsed line individuals mapping r =
     r ≡ standOf (verdict (standTests line individuals mapping)) (length (names line)) (length (names individuals)) (groups (names line) (names individuals) mapping)

@@ -61,32 +61,23 @@ fn member_at(table: &[u8], m: usize, text: &[u8], at: usize, taken: u32) -> Memb
     let part = read.part;
     let name = read.name;
     let Part::Read { next } = part else {
-        return Member { part: part, one: 0 };
+        return Member { part, one: 0 };
     };
     let who = species(table, m, name);
     if who == m {
-        return Member {
-            part: Part::Faulty { place: at },
-            one: 0,
-        };
+        let part = Part::Faulty { place: at };
+        return Member { part, one: 0 };
     }
     let one = single(who);
     if !apart(one, taken) {
-        return Member {
-            part: Part::Faulty { place: at },
-            one: 0,
-        };
+        let part = Part::Faulty { place: at };
+        return Member { part, one: 0 };
     }
     if next == text.len() {
-        return Member {
-            part: Part::Faulty { place: next },
-            one: 0,
-        };
+        let part = Part::Faulty { place: next };
+        return Member { part, one: 0 };
     }
-    Member {
-        part: Part::Read { next },
-        one: one,
-    }
+    Member { part, one }
 }
 
 // The individuals of a line from `start` on, none of those that are taken, up to behind its line feed.
@@ -100,20 +91,16 @@ fn group_at(table: &[u8], m: usize, text: &[u8], start: usize, taken: u32) -> Gr
         let read = member_at(table, m, text, at, union(taken, group));
         let part = read.part;
         let Part::Read { next } = part else {
-            return Group { part: part, set: 0 };
+            return Group { part, set: 0 };
         };
         group = union(group, read.one);
         if text[next] == b'\n' {
-            return Group {
-                part: Part::Read { next: next + 1 },
-                set: group,
-            };
+            let part = Part::Read { next: next + 1 };
+            return Group { part, set: group };
         }
         if text[next] != b',' {
-            return Group {
-                part: Part::Faulty { place: next },
-                set: 0,
-            };
+            let part = Part::Faulty { place: next };
+            return Group { part, set: 0 };
         }
         at = next + 1;
     }
@@ -135,20 +122,14 @@ pub(crate) fn read_groups(
     let mut at = 0;
     let mut i = 0;
     while i < n {
-        let first = head_at(table, n, i, text, at);
-        let Part::Read { next } = first else {
-            return Groups {
-                part: first,
-                groups: groups,
-            };
+        let part = head_at(table, n, i, text, at);
+        let Part::Read { next } = part else {
+            return Groups { part, groups };
         };
         let read = group_at(individuals, m, text, next, taken);
         let part = read.part;
         let Part::Read { next: end } = part else {
-            return Groups {
-                part: part,
-                groups: groups,
-            };
+            return Groups { part, groups };
         };
         let group = read.set;
         groups[i] = group;
@@ -157,19 +138,13 @@ pub(crate) fn read_groups(
         i += 1;
     }
     if at < text.len() {
-        return Groups {
-            part: Part::Faulty { place: at },
-            groups: groups,
-        };
+        let part = Part::Faulty { place: at };
+        return Groups { part, groups };
     }
     if taken != whole(m) {
-        return Groups {
-            part: Part::Faulty { place: at },
-            groups: groups,
-        };
+        let part = Part::Faulty { place: at };
+        return Groups { part, groups };
     }
-    Groups {
-        part: Part::Read { next: at },
-        groups: groups,
-    }
+    let part = Part::Read { next: at };
+    Groups { part, groups }
 }

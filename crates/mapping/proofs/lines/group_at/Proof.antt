@@ -55,8 +55,8 @@ here c =
 shared-slice-read-if1 : tie.Need-shared-slice-read-if1 Inv-loop μ-loop
 shared-slice-read-if1 c = here (c .before) .1
 
-add-t15 : tie.Need-add-t15 Inv-loop μ-loop
-add-t15 c =
+add-t17 : tie.Need-add-t17 Inv-loop μ-loop
+add-t17 c =
     let h = here (c .before .before) in
     omega (arith, h .1)
 
@@ -113,7 +113,7 @@ group-at-spec =
     returns
     union-requires-2
     shared-slice-read-if1
-    add-t15
+    add-t17
     returns-2
     shared-slice-read-if2
     returns-3

@@ -26,13 +26,15 @@ returns-2 : tie.Need-returns-2
 returns-2 c =
     let part = c .before .before .before .part in
     let label-at = c .before .before .before .before .before .before .label-at in
-    head-wrong _ _ _ _ _ (label-at .result) (label-at .ensures) _ (part .given .1) _ (c .before .species .ensures) (c .if1 .taken)
+    let other = c .if1 .taken in
+    head-wrong _ _ _ _ _ (label-at .result) (label-at .ensures) _ (part .given .1) _ (c .before .species .ensures) (λ same. omega arith)
 
 returns-3 : tie.Need-returns-3
 returns-3 c =
     let part = c .before .before .before .before .part in
     let label-at = c .before .before .before .before .before .before .before .label-at in
-    head-ends-early _ _ _ _ _ (label-at .result) (label-at .ensures) _ (part .given .1) _ (c .before .before .species .ensures) (c .before .if1 .left) (c .if2 .taken)
+    let right = c .before .if1 .left in
+    head-ends-early _ _ _ _ _ (label-at .result) (label-at .ensures) _ (part .given .1) _ (c .before .before .species .ensures) (omega arith) (c .if2 .taken)
 
 -- a byte stands behind the label
 here :
@@ -54,8 +56,9 @@ returns-4 : tie.Need-returns-4
 returns-4 c =
     let part = c .before .before .before .before .before .before .part in
     let label-at = c .before .before .before .before .before .before .before .before .before .label-at in
+    let right = c .before .before .before .if1 .left in
     head-no-colon _ _ _ _ _ (label-at .result) (label-at .ensures) _ (part .given .1) _ (c .before .before .before .before .species .ensures)
-    (c .before .before .before .if1 .left) (here (c .before .before)) (c .if3 .taken)
+    (omega arith) (here (c .before .before)) (c .if3 .taken)
 
 add-t10 : tie.Need-add-t10
 add-t10 c =
@@ -66,8 +69,9 @@ returns-5 : tie.Need-returns-5
 returns-5 c =
     let part = c .before .before .before .before .before .before .part in
     let label-at = c .before .before .before .before .before .before .before .before .before .label-at in
+    let right = c .before .before .before .if1 .left in
     head-reads _ _ _ _ _ (label-at .result) (label-at .ensures) _ (part .given .1) _ (c .before .before .before .before .species .ensures)
-    (c .before .before .before .if1 .left) (here (c .before .before)) (c .if3 .left)
+    (omega arith) (here (c .before .before)) (c .if3 .left)
 
 pub head-at-spec : {M : Type 1} → statement M
 head-at-spec =

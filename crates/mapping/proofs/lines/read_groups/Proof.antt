@@ -19,8 +19,8 @@ loop-holds c = passed-none _ _ _ _ _
 head-at-requires : tie.Need-head-at-requires Inv-loop μ-loop
 head-at-requires c κs = search needs
 
-enum-known-first : tie.Need-enum-known-first Inv-loop μ-loop
-enum-known-first c = search needs
+enum-known-part : tie.Need-enum-known-part Inv-loop μ-loop
+enum-known-part c = search needs
 
 enum-told : tie.Need-enum-told Inv-loop μ-loop
 enum-told c = search needs
@@ -34,14 +34,14 @@ returns c =
 
 group-at-requires : tie.Need-group-at-requires Inv-loop μ-loop
 group-at-requires c κs =
-    let first = c .before .first in
+    let part = c .before .part in
     let head-at = c .before .before .before .head-at in
     let start = c .before .before .before .before .before .before .before .before .before in
-    let on = onward _ _ _ (head-at .result) (first .given .1) (head-at .ensures .0) in
+    let on = onward _ _ _ (head-at .result) (part .given .1) (head-at .ensures .0) in
     (start .pre .1, start .pre .3, on .1)
 
-enum-known-part : tie.Need-enum-known-part Inv-loop μ-loop
-enum-known-part c = search needs
+enum-known-part-2 : tie.Need-enum-known-part-2 Inv-loop μ-loop
+enum-known-part-2 c = search needs
 
 enum-told-2 : tie.Need-enum-told-2 Inv-loop μ-loop
 enum-told-2 c = search needs
@@ -49,11 +49,11 @@ enum-told-2 c = search needs
 returns-2 : tie.Need-returns-2 Inv-loop μ-loop
 returns-2 c =
     let group-at = c .before .before .group-at in
-    let first = c .before .before .before .before .first in
+    let part = c .before .before .before .before .part in
     let head-at = c .before .before .before .before .before .before .head-at in
     let loop-test = c .before .before .before .before .before .before .before .loop-test in
     let turn = c .before .before .before .before .before .before .before .before .loop in
-    group-refused _ _ _ _ _ _ _ _ _ (turn .inv) (loop-test .taken) (head-at .result) (head-at .ensures) _ (first .given .1)
+    group-refused _ _ _ _ _ _ _ _ _ (turn .inv) (loop-test .taken) (head-at .result) (head-at .ensures) _ (part .given .1)
     (group-at .result) (group-at .ensures) _ (c .enum-told2 .given .1)
 
 mul-groups : tie.Need-mul-groups Inv-loop μ-loop
@@ -85,21 +85,23 @@ loop-less c =
 
 loop-again : tie.Need-loop-again Inv-loop μ-loop
 loop-again c =
-    let part = c .before .before .part in
+    let part2 = c .before .before .part2 in
     let group-at = c .before .before .before .before .group-at in
-    let first = c .before .before .before .before .before .before .first in
+    let part = c .before .before .before .before .before .before .part in
     let head-at = c .before .before .before .before .before .before .before .before .head-at in
     let loop-test = c .before .before .before .before .before .before .before .before .before .loop-test in
     let turn = c .before .before .before .before .before .before .before .before .before .before .loop in
     let start = c .before .before .before .before .before .before .before .before .before .before .before .before .before .before in
-    passed-more _ _ _ _ _ _ _ _ _ (turn .inv) (loop-test .taken) (head-at .result) (head-at .ensures) _ (first .given .1)
-    (group-at .result) (group-at .ensures) _ (part .given .1) (start .pre .0) _ (c .union .ensures)
+    passed-more _ _ _ _ _ _ _ _ _ (turn .inv) (loop-test .taken) (head-at .result) (head-at .ensures) _ (part .given .1)
+    (group-at .result) (group-at .ensures) _ (part2 .given .1) (start .pre .0) _ (c .union .ensures)
 
 returns-3 : tie.Need-returns-3 Inv-loop μ-loop
 returns-3 c =
     let loop-test = c .before .loop-test in
     let turn = c .before .before .loop in
-    lines-beyond _ _ _ _ _ _ _ _ _ (turn .inv) (loop-test .left) (c .if1 .taken)
+    let stands = c .if1 .taken in
+    let within = turn .inv .within in
+    lines-beyond _ _ _ _ _ _ _ _ _ (turn .inv) (loop-test .left) (omega arith)
 
 whole-requires : tie.Need-whole-requires Inv-loop μ-loop
 whole-requires c κs = search needs
@@ -109,7 +111,9 @@ returns-4 c =
     let if1 = c .before .before .if1 in
     let loop-test = c .before .before .before .loop-test in
     let turn = c .before .before .before .before .loop in
-    lines-leave-out _ _ _ _ _ _ _ _ _ (turn .inv) (loop-test .left) (if1 .left) _ (c .before .whole .ensures) (c .if2 .taken)
+    let past = if1 .left in
+    let other = c .if2 .taken in
+    lines-leave-out _ _ _ _ _ _ _ _ _ (turn .inv) (loop-test .left) (omega arith) _ (c .before .whole .ensures) (λ same. omega arith)
 
 returns-5 : tie.Need-returns-5 Inv-loop μ-loop
 returns-5 c =
@@ -117,7 +121,9 @@ returns-5 c =
     let loop-test = c .before .before .before .loop-test in
     let turn = c .before .before .before .before .loop in
     let start = c .before .before .before .before .before .before .before .before in
-    lines-good _ _ _ _ _ _ _ _ _ (turn .inv) (loop-test .left) (if1 .left) _ (c .before .whole .ensures) (start .pre .0) (c .if2 .left)
+    let past = if1 .left in
+    let same = c .if2 .left in
+    lines-good _ _ _ _ _ _ _ _ _ (turn .inv) (loop-test .left) (omega arith) _ (c .before .whole .ensures) (start .pre .0) (omega arith)
 
 pub read-groups-spec : {M : Type 1} → statement M
 read-groups-spec =
@@ -127,11 +133,11 @@ read-groups-spec =
     μ-loop
     loop-holds
     head-at-requires
-    enum-known-first
+    enum-known-part
     enum-told
     returns
     group-at-requires
-    enum-known-part
+    enum-known-part-2
     enum-told-2
     returns-2
     mul-groups

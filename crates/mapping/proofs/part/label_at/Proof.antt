@@ -44,8 +44,9 @@ returns-3 c =
     let scan = c .before .before .before .before .before .before .scan in
     let if2 = c .before .before .before .before .before .before .before .if2 in
     let is-label = c .before .before .before .before .before .before .before .before .is-label in
+    let long = c .before .if3 .taken in
     too-long-says _ _ (sym (is-label .ensures) ∙ not-false _ (if2 .left)) _ _ _
-    (scanned-fails _ _ (scan .result) (scan .ensures) (label .given .0 .0) (label .given .0 .1 .0) (label .given .1)) (c .before .if3 .taken) (c .unread3 .ensures)
+    (scanned-fails _ _ (scan .result) (scan .ensures) (label .given .0 .0) (label .given .0 .1 .0) (label .given .1)) (omega arith) (c .unread3 .ensures)
 
 unread-requires-4 : tie.Need-unread-requires-4
 unread-requires-4 c κs = search needs
@@ -59,8 +60,9 @@ returns-4 c =
     let scan = c .before .before .before .before .before .before .scan in
     let if2 = c .before .before .before .before .before .before .before .if2 in
     let is-label = c .before .before .before .before .before .before .before .before .is-label in
+    let other = c .before .if3 .left in
     broken-says _ _ (sym (is-label .ensures) ∙ not-false _ (if2 .left)) _ _ _
-    (scanned-fails _ _ (scan .result) (scan .ensures) (label .given .0 .0) (label .given .0 .1 .0) (label .given .1)) (c .before .if3 .left) (c .unread4 .ensures)
+    (scanned-fails _ _ (scan .result) (scan .ensures) (label .given .0 .0) (label .given .0 .1 .0) (label .given .1)) (λ four. omega arith) (c .unread4 .ensures)
 
 returns-5 : tie.Need-returns-5
 returns-5 c =
