@@ -84,7 +84,7 @@ module _ {n : ℕ} {genes : List ℕ} {count : ℕ} {numbers scores splits : Lis
 module _ {line text : List ℕ} {start : ℕ} {q : Reading} (w : WasRead Species NoThreshold line text start q) where
   -- its record counts its clusters
   record-counts : clusterCount (q .numbers) ≡ length (clusters (w .tree))
-  record-counts = ap clusterCount (w .recorded) ∙ count-record (clusters (w .tree))
+  record-counts = ap clusterCount (w .recorded) ∙ count-record 16 (clusters (w .tree))
 
   -- each of its nodes ends
   pub all-end : AllEnd (clusterCount (q .numbers)) text start

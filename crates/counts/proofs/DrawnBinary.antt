@@ -52,7 +52,7 @@ text-refused line text start {n} e = (
 
 -- a record of a binary tree, told by the tree
 binary-record : {s : ℕ} {t : Tree} → On s t → BinaryOn s (recordOf (clusters t)) → length (clusters t) + 1 ≡ 2 * size s
-binary-record {t = t} on is = rw (count-record (clusters t)) at is
+binary-record {t = t} on is = rw (count-record 16 (clusters t)) at is
 
 -- no test of the call has the number 23
 call-never : (n : ℕ) (genes : List ℕ) (count : ℕ) (numbers scores splits : List ℕ) → verdict (callTests n genes count numbers scores splits) .number ≡ 23 → ⊥
@@ -78,7 +78,7 @@ module _ (line text : List ℕ) (start : ℕ) where
     pub drawn-species : BinarySpecies species (recordOf (clusters (d .tree)))
     drawn-species = record {
       valid = valid-of-drawn (d .on) (whole-below-sixteen species (names-count speciesMost line (d .good) .1));
-      binary = rw (count-record (clusters (d .tree))) (clusters-of-binary (d .on) (d .binary));
+      binary = rw (count-record 16 (clusters (d .tree))) (clusters-of-binary (d .on) (d .binary));
     }
 
     -- its nodes, the texts behind them and their ends go side by side

@@ -9,7 +9,7 @@ use lib.Seq.{take-at, drop-at, take-all}
 use Rattle.clusters.specs.Sets.{whole, single, union, has, within, apart, size, lowest}
 use Rattle.trees.specs.Drawn.{properly, maximal, placed, byLowest, children}
 use Rattle.trees.specs.Lists.{keep, some, insert, sorted, pieces, total, upTo}
-use Rattle.trees.specs.Records.{recordOf, recordsIn}
+use Rattle.trees.specs.Records.{recordOf, recordFor, recordsIn}
 use Rattle.trees.specs.Valid.{every, among, rising, singlesFrom, nested, valid, validGene, binary}
 use Rattle.roster.specs.Roster.{least}
 use Rattle.roster.specs.Verdict.{verdict, lengthTest}
@@ -122,7 +122,7 @@ parted g h allowed first second both e k b = record {
 }
 
 sizes : (length ab-c ≡ 32) × (length ac-b ≡ 32) × (length every-cluster ≡ 8) × (length only-bc ≡ 8)
-unfolding ab-c ac-b every-cluster only-bc recordOf sorted insert
+unfolding ab-c ac-b every-cluster only-bc recordFor sorted insert
 sizes = (refl, refl, refl, refl)
 
 -- ---- the examples

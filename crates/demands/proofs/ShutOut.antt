@@ -15,7 +15,7 @@ use Rattle.labels.specs.Labels.{bareLetters, letters, lettersFrom, doubled, raw
 use Rattle.labels.specs.Writing.{labelOf, mayBeBare}
 use Rattle.trees.specs.Drawn.{properly, maximal, placed, byLowest, children, drawnTo, drawn}
 use Rattle.trees.specs.Lists.{keep, some, insert, sorted, pieces, total, upTo}
-use Rattle.trees.specs.Records.{recordOf, recordsIn}
+use Rattle.trees.specs.Records.{recordOf, recordFor, recordsIn}
 use Rattle.trees.specs.Tree.{cluster, clusters}
 use Rattle.trees.specs.Unrooted.{resolved, mayUnroot}
 use Rattle.trees.specs.Thinned.{leftBelow, clustersLeft}
@@ -196,7 +196,7 @@ score-of-both Rooted = 2
 score-of-both Unrooted = 1
 
 trees-differ : (rooting : Rooting) → first-tree rooting ≡ second-tree rooting → ⊥
-unfolding first-tree second-tree ab-cd ac-bd recordOf sorted insert
+unfolding first-tree second-tree ab-cd ac-bd recordFor sorted insert
 trees-differ Rooted e = omega (arith, ap (λ (l : List ℕ). getD l 3 0) e)
 trees-differ Unrooted e = omega (arith, ap (λ (l : List ℕ). getD l 5 0) e)
 
@@ -207,7 +207,7 @@ both-score-something Unrooted = omega arith
 find-ab-cd :
     (rooting : Rooting) (r : Found) (s p : List ℕ) → Finds rooting 4 ab-cd 1 every-of-four lent-of-four lent-of-four r s p
     → r ≡ record { number = 0; place = 0; score = 0; numbers = first-tree rooting }
-unfolding first-tree ab-cd every-of-four lent-of-four ones onesIn trailingZeros whole single union has within apart size lowest keep some insert sorted recordOf
+unfolding first-tree ab-cd every-of-four lent-of-four ones onesIn trailingZeros whole single union has within apart size lowest keep some insert sorted recordFor
     properly maximal every among rising singlesFrom nested valid validGene binary verdict lengthTest unrootedHas unrootedClusters maximalWithin kDrawn
     kOf placed byLowest
     children extra total weight score pieces speciesTest countTest firstFailing recordsTest resolved mayUnroot rootingTest shown marks upTo least
@@ -219,7 +219,7 @@ find-ab-cd Unrooted r s p f = f .reply
 find-ac-bd :
     (rooting : Rooting) (r : Found) (s p : List ℕ) → Finds rooting 4 ac-bd 1 every-of-four lent-of-four lent-of-four r s p
     → r ≡ record { number = 0; place = 0; score = 0; numbers = second-tree rooting }
-unfolding second-tree ac-bd every-of-four lent-of-four ones onesIn trailingZeros whole single union has within apart size lowest keep some insert sorted recordOf
+unfolding second-tree ac-bd every-of-four lent-of-four ones onesIn trailingZeros whole single union has within apart size lowest keep some insert sorted recordFor
     properly maximal every among rising singlesFrom nested valid validGene binary verdict lengthTest unrootedHas unrootedClusters maximalWithin kDrawn
     kOf placed byLowest
     children extra total weight score pieces speciesTest countTest firstFailing recordsTest resolved mayUnroot rootingTest shown marks upTo least
@@ -268,7 +268,7 @@ module _ {rooting : Rooting} {first second both : Found} (h : FoundOnFour rootin
 find-tables :
     (rooting : Rooting) (r : Found) (s p : List ℕ) → Finds rooting 4 ab-cd 1 every-of-four lent-of-four lent-of-four r s p
     → (getD s 0 0 ≡ noTree) × (getD p 0 0 ≡ 0)
-unfolding ab-cd every-of-four lent-of-four ones onesIn trailingZeros whole single union has within apart size lowest keep some insert sorted recordOf
+unfolding ab-cd every-of-four lent-of-four ones onesIn trailingZeros whole single union has within apart size lowest keep some insert sorted recordFor
     properly maximal every among rising singlesFrom nested valid validGene binary verdict lengthTest unrootedHas unrootedClusters maximalWithin kDrawn
     kOf placed byLowest
     children extra total weight score pieces speciesTest countTest firstFailing recordsTest resolved mayUnroot rootingTest shown marks upTo least
@@ -342,11 +342,11 @@ unfolding a-text every
 a-text-handed = slice-told (2 ^ 8) a-text refl (omega arith)
 
 a-record-handed : AnyRecord a-record
-unfolding a-record recordOf sorted insert every
+unfolding a-record recordFor sorted insert every
 a-record-handed = record { numbers = slice-told (2 ^ 16) a-record refl (omega arith); thirty-two = refl }
 
 ab-cd-handed : AnyRecord ab-cd
-unfolding ab-cd recordOf sorted insert every
+unfolding ab-cd recordFor sorted insert every
 ab-cd-handed = record { numbers = slice-told (2 ^ 16) ab-cd refl (omega arith); thirty-two = refl }
 
 to-read-a-of-two : ToRead ab-line a-text 0
@@ -372,7 +372,7 @@ to-write-a : ToWrite a-line a-record room
 to-write-a = record { line-bytes = a-line-handed; tree-record = a-record-handed; out-bytes = room-handed }
 
 alike-handed : GeneTrees 4 (ab-cd ++ ab-cd) 2
-unfolding ab-cd recordOf sorted insert every
+unfolding ab-cd recordFor sorted insert every
 alike-handed = record {
   species-size = omega arith;
   genes-numbers = slice-told (2 ^ 16) (ab-cd ++ ab-cd) refl (omega arith);
@@ -380,7 +380,7 @@ alike-handed = record {
 }
 
 unlike-handed : GeneTrees 4 (ab-cd ++ ac-bd) 2
-unfolding ab-cd ac-bd recordOf sorted insert every
+unfolding ab-cd ac-bd recordFor sorted insert every
 unlike-handed = record {
   species-size = omega arith;
   genes-numbers = slice-told (2 ^ 16) (ab-cd ++ ac-bd) refl (omega arith);
@@ -407,7 +407,7 @@ to-search-ab-cd : ToSearch 4 ab-cd 1 every-of-four lent-of-four lent-of-four
 to-search-ab-cd = to-search ab-cd 1 (record { species-size = omega arith; genes-numbers = ab-cd-handed .numbers; count-size = omega arith })
 
 to-search-ac-bd : ToSearch 4 ac-bd 1 every-of-four lent-of-four lent-of-four
-unfolding ac-bd recordOf sorted insert every
+unfolding ac-bd recordFor sorted insert every
 to-search-ac-bd =
     to-search ac-bd 1 (record { species-size = omega arith; genes-numbers = slice-told (2 ^ 16) ac-bd refl (omega arith); count-size = omega arith })
 
@@ -500,7 +500,7 @@ module _ (rooting : Rooting) (f : ℕ → List ℕ → ℕ → ℕ → Reply)
   pub weight-counts-every-gene-tree :
       ((n : ℕ) (genes genes′ : List ℕ) (count a : ℕ) → ToWeigh n genes count a → ToWeigh n genes′ count a → take 32 genes ≡ take 32 genes′
       → f n genes count a .number ≡ 0 → f n genes′ count a .number ≡ 0 → f n genes count a .value ≡ f n genes′ count a .value) → ⊥
-  unfolding ab-cd ac-bd recordOf sorted insert
+  unfolding ab-cd ac-bd recordFor sorted insert
   weight-counts-every-gene-tree first-only =
       let e = first-only 4 (ab-cd ++ ab-cd) (ab-cd ++ ac-bd) 2 3 to-weigh-alike to-weigh-unlike refl
       (ap (λ (r : Reply). r .number) weighed-alike) (ap (λ (r : Reply). r .number) weighed-unlike) in
@@ -544,7 +544,7 @@ module _
         ((n : ℕ) (genes genes′ : List ℕ) (count : ℕ) (species : List ℕ) → ToScore n genes count species → ToScore n genes′ count species
         → take 32 genes ≡ take 32 genes′ → f n genes count species .number ≡ 0 → f n genes′ count species .number ≡ 0
         → f n genes count species .value ≡ f n genes′ count species .value) → ⊥
-    unfolding ab-cd ac-bd recordOf sorted insert
+    unfolding ab-cd ac-bd recordFor sorted insert
     score-counts-every-gene-tree first-only =
         let e = first-only 4 (ab-cd ++ ab-cd) (ab-cd ++ ac-bd) 2 ab-cd to-score-alike to-score-unlike refl
         (ap (λ (r : Reply). r .number) scored-alike) (ap (λ (r : Reply). r .number) scored-unlike) in
@@ -641,7 +641,7 @@ module _ (rooting : Rooting) (f : ℕ → List ℕ → ℕ → List ℕ → List
       → ToSearch n genes count allowed scores splits → ToSearch n genes′ count′ allowed scores splits → take 32 genes ≡ take 32 genes′
       → f n genes count allowed scores splits .number ≡ 0 → f n genes′ count′ allowed scores splits .number ≡ 0
       → f n genes count allowed scores splits .score ≡ f n genes′ count′ allowed scores splits .score) → ⊥
-  unfolding ab-cd ac-bd recordOf sorted insert
+  unfolding ab-cd ac-bd recordFor sorted insert
   search-counts-every-gene-tree first-only =
       two-scores found-on-four
       (first-only 4 ab-cd (ab-cd ++ ac-bd) 1 2 every-of-four lent-of-four lent-of-four to-search-ab-cd to-search-both refl (first-done found-on-four)
@@ -707,7 +707,7 @@ module _ (rooting : Rooting) (f : ℕ → List ℕ → ℕ → List ℕ → Foun
       ((n : ℕ) (genes genes′ : List ℕ) (count count′ : ℕ) (allowed : List ℕ)
       → ToPlain n genes count allowed → ToPlain n genes′ count′ allowed → take 32 genes ≡ take 32 genes′
       → f n genes count allowed .number ≡ 0 → f n genes′ count′ allowed .number ≡ 0 → f n genes count allowed .score ≡ f n genes′ count′ allowed .score) → ⊥
-  unfolding ab-cd ac-bd recordOf sorted insert
+  unfolding ab-cd ac-bd recordFor sorted insert
   plain-counts-every-gene-tree first-only =
       two-scores visited-on-four
       (first-only 4 ab-cd (ab-cd ++ ac-bd) 1 2 every-of-four (to-plain to-search-ab-cd) (to-plain to-search-both) refl (first-done visited-on-four)
@@ -763,7 +763,7 @@ module _ (rooting : Rooting) (f : ℕ → List ℕ → ℕ → List ℕ → List
       (genes : List ℕ) (v : ℕ) → GeneTrees 4 genes 2
       → ((r : Reply) → Scores rooting 4 genes 2 ab-cd r → r ≡ record { number = 0; place = 0; value = v })
       → SheetSays v (f 4 genes 2 two-records three-entries) (after 4 genes 2 two-records three-entries)
-  unfolding ab-cd recordOf sorted insert
+  unfolding ab-cd recordFor sorted insert
   says genes v h scored =
       let single = replies-score rooting 4 genes 2 ab-cd in
       let is = scored (single .outcome) (single .meets) in
@@ -837,7 +837,7 @@ module _ (rooting : Rooting) (f : ℕ → List ℕ → ℕ → List ℕ → List
       → f n genes count records entries .number ≡ 0 → (i : ℕ) (d : Entry) → i < length entries → getD entries i d .position + 32 ≤ length records
       → (s : Reply) → Scores rooting n genes count (take 32 (drop (getD entries i d .position) records)) s
       → getD (after n genes count records entries) i d .number ≡ s .number) → ⊥
-  unfolding ab-cd recordOf sorted insert
+  unfolding ab-cd recordFor sorted insert
   sheet-does-not-count-numbers counts =
       let single = replies-score rooting 4 (ab-cd ++ ab-cd) 2 ab-cd in
       let is = score-alike rooting (single .outcome) (single .meets) in
@@ -851,7 +851,7 @@ module _ (rooting : Rooting) (f : ℕ → List ℕ → ℕ → List ℕ → List
       → ToSheet n genes′ count records entries → take 32 genes ≡ take 32 genes′
       → f n genes count records entries .number ≡ 0 → f n genes′ count records entries .number ≡ 0
       → after n genes count records entries ≡ after n genes′ count records entries) → ⊥
-  unfolding ab-cd ac-bd recordOf sorted insert
+  unfolding ab-cd ac-bd recordFor sorted insert
   sheet-counts-every-gene-tree first-only =
       let e = first-only 4 (ab-cd ++ ab-cd) (ab-cd ++ ac-bd) 2 two-records three-entries (to-sheet (ab-cd ++ ab-cd) alike-handed)
       (to-sheet (ab-cd ++ ac-bd) unlike-handed) refl (for-alike .fine) (for-unlike .fine) in
@@ -941,7 +941,7 @@ module _ (rooting : Rooting) (f : ℕ → List ℕ → ℕ → List ℕ → List
       → ToTie n genes count allowed scores splits ties → ToTie n genes′ count′ allowed scores splits ties → take 32 genes ≡ take 32 genes′
       → f n genes count allowed scores splits ties .number ≡ 0 → f n genes′ count′ allowed scores splits ties .number ≡ 0
       → f n genes count allowed scores splits ties .ties ≡ f n genes′ count′ allowed scores splits ties .ties) → ⊥
-  unfolding ab-cd ac-bd recordOf sorted insert
+  unfolding ab-cd ac-bd recordFor sorted insert
   tie-counts-every-gene-tree first-only =
       let z = ap (λ (r : Found). r .number) tied-ab-cd in
       let z′ = ap (λ (r : Found). r .number) tied-both in

@@ -19,7 +19,7 @@ use Rattle.trees.proofs.Bounds.{whole-below-sixteen}
 
 -- a reply that decides whether a record is valid is the test of it
 pub valid-told : (b : Bool) {n all : ℕ} (g : List ℕ) → n ≤ 16 → all ≡ whole n → Decides b (ValidOn all g) → b ≡ valid (whole n) g
-valid-told b {n} g small e d = valid-reply b g (whole-below-sixteen n small) (subst (λ (s : ℕ). Decides b (ValidOn s g)) e d)
+valid-told b {n} g small e d = valid-reply 16 b g (whole-below-sixteen n small) (subst (λ (s : ℕ). Decides b (ValidOn s g)) e d)
 
 pub gene-told : (b : Bool) {n : ℕ} (g : List ℕ) → n ≤ 16 → Decides b (GeneValid n g) → b ≡ validGene n g
 gene-told b g few d = reply-is-test b (gene-decides g few) d

@@ -119,7 +119,7 @@ dropped-exactly kind amount line text start q h z =
         {s : ℕ} {t : Tree} → On s t → (x : ℕ)
         → Among x (listed (recordOf (clustersLeft (λ b. weak (Below amount) b) t))) ↔ (Among x (clusters t) × (OfWeak (λ b. weak (Below amount) b) t x → ⊥))
     left-exactly {t = t} o x = (
-      λ m. let k = among-record (clustersLeft test t) m in (sublist-among (left-of-all test t) x k, λ u. e .1 u .1 k),
+      λ m. let k = among-record 16 (clustersLeft test t) m in (sublist-among (left-of-all test t) x k, λ u. e .1 u .1 k),
       λ k. by (among x (clustersLeft test t)) refl k,
     )
       where
@@ -130,7 +130,7 @@ dropped-exactly kind amount line text start q h z =
         e = lost-exactly test o x
 
         by : (b : Bool) → among x (clustersLeft test t) ≡ b → Among x (clusters t) × (OfWeak test t x → ⊥) → Among x (listed (recordOf (clustersLeft test t)))
-        by true is k = record-among (clustersLeft test t) (tells-among x (clustersLeft test t) .holds is)
+        by true is k = record-among 16 (clustersLeft test t) (tells-among x (clustersLeft test t) .holds is)
         by false is k = absurd (k .1 (e .0 (k .0, denied (tells-among x (clustersLeft test t)) is)))
 
 -- ---- the replies

@@ -9,7 +9,7 @@ use lib.Dec.{leb}
 use lib.Pow.{pow-mono}
 use Rattle.clusters.proofs.Sets.{whole-below}
 use Rattle.trees.specs.Tree.{Tree, Behind, On, cluster, clusters}
-use Rattle.trees.specs.Records.{count, recordOf, largest, ValidOn, SpeciesValid, GeneValid}
+use Rattle.trees.specs.Records.{count, recordOf, recordFor, largest, ValidOn, SpeciesValid, GeneValid}
 use Rattle.trees.proofs.Nodes.{cluster-some}
 use Rattle.trees.proofs.Recorded.{valid-of-drawn}
 use Rattle.trees.proofs.Thinned.{drawn-left-valid, drawn-thinned}
@@ -158,7 +158,7 @@ reads-zero kind threshold line text start {q} h z = by (answerTo kind threshold 
 pub stored-clusters :
     (kind : Kind) (threshold : Threshold) (line text : List ℕ) (start : ℕ) {q : Reading} (w : WasRead kind threshold line text start q) (found : List ℕ)
     → Stores threshold (answerTo kind threshold line text start) found → take (count (q .numbers)) found ≡ clustersRead threshold (w .tree)
-unfolding Stores recordOf
+unfolding Stores recordFor
 stored-clusters kind threshold line text start {q} w found stores =
     let many : count (q .numbers) ≡ length (clustersRead threshold (w .tree)) = ap count (w .recorded) in
     ap (λ (n : ℕ). take n found) many ∙ stores (w .tree) (w .rest) (q .next) (w .answered)

@@ -40,7 +40,7 @@ use Rattle.weights.specs.declared.Rooting.{Rooting}
 module _ (n : ℕ) (allowed : List ℕ) where
   -- the record of a tree over allowed clusters competes, and each that competes is such
   pub tree-competes : (t : Binary) → n ≤ 16 → TreeOn (whole n) t → Over (allowedIn n allowed) t → Candidate n allowed (recordOf (clustersIn t))
-  tree-competes t h v o = record { valid = tree-valid v (whole-below-sixteen n h); binary = tree-binary v; over = λ a m. o a (among-record (clustersIn t) m) }
+  tree-competes t h v o = record { valid = tree-valid v (whole-below-sixteen n h); binary = tree-binary v; over = λ a m. o a (among-record 16 (clustersIn t) m) }
 
   -- the tree of a record that competes
   pub competitor : (c : List ℕ) → n ≤ 16 → Candidate n allowed c → TreeOfRecord (whole n) c
@@ -50,7 +50,7 @@ module _ (n : ℕ) (allowed : List ℕ) where
   pub competitor-over : (c : List ℕ) (h : n ≤ 16) (k : Candidate n allowed c) → Over (allowedIn n allowed) (competitor c h k .tree)
   competitor-over c h k x m =
       let t = competitor c h k in
-      k .over x (subst (λ r. Among x (listed r)) (t .recorded) (record-among (clustersIn (t .tree)) m))
+      k .over x (subst (λ r. Among x (listed r)) (t .recorded) (record-among 16 (clustersIn (t .tree)) m))
 
 -- ---- the answer
 

@@ -61,7 +61,7 @@ module _ (rooting : Rooting) (n : ℕ) (genes : List (List ℕ)) (allowed : List
       → Least (weight rooting genes) (allowedIn n allowed) (whole n) t
   recorded-least t v h = record {
     on = v;
-    over = among-every (allowedIn n allowed) (clustersIn t) (λ x m. h .competes .over x (record-among (clustersIn t) m));
+    over = among-every (allowedIn n allowed) (clustersIn t) (λ x m. h .competes .over x (record-among 16 (clustersIn t) m));
     least = λ u o e.
         omega (
           arith,

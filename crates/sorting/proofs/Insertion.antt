@@ -7,7 +7,7 @@ use native.Mathlib.Omega.{arith}
 use lib.ListN.{length, getD, take, drop, set, replicate, length-drop, length-set, drop-of-length-le}
 use lib.Seq.{drop-cons, take-suc-set, drop-set-lt, set-split, set-getD, take-at, drop-drop, drop-append-add, length-take-le, getD-take}
 use Rattle.trees.specs.Lists.{insert, sorted}
-use Rattle.trees.specs.Records.{recordOf}
+use Rattle.trees.specs.Records.{recordOf, recordFor}
 use Rattle.trees.proofs.Order.{length-sorted}
 
 -- ---- one insertion
@@ -184,7 +184,7 @@ drop-zeros (suc k) (suc n) =
 -- put behind their count in place of zeros, the clusters make the record
 pub zeros-filled : (n : ℕ) (cs : List ℕ) → n ≤ length cs
     → n ∷ (sorted (take n cs) ++ drop (n + 1) (n ∷ replicate 31 0)) ≡ recordOf (take n cs)
-unfolding recordOf
+unfolding recordFor
 zeros-filled n cs listed =
     let e = length-take-le n cs listed in
     let zeros : drop (n + 1) (n ∷ replicate 31 0) ≡ replicate (31 - n) 0 =

@@ -29,8 +29,8 @@ next-place :
     {g : List ℕ} (j : ℕ) {y : ℕ} → Form g → 1 < j → j ≤ count g → Among y (listed g) → getD g (j - 1) 0 ≤ y → (y ≡ getD g (j - 1) 0) ⊎ (getD g j 0 ≤ y)
 next-place {g} j {y} f two last m l = go (decLe j (p .place)) (decLt (p .place) (j - 1))
   where
-    p : Placed g (count g) (f .thirty-two) (f .counted) y
-    p = among-place g (count g) (f .thirty-two) (f .counted) y m
+    p : Placed g (count g) (f .sized) (f .counted) y
+    p = among-place g (count g) (f .sized) (f .counted) y m
 
     go : Dec (j ≤ p .place) → Dec (p .place < j - 1) → (y ≡ getD g (j - 1) 0) ⊎ (getD g j 0 ≤ y)
     go (yes up) d = inr (omega (arith, places-le j (p .place) f (omega arith) up (p .last), p .there))
@@ -40,7 +40,7 @@ next-place {g} j {y} f two last m l = go (decLe j (p .place)) (decLt (p .place) 
 -- none is smaller than the first
 first-least : {g : List ℕ} {y : ℕ} → Form g → Among y (listed g) → getD g 1 0 ≤ y
 first-least {g} {y} f m =
-    let p = among-place g (count g) (f .thirty-two) (f .counted) y m in
+    let p = among-place g (count g) (f .sized) (f .counted) y m in
     omega (arith, places-le 1 (p .place) f (omega arith) (p .first) (p .last), p .there)
 
 -- a number put before the last ones of a list that are in use

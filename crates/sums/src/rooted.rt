@@ -48,7 +48,13 @@ fn add_unions(sets: &[u32], i: usize, joined: u32, odd: bool, sums: &mut [u32])
     if sets.len() <= i {
         return;
     }
-    let more = clusters::union(joined, sets[i]);
+    let next = sets[i];
+    // Each union with such a set is also one of one set more or less, and cancels; but with it alone it is what is joined.
+    if clusters::within(next, joined) {
+        change(odd, joined as usize, sums);
+        return;
+    }
+    let more = clusters::union(joined, next);
     change(odd, more as usize, sums);
     add_unions(sets, i + 1, more, !odd, sums);
     add_unions(sets, i + 1, joined, odd, sums);

@@ -45,7 +45,7 @@ total-sorted w (x ∷ l) = total-insert w x (sorted l) ∙ ap (λ n. w x + n) (t
 pub drawn-notes : (notes : ℕ → List ℕ) {s : ℕ} {r : List ℕ} → ValidOn s r → s < 2 ^ 16 → noteBytes notes (clusters (drawn (listed r) s)) ≡ noteBytes notes (listed r)
 drawn-notes notes {s} {r} v b =
     let cs = clusters (drawn (listed r) s) in
-    let same : sorted cs ≡ listed r = sym (listed-record cs) ∙ ap (λ (k : List ℕ). listed k) (drawn-record v b) in
+    let same : sorted cs ≡ listed r = sym (listed-record 16 cs) ∙ ap (λ (k : List ℕ). listed k) (drawn-record v b) in
     sym (total-sorted (λ a. length (notes a)) cs) ∙ ap (λ (l : List ℕ). noteBytes notes l) same
 
 -- ---- place by place
@@ -62,7 +62,7 @@ module _ (counts : List ℕ) (notes : ℕ → List ℕ) (l : List ℕ) where
 
 pub listed-notes : {counts r : List ℕ} {notes : ℕ → List ℕ} → Form r → Notes counts r notes → noteBytes notes (listed r) ≡ notesTo counts (count r)
 listed-notes {counts} {r} {notes} f given =
-    notes-to counts notes (drop 1 r) (count r) (let l = length-drop 1 r in let c = f .counted in let d = f .thirty-two in omega arith)
+    notes-to counts notes (drop 1 r) (count r) (let l = length-drop 1 r in let c = f .counted in let d = f .sized in omega arith)
     (λ i h.
     let next : 1 + i ≡ suc i = omega arith in
     ap notes (getD-drop 1 r i 0 ∙ ap (λ (k : ℕ). getD r k 0) next) ∙ given .each (suc i) (omega arith) (omega arith))

@@ -3,6 +3,7 @@
 pub mod Tops
 pub mod CountedDrawn
 pub mod Joining
+pub mod Groups
 pub mod CountedDown
 pub mod Compared
 pub mod UnrootedClusters
@@ -10,6 +11,7 @@ pub mod Complements
 pub mod Bounds
 pub mod UnrootedLess
 pub mod Sums
+pub mod StandWeights
 pub mod Lost
 pub mod Dropped
 pub mod Pass
@@ -27,3 +29,4 @@ pub mod SumOfBinary
 pub mod SumOfUnrooted
 pub mod Zeta
 pub mod SumOfWeights
+pub mod SumOfStand

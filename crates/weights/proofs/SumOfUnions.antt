@@ -14,11 +14,7 @@ use Rattle.trees.proofs.Order.{rising-sorted, among-sorted, sorted-among, sorte
 use Rattle.trees.proofs.Redrawing.{either-side}
 use Rattle.weights.specs.Lineages.{oneIf}
 use Rattle.weights.specs.Subsets.{many, odds, evens}
-use Rattle.weights.proofs.SumOfLists.{many-nil, many-cons, many-append, many-map, many-total, many-same, many-none}
-
--- how many of the unions with c pass
-many-union : (test : ℕ → Bool) (c : ℕ) (l : List ℕ) → many test (map (λ x. union c x) l) ≡ many (λ x. test (union c x)) l
-many-union test c l = many-map test (λ x. union c x) l ∙ sym (many-total (λ x. test (union c x)) l)
+use Rattle.weights.proofs.SumOfLists.{many-nil, many-cons, many-append, many-mapped, many-same, many-none}
 
 -- the unions with one set more in front: it alone, those without it, and those with it
 pub many-odds :
@@ -30,13 +26,13 @@ many-odds test c l =
       arith,
       many-cons test c (odds l ++ map (λ x. union c x) (evens l)),
       many-append test (odds l) (map (λ x. union c x) (evens l)),
-      many-union test c (evens l),
+      many-mapped test (λ x. union c x) (evens l),
     )
 
 -- and those of an even number
 pub many-evens : (test : ℕ → Bool) (c : ℕ) (l : List ℕ) → many test (evens (c ∷ l)) ≡ many test (evens l) + many (λ x. test (union c x)) (odds l)
 unfolding evens
-many-evens test c l = omega (arith, many-append test (evens l) (map (λ x. union c x) (odds l)), many-union test c (odds l))
+many-evens test c l = omega (arith, many-append test (evens l) (map (λ x. union c x) (odds l)), many-mapped test (λ x. union c x) (odds l))
 
 -- ---- inclusion and exclusion
 

@@ -48,7 +48,7 @@ judge-requires-2 c κs =
     let args = c .before .before .before .before .before .before .before .before .before .before .before .before .before .before .args in
     let few = names-count speciesMost (args .line .now) (w .good) in
     let is = species (c .before .before .before .before) in
-    (omega arith, (omega arith, w .gene .valid .form .thirty-two))
+    (omega arith, (omega arith, w .gene .valid .form .sized))
 
 returns-2 : tie.Need-returns-2
 returns-2 c =
@@ -76,7 +76,7 @@ returns-3 c =
     refl
 
 slice-aggregate-distance : tie.Need-slice-aggregate-distance
-slice-aggregate-distance c = let tables = c .before .before .before .before .before in sym (read (first tables) .gene .valid .form .thirty-two)
+slice-aggregate-distance c = let tables = c .before .before .before .before .before in sym (read (first tables) .gene .valid .form .sized)
 
 distance-requires : tie.Need-distance-requires
 distance-requires c κs =

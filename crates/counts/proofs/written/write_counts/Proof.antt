@@ -95,7 +95,7 @@ write-counts-spec =
     (λ c. search needs)
     weigh-all-requires
     (λ c. search needs)
-    (λ c. let long = in-order (c .before .before .before .before .before .before) .tree .form .thirty-two in search needs)
+    (λ c. let long = in-order (c .before .before .before .before .before .before) .tree .form .sized in search needs)
     (λ c. search needs)
     put-requires
     (λ c. search needs)

@@ -12,7 +12,7 @@ returns : tie.Need-returns
 returns c =
     decides-also (c .zeros-behind .result)
     (λ zeros.
-    record { thirty-two = search needs; counted = search needs; rising = rw (c .before .if2 .taken) at (c .before .before .rising .ensures); zeros = zeros })
+    record { sized = search needs; counted = search needs; rising = rw (c .before .if2 .taken) at (c .before .before .rising .ensures); zeros = zeros })
     (λ form. form .zeros) (c .zeros-behind .ensures)
 
 returns-2 : tie.Need-returns-2
