@@ -159,7 +159,7 @@ zeros-of : (l : List ℕ) → ((x : ℕ) → Among x l → x ≡ 0) → l ≡ re
 zeros-of [] f = refl
 zeros-of (x ∷ l) f = ap₂ _∷_ (f x (here refl)) (zeros-of l (λ y h. f y (there h)))
 
-of-zeros : {x : ℕ} (n : ℕ) → Among x (replicate n 0) → x ≡ 0
+pub of-zeros : {x : ℕ} (n : ℕ) → Among x (replicate n 0) → x ≡ 0
 of-zeros zero h = absurd (List·Memᴰ·not-nil h)
 of-zeros {x} (suc n) h = go (List·Memᴰ·cases-cons h) (λ k. of-zeros n k)
   where
