@@ -1,0 +1,3 @@
+-- The mathematics behind the proofs of this crate, and the laws that other crates cite.
+pub mod Opening
+pub mod Replies
