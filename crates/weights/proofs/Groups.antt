@@ -180,6 +180,11 @@ species-holds groups x i h =
     let both = has-and (getD groups i 0) x (j .0) (j .1) in
     (j .0, both .0, both .1)
 
+-- no individual is of no species
+pub species-of-none : (groups : List ℕ) → speciesIn groups 0 ≡ 0
+species-of-none groups =
+    same-members (speciesIn groups 0) 0 (λ i h. let j = species-holds groups 0 i h in absurd (has-zero (j .0) (j .2))) (λ i h. absurd (has-zero i h))
+
 pub species-below : (groups : List ℕ) (x : ℕ) → speciesIn groups x < 2 ^ length groups
 species-below groups x = below-of-within (length groups)
     (within-of-has (speciesIn groups x) (whole (length groups)) (λ i h. whole-has (length groups) i (has-species groups x i h .0)))

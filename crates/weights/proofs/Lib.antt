@@ -22,6 +22,8 @@ pub mod RunningSums
 pub mod Shown
 pub mod Star
 pub mod SumOfLists
+pub mod KeptWithin
+pub mod Renamed
 pub mod SumOfUnions
 pub mod SumOfRooted
 pub mod SumOfPairs

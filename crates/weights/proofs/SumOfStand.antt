@@ -1,8 +1,8 @@
 -- The weights of all sets of species on a stand by sums over subsets (#110): a set of individuals lies within those of A where its species lie within A, so the sets of individuals that are
 -- counted and taken off are taken to their species.
 use Prim.Native.Nat.{ℕ, _+_, _^_, _≤_, _<_}
-use mathlib.Core.Path.{_≡_, sym, _∙_, subst}
-use mathlib.Core.List.{List, map, List·Memᴰ, Memᴰ·of-map}
+use mathlib.Core.Path.{_≡_, refl, sym, ap, _∙_, subst}
+use mathlib.Core.List.{List, [], _∷_, _++_, map, map-map, map-append, Memᴰ·of-map}
 use native.Mathlib.Omega.{arith}
 use lib.ListN.{length, length-map}
 use Rattle.clusters.specs.Sets.{within, apart}
@@ -10,7 +10,7 @@ use Rattle.trees.specs.Lists.{Among}
 use Rattle.trees.specs.Records.{largest, AllValidFor}
 use Rattle.trees.proofs.GeneRecords.{gene-small}
 use Rattle.weights.specs.Stand.{individualsOf, speciesIn, Parted, standWeight}
-use Rattle.weights.specs.Subsets.{many, plusBy, minusBy, plusAll, minusAll, wholeSets, taken}
+use Rattle.weights.specs.Subsets.{many, gathered, plusBy, minusBy, plusAll, minusAll, wholeSets, taken}
 use Rattle.weights.specs.declared.Rooting.the-variants.{Rooted}
 use Rattle.weights.proofs.Groups.{species-below, within-species, apart-species}
 use Rattle.weights.proofs.StandWeights.{stand-weight, no-species-weigh-nothing, stand-weight-most}
@@ -34,6 +34,17 @@ module _ {m : ℕ} {groups : List ℕ} (parted : Parted m groups) where
 -- sets of species are sets of the stand's species
 pub taken-below : (groups l : List ℕ) (x : ℕ) → Among x (taken groups l) → x < 2 ^ length groups
 taken-below groups l x h = let y = Memᴰ·of-map (λ x. speciesIn groups x) l h in subst (λ (z : ℕ). z < 2 ^ length groups) (y .2) (species-below groups (y .0))
+
+-- what is gathered and then taken to species is gathered so
+pub taken-gathered : {A : Type 0} (groups : List ℕ) (give : A → List ℕ) (l : List A) → gathered (λ x. taken groups (give x)) l ≡ taken groups (gathered give l)
+unfolding gathered
+taken-gathered groups give [] = refl
+taken-gathered groups give (x ∷ l) =
+    ap (λ (k : List ℕ). taken groups (give x) ++ k) (taken-gathered groups give l) ∙ sym (map-append (λ x. speciesIn groups x) (give x) (gathered give l))
+
+-- the species of the whole sets are the whole sets taken to their species
+pub taken-wholes : (groups : List ℕ) (genes : List (List ℕ)) → map (λ g. speciesIn groups (largest g)) genes ≡ taken groups (wholeSets genes)
+taken-wholes groups genes = sym (map-map (λ x. speciesIn groups x) largest genes)
 
 -- the sets counted and taken off and the whole sets of the gene trees, taken to their species, tell the weights on the stand
 pub stand-summed :

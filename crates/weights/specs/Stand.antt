@@ -4,9 +4,9 @@ use mathlib.Core.Path.{_≡_}
 use mathlib.Core.Bool.{Bool, true, false, not}
 use mathlib.Core.List.{List, [], _∷_, map}
 use lib.ListN.{length, getD}
-use Rattle.clusters.specs.Sets.{Apart, apart, has, single, union, whole}
+use Rattle.clusters.specs.Sets.{Apart, apart, has, single, union, whole, size}
 use Rattle.trees.specs.Lists.{Among, total}
-use Rattle.trees.specs.Records.{listed}
+use Rattle.trees.specs.Records.{listed, recordFor}
 use Rattle.weights.specs.Count.{weight}
 use Rattle.weights.specs.declared.Rooting.the-variants.{Rooted}
 
@@ -44,3 +44,12 @@ standWeight groups genes a = weight Rooted genes (individualsOf groups a)
 unfoldable pub standScore : List ℕ → List (List ℕ) → List ℕ → ℕ
 unfolding standWeight total
 standScore groups genes species = total (map (λ a. standWeight groups genes a) (listed species))
+
+-- "With one individual each" (#110): every group has one member
+abbrev pub OneEach : List ℕ → Type 0
+OneEach groups = (group : ℕ) → Among group groups → size group ≡ 1
+
+-- a gene record on species as the wide one on individuals: each cluster is the set of its species' individuals
+unfoldable pub onIndividuals : List ℕ → List ℕ → List ℕ
+unfolding individualsOf
+onIndividuals groups g = recordFor 32 (map (λ x. individualsOf groups x) (listed g))
