@@ -1,7 +1,7 @@
 -- A stand that was opened: what its first tests say of all tests of a call, and what holds where they find nothing.
 use Prim.Native.Nat.{ℕ, zero, suc, _-_, _*_, _≤_, _<_}
 use mathlib.Core.Path.{_≡_, refl, sym, ap, _∙_}
-use mathlib.Core.Bool.{false, _&&_}
+use mathlib.Core.Bool.{_&&_}
 use mathlib.Core.List.{List, [], _∷_, _++_}
 use native.Mathlib.Omega.{arith}
 use lib.ListN.{length, take, replicate, length-append, length-replicate}
@@ -14,13 +14,13 @@ use Rattle.roster.proofs.Names.{names-count}
 use Rattle.trees.proofs.Booleans.{both}
 use Rattle.lineages.specs.Checks.{countTest}
 use Rattle.lineages.specs.Work.{said}
-use Rattle.lineages.proofs.Verdicts.{NoneGives, verdict-first, verdict-passed, verdict-rest}
-use Rattle.mapping.specs.Mapping.{faulty}
+use Rattle.lineages.proofs.Verdicts.{NoneGives, verdict-first, verdict-passed, verdict-rest, verdict-both}
 use Rattle.mapping.specs.Groups.{groups}
 use Rattle.mapping.specs.Promise.{rosterTest, mappingTest, standTests, groupsBy, standOf, StandParsed}
 use Rattle.mapping.specs.declared.Stand.{Stand}
 use Rattle.mapping.proofs.Judging.{groups-length}
 use Rattle.stand.specs.Checks.{openTests}
+use Rattle.stand.specs.InOrder.{Openable}
 use Rattle.stand.specs.Work.{StandOpened}
 
 -- 11 and 12
@@ -117,40 +117,52 @@ module _ (line individuals mapping genes : List ℕ) (count : ℕ) (stand : Stan
   pub open-told : (rest : List Test) → stand .number ≡ 0 → verdict (openTests line individuals mapping genes count ++ rest) ≡ verdict rest
   open-told rest good = verdict-rest (openTests line individuals mapping genes count) rest (open-numbered line individuals mapping genes count) (tests-pass good)
 
--- rosters, mapping and gene entries in which the tests find nothing
-pub record Openable (line individuals mapping genes : List ℕ) (count : ℕ) : Type 0 where
-  pub some-species : 1 ≤ length (names line)
-  pub few-species : length (names line) ≤ 16
-  pub some-individuals : 1 ≤ length (names individuals)
-  pub few-individuals : length (names individuals) ≤ 32
-  pub mapped : faulty (names line) (names individuals) mapping ≡ false
-  pub some-genes : 1 ≤ count
-  pub few-genes : count ≤ 4096
-  pub fits : 64 * count ≤ length genes
+-- ---- accepted exactly
 
-pub tests-openable :
-    (line individuals mapping genes : List ℕ) (count : ℕ) → verdict (openTests line individuals mapping genes count) .number ≡ 0
-    → Openable line individuals mapping genes count
-unfolding openTests standTests rosterTest mappingTest countTest lengthTest
-tests-openable line individuals mapping genes count e =
-    let a = verdict-passed _ _ (λ z. omega arith) e in
-    let b = verdict-passed _ _ (λ z. omega arith) (a .1) in
-    let c = verdict-passed _ _ (λ z. omega arith) (b .1) in
-    let d = verdict-passed _ _ (λ z. omega arith) (c .1) in
-    let f = verdict-passed _ _ (λ z. omega arith) (d .1) in
-    let species = names-count 16 line (a .0) in
-    let members = names-count 32 individuals (b .0) in
-    let trees = both (leb 1 count) (leb count 4096) (not-false (leb 1 count && leb count 4096) (d .0)) in
-    record {
-      some-species = species .0;
-      few-species = species .1;
-      some-individuals = members .0;
-      few-individuals = members .1;
-      mapped = c .0;
-      some-genes = leb-true 1 count (trees .0);
-      few-genes = leb-true count 4096 (trees .1);
-      fits = ltb-false (length genes) (64 * count) (f .0);
-    }
+module _ (line individuals mapping genes : List ℕ) (count : ℕ) where
+  pub tests-openable : verdict (openTests line individuals mapping genes count) .number ≡ 0 → Openable line individuals mapping genes count
+  unfolding openTests standTests rosterTest mappingTest countTest lengthTest
+  tests-openable e =
+      let a = verdict-passed _ _ (λ z. omega arith) e in
+      let b = verdict-passed _ _ (λ z. omega arith) (a .1) in
+      let c = verdict-passed _ _ (λ z. omega arith) (b .1) in
+      let d = verdict-passed _ _ (λ z. omega arith) (c .1) in
+      let f = verdict-passed _ _ (λ z. omega arith) (d .1) in
+      let trees = both (leb 1 count) (leb count 4096) (not-false (leb 1 count && leb count 4096) (d .0)) in
+      record {
+        first-good = a .0;
+        second-good = b .0;
+        mapped = c .0;
+        some-genes = leb-true 1 count (trees .0);
+        few-genes = leb-true count 4096 (trees .1);
+        fits = ltb-false (length genes) (64 * count) (f .0);
+      }
+
+  -- behind them the others decide
+  pub openable-told : Openable line individuals mapping genes count → (rest : List Test) → verdict (openTests line individuals mapping genes count ++ rest) ≡ verdict rest
+  unfolding openTests standTests rosterTest mappingTest countTest lengthTest verdict
+  openable-told o rest =
+      rw (
+        o .first-good,
+        o .second-good,
+        o .mapped,
+        le-leb 1 count (o .some-genes),
+        le-leb count 4096 (o .few-genes),
+        le-ltb (length genes) (64 * count) (o .fits),
+      )
+
+  -- a call passes all its tests exactly where it passes these and the others
+  pub open-passed : (rest : List Test) → verdict (openTests line individuals mapping genes count ++ rest) .number ≡ 0
+      → Openable line individuals mapping genes count × (verdict rest .number ≡ 0)
+  open-passed rest e =
+      let p = verdict-both (openTests line individuals mapping genes count) rest (open-numbered line individuals mapping genes count) e in (tests-openable (p .0), p .1)
+
+  -- what the rosters give
+  pub species-count : Openable line individuals mapping genes count → (1 ≤ length (names line)) × (length (names line) ≤ 16)
+  species-count o = names-count 16 line (o .first-good)
+
+  pub individuals-count : Openable line individuals mapping genes count → (1 ≤ length (names individuals)) × (length (names individuals) ≤ 32)
+  individuals-count o = names-count 32 individuals (o .second-good)
 
 -- the stand that the code has in hand then
 pub record Opened (line individuals mapping genes : List ℕ) (count : ℕ) (stand : Stand) : Type 0 where

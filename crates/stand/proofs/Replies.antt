@@ -27,7 +27,7 @@ use Rattle.weights.proofs.Sums.{valid-countable}
 use Rattle.stand.specs.Checks.{firstBadWide, wideRecordsTest, openTests, weightTests, scoreTests}
 use Rattle.stand.specs.Promise.{groupsOf, weightOn, StandJudged, StandWeighs, StandScores}
 use Rattle.stand.specs.Work.{StandOpened}
-use Rattle.stand.proofs.Opening.{Opened, stand-passed, is-opened, closed-told, open-told}
+use Rattle.stand.proofs.Opening.{Opened, stand-passed, is-opened, closed-told, open-told, species-count, individuals-count}
 
 -- ---- 15
 
@@ -54,10 +54,10 @@ module _ (line individuals mapping genes : List ℕ) (count : ℕ) (stand : Stan
 
   -- what the checks behind it ask for
   pub few-named : stand .species ≤ 16
-  few-named = omega (arith, hand .species-are, hand .openable .few-species)
+  few-named = omega (arith, hand .species-are, species-count line individuals mapping genes count (hand .openable) .1)
 
   pub few-members : stand .individuals ≤ 32
-  few-members = omega (arith, hand .individuals-are, hand .openable .few-individuals)
+  few-members = omega (arith, hand .individuals-are, individuals-count line individuals mapping genes count (hand .openable) .1)
 
   pub enough-lent : 64 * count ≤ length genes
   enough-lent = hand .openable .fits

@@ -9,6 +9,7 @@ use Rattle.roster.specs.Roster.{names}
 use Rattle.roster.specs.Verdict.{Test, lengthTest}
 use Rattle.mapping.specs.Promise.{individualsMost, standTests}
 use Rattle.lineages.specs.Checks.{firstFailing, countTest, clusterTest, speciesRecordTest}
+use Rattle.terms.specs.Allowed.{allowedTest}
 
 -- the index of the first wide record that is not that of a gene tree on the m individuals: "valid for m individuals as in 104"
 abbrev pub firstBadWide : ℕ → List (List ℕ) → ℕ
@@ -35,3 +36,15 @@ unfolding openTests
 scoreTests line individuals mapping genes count species =
     openTests line individuals mapping genes count
     ++ (speciesRecordTest (length (names line)) species ∷ wideRecordsTest (length (names individuals)) (wideRecordsIn count genes) ∷ [])
+
+-- the tests of `search`: 2^n entries in the allowed set and in both tables, n being the number of species
+unfoldable pub searchTests : List ℕ → List ℕ → List ℕ → List ℕ → ℕ → List ℕ → List ℕ → List ℕ → List Test
+unfolding openTests
+searchTests line individuals mapping genes count allowed scores splits =
+    openTests line individuals mapping genes count
+    ++ (lengthTest (length allowed) (2 ^ length (names line))
+    ∷ lengthTest (length scores) (2 ^ length (names line))
+    ∷ lengthTest (length splits) (2 ^ length (names line))
+    ∷ wideRecordsTest (length (names individuals)) (wideRecordsIn count genes)
+    ∷ allowedTest (length (names line)) allowed
+    ∷ [])

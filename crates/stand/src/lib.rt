@@ -1,12 +1,14 @@
 // Several individuals of a species (#110): the calls on a stand, which is two rosters and a mapping.
 mod checks;
 mod counting;
+mod searching;
 
 pub use counting::score;
 pub use counting::weight;
 use roster::Reply;
 use roster::done;
 use roster::refused;
+pub use searching::search;
 ghost use Rattle.stand.specs.Promise.{StandJudged};
 
 // A stand judged: how many individuals it has.
