@@ -22,7 +22,7 @@ use Rattle.search.specs.Candidates.{Accepted}
 use Rattle.lineages.proofs.FirstBad.{all-valid-none-bad}
 use Rattle.search.proofs.Accepted.{accepted}
 use Rattle.search.proofs.Demand.{Replied, replied, no-score-falls}
-use Rattle.search.proofs.Demand.Replied.{answered, nothing}
+use Rattle.search.proofs.AnyWeights.RepliedBy.{answered, nothing}
 use Rattle.search.proofs.Unread.{both-fit}
 use Rattle.weights.specs.declared.Rooting.the-variants.{Rooted}
 

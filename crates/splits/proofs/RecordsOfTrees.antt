@@ -148,10 +148,14 @@ tree-of-record {s} {r} l v b =
 
 -- ---- the score of a tree is the score of its record
 
+-- for any weights of clusters
+pub total-of-record : (w : ℕ → ℕ) (t : Binary) → total (map w (listed (recordOf (clustersIn t)))) ≡ scoreOf w t
+unfolding scoreOf
+total-of-record w t = ap (λ l. total (map w l)) (listed-record 16 (clustersIn t)) ∙ total-sorted w (clustersIn t)
+
 pub score-of-record : (rooting : Rooting) (genes : List (List ℕ)) (t : Binary) → score rooting genes (recordOf (clustersIn t)) ≡ scoreOf (weight rooting genes) t
 unfolding score scoreOf
-score-of-record rooting genes t =
-    ap (λ l. total (map (λ a. weight rooting genes a) l)) (listed-record 16 (clustersIn t)) ∙ total-sorted (λ a. weight rooting genes a) (clustersIn t)
+score-of-record rooting genes t = total-of-record (λ a. weight rooting genes a) t
 
 -- ---- the same for n species
 

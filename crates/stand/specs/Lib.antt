@@ -1,0 +1,4 @@
+pub mod Checks
+pub mod InOrder
+pub mod Promise
+pub mod Work
