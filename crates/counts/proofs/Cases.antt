@@ -9,9 +9,9 @@ use Rattle.labels.specs.Bytes.{run, nextIs, nextLabel}
 use Rattle.labels.specs.Labels.{bareLetters, letters, lettersFrom, doubled, rawTo, told, padded}
 use Rattle.trees.specs.Drawn.{properly, maximal, placed, byLowest, children, drawnTo, drawn}
 use Rattle.trees.specs.Lists.{upTo, keep, some, insert, sorted, pieces, total}
-use Rattle.trees.specs.Records.{recordOf, recordsIn}
+use Rattle.trees.specs.Records.{recordFor, recordsIn}
 use Rattle.trees.specs.Tree.{cluster, clusters}
-use Rattle.trees.specs.Valid.{every, among, rising, singlesFrom, nested, valid, validGene, binary}
+use Rattle.trees.specs.Valid.{every, among, rising, singlesFrom, nested, validFor, validGeneFor, binary}
 use Rattle.roster.specs.Roster.{same, position, inQuotes, begins, beginnings, nameAt, names, strayAt, longAt, manyAt, againAt, openAt, faultAt, least, firstFault, faulty}
 use Rattle.roster.specs.Verdict.{verdict, lengthTest, replyOf}
 use Rattle.roster.specs.declared.Reply.{Reply}
@@ -81,7 +81,7 @@ pub replies :
     × (replyTo wide ≡ record { number = 16; place = 0; value = 0 })
 unfolding replyTo checkVerdict checkTests drawnTest firstWrong ones onesIn trailingZeros whole single union has within apart size lowest run nextIs nextLabel
     bareLetters letters lettersFrom doubled rawTo told padded properly maximal placed byLowest children drawnTo drawn upTo keep some insert sorted pieces total
-    recordOf cluster clusters every among rising singlesFrom nested valid validGene binary same position inQuotes begins beginnings nameAt names strayAt longAt
+    recordFor cluster clusters every among rising singlesFrom nested validFor validGeneFor binary same position inQuotes begins beginnings nameAt names strayAt longAt
     manyAt againAt openAt faultAt least firstFault faulty verdict lengthTest blanks skip number numberBehind numbers name innerName supported written writtenBehind
     leafBy closingBy readTreeToBy readTreeBy readNodeBy answerWithin lead nextEnd endsFrom isCount countIn kOf extra weight score countTest firstFailing recordsTest
     clustersIn isLow lows each forks treesTo treesOn those all scoreOf treesOver leastTrees best bestFor allowedIn
