@@ -9,9 +9,9 @@ use Rattle.labels.specs.Bytes.{run, nextIs, nextLabel}
 use Rattle.labels.specs.Labels.{bareLetters, letters, lettersFrom, doubled, rawTo, told, padded}
 use Rattle.trees.specs.Drawn.{properly, maximal, placed, byLowest, children, drawnTo, drawn}
 use Rattle.trees.specs.Lists.{upTo, keep, some, insert, sorted, pieces, total}
-use Rattle.trees.specs.Records.{recordOf, recordsIn}
+use Rattle.trees.specs.Records.{recordFor, recordsIn}
 use Rattle.trees.specs.Tree.{cluster, clusters}
-use Rattle.trees.specs.Valid.{every, among, rising, singlesFrom, nested, valid, validGene, binary}
+use Rattle.trees.specs.Valid.{every, among, rising, singlesFrom, nested, validFor, validGeneFor, binary}
 use Rattle.roster.specs.Roster.{same, position, inQuotes, begins, beginnings, nameAt, names, strayAt, longAt, manyAt, againAt, openAt, faultAt, least, firstFault, faulty}
 use Rattle.roster.specs.Verdict.{verdict, lengthTest, replyOf}
 use Rattle.roster.specs.declared.Reply.{Reply}

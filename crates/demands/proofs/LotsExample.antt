@@ -10,7 +10,7 @@ use Rattle.clusters.specs.Sets.{whole, single, union, has, within, apart, size,
 use Rattle.trees.specs.Drawn.{properly, maximal, placed, byLowest, children}
 use Rattle.trees.specs.Lists.{keep, some, insert, sorted, pieces, total, upTo}
 use Rattle.trees.specs.Records.{recordOf, recordFor, recordsIn}
-use Rattle.trees.specs.Valid.{every, among, rising, singlesFrom, nested, valid, validGene, binary}
+use Rattle.trees.specs.Valid.{every, among, rising, singlesFrom, nested, validFor, validGeneFor, binary}
 use Rattle.roster.specs.Roster.{least}
 use Rattle.roster.specs.Verdict.{verdict, lengthTest}
 use Rattle.weights.specs.Count.{kOf, extra, weight, score}
@@ -57,7 +57,7 @@ replies :
     × (replyTo (ac-b ++ ab-c) 2 only-bc ≡ tree 2 (recordOf (1 ∷ 2 ∷ 4 ∷ 6 ∷ 7 ∷ [])))
 unfolding ab-c ac-b every-cluster no-cluster only-bc lent replyTo rootingTest firstFailing ones onesIn trailingZeros whole single union has within
     apart size lowest keep some insert sorted
-    recordOf properly maximal placed byLowest children every among rising singlesFrom nested valid validGene binary verdict lengthTest kOf extra total weight score
+    recordFor properly maximal placed byLowest children every among rising singlesFrom nested validFor validGeneFor binary verdict lengthTest kOf extra total weight score
     pieces speciesTest countTest recordsTest upTo least clustersIn isLow lows each forks treesTo treesOn those all scoreOf treesOver leastTrees
     best allowedIn firstStrange allowedTest searchTests bestFor
 replies = (refl, refl, refl, refl, refl, refl, refl, refl, refl, refl)

@@ -16,7 +16,7 @@ use Rattle.trees.specs.Records.{recordOf, recordFor, recordsIn}
 use Rattle.trees.specs.Tree.{cluster, clusters}
 use Rattle.trees.specs.Unrooted.{resolved, mayUnroot}
 use Rattle.trees.specs.Thinned.{leftBelow, clustersLeft}
-use Rattle.trees.specs.Valid.{every, among, rising, singlesFrom, nested, valid, validGene, binary}
+use Rattle.trees.specs.Valid.{every, among, rising, singlesFrom, nested, validFor, validGeneFor, binary}
 use Rattle.roster.specs.Roster.{same, position, inQuotes, begins, beginnings, nameAt, names, strayAt, longAt, manyAt, againAt, openAt, faultAt, least, firstFault, faulty}
 use Rattle.roster.specs.Judged.{Judged}
 use Rattle.roster.specs.Verdict.{verdict, lengthTest}
@@ -96,7 +96,7 @@ read-a :
 unfolding a-line a-text a-record Reads ones onesIn trailingZeros whole single union has within apart size lowest answerWithin leafBy closingBy
     readTreeToBy readTreeBy readNodeBy nextIs nextLabel blanks skip number numberBehind numbers supported name innerName run bareLetters letters lettersFrom
     doubled rawTo told padded upTo same position inQuotes begins beginnings nameAt names strayAt longAt manyAt againAt openAt faultAt least firstFault
-    faulty keep some insert sorted recordOf cluster clusters clustersLeft tooFine decimals leading
+    faulty keep some insert sorted recordFor cluster clusters clustersLeft tooFine decimals leading
 read-a Species NoThreshold r p = p
 read-a Species (Below amount) r p = p
 read-a Gene NoThreshold r p = p
@@ -110,7 +110,7 @@ read-a-of-two : (r : Reading) → Reads Species NoThreshold ab-line a-text 0 r �
 unfolding ab-line a-text Reads ones onesIn trailingZeros whole single union has within apart size lowest answerWithin leafBy closingBy readTreeToBy
     readTreeBy readNodeBy nextIs nextLabel blanks skip number numberBehind numbers supported name innerName run bareLetters letters lettersFrom doubled rawTo
     told padded upTo same position inQuotes begins beginnings nameAt names strayAt longAt manyAt againAt openAt faultAt least firstFault faulty keep
-    some insert sorted recordOf cluster clusters
+    some insert sorted recordFor cluster clusters
 read-a-of-two r p q = omega (arith, ap (λ (r : Reading). r .number) (sym p ∙ q))
 
 -- `((a,b)::0.5,c);`, which loses a cluster at 501 thousandths and not at 500
@@ -121,21 +121,21 @@ read-half : (kind : Kind) (r : Reading) → Reads kind (Below 500) abc-line half
 unfolding abc-line half-text Reads ones onesIn trailingZeros whole single union has within apart size lowest answerWithin leafBy closingBy readTreeToBy
     readTreeBy readNodeBy nextIs nextLabel blanks skip number numberBehind numbers supported name innerName run bareLetters letters lettersFrom doubled rawTo
     told padded upTo same position inQuotes begins beginnings nameAt names strayAt longAt manyAt againAt openAt faultAt least firstFault faulty keep
-    some insert sorted recordOf cluster clusters clustersLeft leftBelow tooFine decimals leading thousandths writtenBehind writes filled
+    some insert sorted recordFor cluster clusters clustersLeft leftBelow tooFine decimals leading thousandths writtenBehind writes filled
 read-half Species r p q = omega (arith, ap (λ (r : Reading). getD (r .numbers) 0 0) (sym p ∙ q))
 read-half Gene r p q = omega (arith, ap (λ (r : Reading). getD (r .numbers) 0 0) (sym p ∙ q))
 
 write-a : (r : Reply) (after : List ℕ) → Writes a-line a-record room r after → (r ≡ record { number = 0; place = 0; value = 2 }) × (after ≡ a-text)
 unfolding a-line a-text a-record room ones onesIn trailingZeros whole single union has within apart size lowest run bareLetters letters lettersFrom
     doubled rawTo told upTo same position inQuotes begins beginnings nameAt names strayAt longAt manyAt againAt openAt faultAt least firstFault faulty
-    keep some insert sorted recordOf cluster every among rising singlesFrom nested valid validGene properly maximal placed byLowest children drawnTo
+    keep some insert sorted recordFor cluster every among rising singlesFrom nested validFor validGeneFor properly maximal placed byLowest children drawnTo
     drawn treeText written nodeText verdict lengthTest rosterTest recordTest writeTests labelOf mayBeBare nextIs
 write-a r after w = (w .answer, w .bytes)
 
 -- cluster 3, `a` with `b`, weighs nothing in two trees that have it, and 1 where the second does not
 weigh-alike : (rooting : Rooting) (r : Reply) → Weighs rooting 4 (ab-cd ++ ab-cd) 2 3 r → r ≡ record { number = 0; place = 0; value = 0 }
 unfolding ab-cd Weighs weightTests clusterTest ones onesIn trailingZeros whole single union has within apart size lowest keep some insert sorted
-    recordOf properly maximal every among rising singlesFrom nested valid validGene binary verdict lengthTest unrootedHas unrootedClusters
+    recordFor properly maximal every among rising singlesFrom nested validFor validGeneFor binary verdict lengthTest unrootedHas unrootedClusters
     maximalWithin kDrawn kOf
     placed byLowest children extra total weight score pieces upTo speciesTest countTest firstFailing recordsTest resolved mayUnroot rootingTest
 weigh-alike Rooted r p = p
@@ -143,7 +143,7 @@ weigh-alike Unrooted r p = p
 
 weigh-unlike : (rooting : Rooting) (r : Reply) → Weighs rooting 4 (ab-cd ++ ac-bd) 2 3 r → r ≡ record { number = 0; place = 0; value = 1 }
 unfolding ab-cd ac-bd Weighs weightTests clusterTest ones onesIn trailingZeros whole single union has within apart size lowest keep some insert sorted
-    recordOf properly maximal every among rising singlesFrom nested valid validGene binary verdict lengthTest unrootedHas unrootedClusters
+    recordFor properly maximal every among rising singlesFrom nested validFor validGeneFor binary verdict lengthTest unrootedHas unrootedClusters
     maximalWithin kDrawn kOf
     placed byLowest children extra total weight score pieces upTo speciesTest countTest firstFailing recordsTest resolved mayUnroot rootingTest
 weigh-unlike Rooted r p = p
@@ -152,7 +152,7 @@ weigh-unlike Unrooted r p = p
 -- and so for the score of `((a,b),(c,d));`
 score-alike : (rooting : Rooting) (r : Reply) → Scores rooting 4 (ab-cd ++ ab-cd) 2 ab-cd r → r ≡ record { number = 0; place = 0; value = 0 }
 unfolding ab-cd Scores scoreTests speciesRecordTest ones onesIn trailingZeros whole single union has within apart size lowest keep some insert sorted
-    recordOf properly maximal every among rising singlesFrom nested valid validGene binary verdict lengthTest unrootedHas unrootedClusters
+    recordFor properly maximal every among rising singlesFrom nested validFor validGeneFor binary verdict lengthTest unrootedHas unrootedClusters
     maximalWithin kDrawn kOf
     placed byLowest children extra total weight score pieces upTo speciesTest countTest firstFailing recordsTest resolved mayUnroot rootingTest
 score-alike Rooted r p = p
@@ -160,7 +160,7 @@ score-alike Unrooted r p = p
 
 score-unlike : (rooting : Rooting) (r : Reply) → Scores rooting 4 (ab-cd ++ ac-bd) 2 ab-cd r → r ≡ record { number = 0; place = 0; value = 2 }
 unfolding ab-cd ac-bd Scores scoreTests speciesRecordTest ones onesIn trailingZeros whole single union has within apart size lowest keep some insert
-    sorted recordOf properly maximal every among rising singlesFrom nested valid validGene binary verdict lengthTest unrootedHas unrootedClusters
+    sorted recordFor properly maximal every among rising singlesFrom nested validFor validGeneFor binary verdict lengthTest unrootedHas unrootedClusters
     maximalWithin kDrawn kOf
     placed byLowest children extra total weight score pieces upTo speciesTest countTest firstFailing recordsTest resolved mayUnroot rootingTest
 score-unlike Rooted r p = p
@@ -170,7 +170,7 @@ mark-one :
     (rooting : Rooting) (r : Reply) (after : List ℕ) → Marks rooting 1 a-record 1 room r after
     → (r ≡ record { number = 0; place = 0; value = 0 }) × (after ≡ 0 ∷ 1 ∷ [])
 unfolding a-record room markTests shown marks upTo ones onesIn trailingZeros whole single union has within apart size lowest keep some insert sorted
-    recordOf properly maximal every among rising singlesFrom nested valid validGene binary verdict lengthTest unrootedHas unrootedClusters
+    recordFor properly maximal every among rising singlesFrom nested validFor validGeneFor binary verdict lengthTest unrootedHas unrootedClusters
     placed byLowest children pieces speciesTest countTest firstFailing recordsTest resolved mayUnroot rootingTest
 mark-one Rooted r after p = (p .reply, p .bytes)
 mark-one Unrooted r after p = (p .reply, p .bytes)
@@ -201,7 +201,7 @@ find-ab-cd :
     (rooting : Rooting) (r : Found) (s p : List ℕ) → Finds rooting 4 ab-cd 1 every-of-four lent-of-four lent-of-four r s p
     → r ≡ record { number = 0; place = 0; score = 0; numbers = first-tree rooting }
 unfolding first-tree ab-cd every-of-four lent-of-four ones onesIn trailingZeros whole single union has within apart size lowest keep some insert sorted recordFor
-    properly maximal every among rising singlesFrom nested valid validGene binary verdict lengthTest unrootedHas unrootedClusters maximalWithin kDrawn
+    properly maximal every among rising singlesFrom nested validFor validGeneFor binary verdict lengthTest unrootedHas unrootedClusters maximalWithin kDrawn
     kOf placed byLowest
     children extra total weight score pieces speciesTest countTest firstFailing recordsTest resolved mayUnroot rootingTest shown marks upTo least
     clustersIn isLow lows
@@ -213,7 +213,7 @@ find-ac-bd :
     (rooting : Rooting) (r : Found) (s p : List ℕ) → Finds rooting 4 ac-bd 1 every-of-four lent-of-four lent-of-four r s p
     → r ≡ record { number = 0; place = 0; score = 0; numbers = second-tree rooting }
 unfolding second-tree ac-bd every-of-four lent-of-four ones onesIn trailingZeros whole single union has within apart size lowest keep some insert sorted recordFor
-    properly maximal every among rising singlesFrom nested valid validGene binary verdict lengthTest unrootedHas unrootedClusters maximalWithin kDrawn
+    properly maximal every among rising singlesFrom nested validFor validGeneFor binary verdict lengthTest unrootedHas unrootedClusters maximalWithin kDrawn
     kOf placed byLowest
     children extra total weight score pieces speciesTest countTest firstFailing recordsTest resolved mayUnroot rootingTest shown marks upTo least
     clustersIn isLow lows
@@ -225,8 +225,8 @@ find-both :
     (rooting : Rooting) (r : Found) (s p : List ℕ) → Finds rooting 4 (ab-cd ++ ac-bd) 2 every-of-four lent-of-four lent-of-four r s p
     → r ≡ record { number = 0; place = 0; score = score-of-both rooting; numbers = first-tree rooting }
 unfolding first-tree ab-cd ac-bd every-of-four lent-of-four ones onesIn trailingZeros whole single union has within apart size lowest keep some insert
-    sorted recordOf
-    properly maximal every among rising singlesFrom nested valid validGene binary verdict lengthTest unrootedHas unrootedClusters maximalWithin kDrawn
+    sorted recordFor
+    properly maximal every among rising singlesFrom nested validFor validGeneFor binary verdict lengthTest unrootedHas unrootedClusters maximalWithin kDrawn
     kOf placed byLowest
     children extra total weight score pieces speciesTest countTest firstFailing recordsTest resolved mayUnroot rootingTest shown marks upTo least
     clustersIn isLow lows
@@ -262,7 +262,7 @@ find-tables :
     (rooting : Rooting) (r : Found) (s p : List ℕ) → Finds rooting 4 ab-cd 1 every-of-four lent-of-four lent-of-four r s p
     → (getD s 0 0 ≡ noTree) × (getD p 0 0 ≡ 0)
 unfolding ab-cd every-of-four lent-of-four ones onesIn trailingZeros whole single union has within apart size lowest keep some insert sorted recordFor
-    properly maximal every among rising singlesFrom nested valid validGene binary verdict lengthTest unrootedHas unrootedClusters maximalWithin kDrawn
+    properly maximal every among rising singlesFrom nested validFor validGeneFor binary verdict lengthTest unrootedHas unrootedClusters maximalWithin kDrawn
     kOf placed byLowest
     children extra total weight score pieces speciesTest countTest firstFailing recordsTest resolved mayUnroot rootingTest shown marks upTo least
     clustersIn isLow lows
@@ -283,8 +283,8 @@ count-ties :
     (rooting : Rooting) → (tiesFor rooting 4 (recordsIn 1 ab-cd) every-of-four (whole 4) ≡ ties-of-one rooting)
     × (tiesFor rooting 4 (recordsIn 2 (ab-cd ++ ac-bd)) every-of-four (whole 4) ≡ ties-of-both rooting)
 unfolding ab-cd ac-bd every-of-four ones onesIn trailingZeros whole single union has within apart size lowest keep some insert
-    sorted recordOf
-    properly maximal every among rising singlesFrom nested valid validGene binary unrootedHas unrootedClusters maximalWithin kDrawn
+    sorted recordFor
+    properly maximal every among rising singlesFrom nested validFor validGeneFor binary unrootedHas unrootedClusters maximalWithin kDrawn
     kOf placed byLowest
     children extra total weight score pieces upTo least clustersIn isLow lows
     each forks treesTo treesOn those all scoreOf treesOver leastTrees allowedIn tieEntry tiesFor
@@ -304,8 +304,8 @@ a-input = 97 ∷ 10 ∷ 97 ∷ 108 ∷ 108 ∷ 10 ∷ 97 ∷ 59 ∷ 10 ∷ []
 a-output : output a-input ≡ taxaText ++ 49 ∷ genesText ++ 49 ∷ 10 ∷ scoreText ++ 48 ∷ 10 ∷ tiesText ++ 49 ∷ 10 ∷ 97 ∷ 59 ∷ 10 ∷ []
 unfolding a-input lineLength firstLine behindLine endsInFeed modePlace treesPlace modeOf gatherTo walk gather rootingTest searched program digitsTo
     decimal output ones onesIn
-    trailingZeros whole single union has within apart size lowest keep some insert sorted recordOf properly maximal every among rising singlesFrom
-    nested valid validGene binary verdict lengthTest kOf extra total weight score pieces speciesTest countTest firstFailing recordsTest shown marks upTo
+    trailingZeros whole single union has within apart size lowest keep some insert sorted recordFor properly maximal every among rising singlesFrom
+    nested validFor validGeneFor binary verdict lengthTest kOf extra total weight score pieces speciesTest countTest firstFailing recordsTest shown marks upTo
     least clustersIn isLow lows each forks treesTo treesOn those all scoreOf treesOver leastTrees best allowedIn bestFor answerWithin leafBy closingBy
     readTreeToBy readTreeBy readNodeBy nextIs nextLabel blanks skip number numberBehind numbers supported name innerName run bareLetters letters lettersFrom
     doubled rawTo told padded same position inQuotes begins beginnings nameAt names strayAt longAt manyAt againAt openAt faultAt firstFault faulty

@@ -1,4 +1,4 @@
--- What a refusal says of the text (01, "Tree text" and "Numbers returned"; #103, #113). `given` says whether a threshold is.
+-- What a refusal says of the text (01, "Tree text" and "Numbers returned"; #103, #113). `given` says whether a threshold is, `most` how many parentheses may be open at once.
 use Prim.Native.Nat.{ℕ, zero, suc, _+_, _-_, _≤_, _<_, max}
 use mathlib.Core.Path.{_≡_}
 use mathlib.Core.Bool.{Bool, true, false, not}

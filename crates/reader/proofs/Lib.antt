@@ -4,6 +4,7 @@ pub mod Calls
 pub mod Recording
 pub mod Replies
 pub mod TreeWays
+pub mod WideCases
 pub mod WideReplies
 pub mod Widening
 pub mod ByThreshold
