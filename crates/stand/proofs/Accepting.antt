@@ -25,7 +25,7 @@ records-valid : (m : ℕ) (genes : List (List ℕ)) → m ≤ 32 → wideRecords
 unfolding wideRecordsTest
 records-valid m genes few e = none-bad m genes few (ltb-false (firstBadWide m genes) (length genes) e)
 
-valid-records : (m : ℕ) (genes : List (List ℕ)) → m ≤ 32 → AllValidFor 32 m genes → wideRecordsTest m genes .fault ≡ false
+pub valid-records : (m : ℕ) (genes : List (List ℕ)) → m ≤ 32 → AllValidFor 32 m genes → wideRecordsTest m genes .fault ≡ false
 unfolding wideRecordsTest
 valid-records m genes few all = le-ltb (firstBadWide m genes) (length genes) (let e = all-valid-none-bad m genes few all in omega arith)
 
