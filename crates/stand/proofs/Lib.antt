@@ -8,3 +8,4 @@ pub mod Accepting
 pub mod Demand
 pub mod SameWeights
 pub mod OneIndividualEach
+pub mod Counted
