@@ -98,7 +98,7 @@ module _ (line individuals mapping genes : List ℕ) (count : ℕ) (species : Li
   unfolding scoreTests speciesRecordTest
   score-accepted e =
       let o = open-passed line individuals mapping genes count _ e in
-      let d = verdict-passed _ _ (λ z. omega arith) (o .1) in
+      let d = verdict-passed (speciesRecordTest (length (names line)) species) _ (λ z. omega arith) (o .1) in
       let f = verdict-passed (wideRecordsTest (length (names individuals)) (wideRecordsIn count genes)) _ (numbered (length (names individuals)) (wideRecordsIn count genes)) (d .1) in (
         record {
           open-to = o .0;
