@@ -21,15 +21,15 @@ use Rattle.stand.proofs.Opening.{open-passed, openable-told, individual
 
 -- ---- 15
 
-records-valid : (m : ℕ) (genes : List (List ℕ)) → m ≤ 32 → wideRecordsTest m genes .fault ≡ false → AllValidFor 32 m genes
+pub records-valid : (m : ℕ) (genes : List (List ℕ)) → m ≤ 32 → wideRecordsTest m genes .fault ≡ false → AllValidFor 32 m genes
 unfolding wideRecordsTest
 records-valid m genes few e = none-bad m genes few (ltb-false (firstBadWide m genes) (length genes) e)
 
-valid-records : (m : ℕ) (genes : List (List ℕ)) → m ≤ 32 → AllValidFor 32 m genes → wideRecordsTest m genes .fault ≡ false
+pub valid-records : (m : ℕ) (genes : List (List ℕ)) → m ≤ 32 → AllValidFor 32 m genes → wideRecordsTest m genes .fault ≡ false
 unfolding wideRecordsTest
 valid-records m genes few all = le-ltb (firstBadWide m genes) (length genes) (let e = all-valid-none-bad m genes few all in omega arith)
 
-numbered : (m : ℕ) (genes : List (List ℕ)) → wideRecordsTest m genes .number ≡ 0 → ⊥
+pub numbered : (m : ℕ) (genes : List (List ℕ)) → wideRecordsTest m genes .number ≡ 0 → ⊥
 unfolding wideRecordsTest
 numbered m genes z = omega arith
 

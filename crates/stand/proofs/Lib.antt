@@ -6,3 +6,6 @@ pub mod Finding
 pub mod Outcomes
 pub mod Accepting
 pub mod Demand
+pub mod SameWeights
+pub mod OneIndividualEach
+pub mod Counted

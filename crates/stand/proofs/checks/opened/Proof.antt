@@ -9,7 +9,8 @@ returns c = opened-refused _ _ _ _ _ _ (c .before .before .judge .ensures) (c .i
 
 returns-2 : tie.Need-returns-2
 returns-2 c =
-    opened-shut _ _ _ _ _ _ (c .before .before .before .before .before .judge .ensures) (c .before .before .before .if1 .left) (c .before .before .lent .ensures) (c .before .if2 .taken) (c .shut .ensures)
+    let good = c .before .before .before in
+    opened-shut _ _ _ _ _ _ (good .before .before .judge .ensures) (good .if1 .left) (c .before .before .lent .ensures) (c .before .if2 .taken) (c .shut .ensures)
 
 returns-3 : tie.Need-returns-3
 returns-3 c = opened-good _ _ _ _ _ _ (c .before .before .before .before .judge .ensures) (c .before .before .if1 .left) (c .before .lent .ensures) (c .if2 .left)

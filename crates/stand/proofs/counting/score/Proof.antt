@@ -21,25 +21,31 @@ first-bad-requires c κs =
 
 returns-2 : tie.Need-returns-2
 returns-2 c =
-    scores-bad _ _ _ _ _ _ _ (c .before .before .before .before .before .before .before .before .before .opened .ensures) _ (c .before .before .before .before .before .before .before .if1 .left) (sym (c .before .before .before .before .is-species-tree .ensures) ∙ c .before .before .before .if2 .taken)
+    let tree = c .before .before .before in
+    let good = tree .before .before .before .before in
+    scores-bad _ _ _ _ _ _ _ (good .before .before .opened .ensures) _ (good .if1 .left) (sym (tree .before .is-species-tree .ensures) ∙ tree .if2 .taken)
     (c .before .before .first-bad .ensures) (omega arith) (c .refused2 .ensures)
 
 weigh-stand-tree-requires : tie.Need-weigh-stand-tree-requires
 weigh-stand-tree-requires c κs =
-    let stand = c .before .before .before .before .before .before .before .before .before .before .before .opened .ensures in
-    let good = c .before .before .before .before .before .before .before .before .before .if1 .left in (
-      stand-countable _ _ _ _ _ _ stand good (c .before .before .before .before .first-bad .ensures) (omega arith),
-      species-form _ _ (few-named _ _ _ _ _ _ stand good) (sym (c .before .before .before .before .before .before .is-species-tree .ensures) ∙ c .before .before .before .before .before .if2 .taken),
+    let tree = c .before .before .before .before .before in
+    let good = tree .before .before .before .before in
+    let stand = good .before .before .opened .ensures in (
+      stand-countable _ _ _ _ _ _ stand (good .if1 .left) (c .before .before .before .before .first-bad .ensures) (omega arith),
+      species-form _ _ (few-named _ _ _ _ _ _ stand (good .if1 .left)) (sym (tree .before .is-species-tree .ensures) ∙ tree .if2 .taken),
     )
 
 returns-3 : tie.Need-returns-3
 returns-3 c =
-    scores-done _ _ _ _ _ _ _ (c .before .before .before .before .before .before .before .before .before .before .before .before .before .opened .ensures) _ (c .before .before .before .before .before .before .before .before .before .before .before .if1 .left) (sym (c .before .before .before .before .before .before .before .before .is-species-tree .ensures) ∙ c .before .before .before .before .before .before .before .if2 .taken)
+    let tree = c .before .before .before .before .before .before .before in
+    let good = tree .before .before .before .before in
+    scores-done _ _ _ _ _ _ _ (good .before .before .opened .ensures) _ (good .if1 .left) (sym (tree .before .is-species-tree .ensures) ∙ tree .if2 .taken)
     (c .before .before .before .before .before .before .first-bad .ensures) (omega arith) (c .before .weigh-stand-tree .ensures) (c .done .ensures)
 
 returns-4 : tie.Need-returns-4
 returns-4 c =
-    scores-no-tree _ _ _ _ _ _ _ (c .before .before .before .before .before .before .before .opened .ensures) _ (c .before .before .before .before .before .if1 .left) (sym (c .before .before .is-species-tree .ensures) ∙ c .before .if2 .left) (c .refused3 .ensures)
+    let good = c .before .before .before .before .before in
+    scores-no-tree _ _ _ _ _ _ _ (good .before .before .opened .ensures) _ (good .if1 .left) (sym (c .before .before .is-species-tree .ensures) ∙ c .before .if2 .left) (c .refused3 .ensures)
 
 pub score-spec : {M : Type 1} → statement M
 score-spec =

@@ -16,29 +16,36 @@ first-bad-requires c κs =
 
 returns-2 : tie.Need-returns-2
 returns-2 c =
-    weighs-bad _ _ _ _ _ _ _ (c .before .before .before .before .before .opened .ensures) _ (c .before .before .before .if1 .left) (c .before .before .first-bad .ensures) (omega arith) (c .refused2 .ensures)
+    let good = c .before .before .before in
+    weighs-bad _ _ _ _ _ _ _ (good .before .before .opened .ensures) _ (good .if1 .left) (c .before .before .first-bad .ensures) (omega arith) (c .refused2 .ensures)
 
 is-cluster-requires : tie.Need-is-cluster-requires
 is-cluster-requires c κs = few-named _ _ _ _ _ _ (c .before .before .before .before .opened .ensures) (c .before .before .if1 .left)
 
 cast-weigh-stand : tie.Need-cast-weigh-stand
 cast-weigh-stand c =
-    let few = few-named _ _ _ _ _ _ (c .before .before .before .before .before .before .before .before .opened .ensures) (c .before .before .before .before .before .before .if1 .left) in
-    let small = cluster-small _ (c .before .before .before .before .before .before .before .before .before .before .before .before .before .args .cluster) few (sym (c .before .before .before .is-cluster .ensures) ∙ c .before .before .if3 .taken) in
+    let good = c .before .before .before .before .before .before in
+    let few = few-named _ _ _ _ _ _ (good .before .before .opened .ensures) (good .if1 .left) in
+    let told = sym (c .before .before .before .is-cluster .ensures) ∙ c .before .before .if3 .taken in
+    let small = cluster-small _ (good .before .before .before .before .before .before .before .args .cluster) few told in
     omega arith
 
 weigh-stand-requires : tie.Need-weigh-stand-requires
 weigh-stand-requires c κs =
-    stand-countable _ _ _ _ _ _ (c .before .before .before .before .before .before .before .before .opened .ensures) (c .before .before .before .before .before .before .if1 .left) (c .before .before .before .before .before .first-bad .ensures) (omega arith)
+    let good = c .before .before .before .before .before .before in
+    stand-countable _ _ _ _ _ _ (good .before .before .opened .ensures) (good .if1 .left) (c .before .before .before .before .before .first-bad .ensures) (omega arith)
 
 returns-3 : tie.Need-returns-3
 returns-3 c =
-    weighs-done _ _ _ _ _ _ _ (c .before .before .before .before .before .before .before .before .before .before .opened .ensures) _ (c .before .before .before .before .before .before .before .before .if1 .left) (c .before .before .before .before .before .before .before .first-bad .ensures) (omega arith)
-    (sym (c .before .before .before .before .before .is-cluster .ensures) ∙ c .before .before .before .before .if3 .taken) (c .before .weigh-stand .ensures) (c .done .ensures)
+    let cluster = c .before .before .before .before in
+    let good = cluster .before .before .before .before in
+    weighs-done _ _ _ _ _ _ _ (good .before .before .opened .ensures) _ (good .if1 .left) (cluster .before .before .before .first-bad .ensures) (omega arith)
+    (sym (cluster .before .is-cluster .ensures) ∙ cluster .if3 .taken) (c .before .weigh-stand .ensures) (c .done .ensures)
 
 returns-4 : tie.Need-returns-4
 returns-4 c =
-    weighs-no-cluster _ _ _ _ _ _ _ (c .before .before .before .before .before .before .before .opened .ensures) _ (c .before .before .before .before .before .if1 .left) (c .before .before .before .before .first-bad .ensures) (omega arith)
+    let good = c .before .before .before .before .before in
+    weighs-no-cluster _ _ _ _ _ _ _ (good .before .before .opened .ensures) _ (good .if1 .left) (c .before .before .before .before .first-bad .ensures) (omega arith)
     (sym (c .before .before .is-cluster .ensures) ∙ c .before .if3 .left) (c .refused3 .ensures)
 
 pub weight-spec : {M : Type 1} → statement M

@@ -36,17 +36,22 @@ single-requires : tie.Need-single-requires
 single-requires c κs = let few = few-named _ _ _ _ _ _ (c .before .before .opened .ensures) (c .if1 .left) in omega arith
 
 returns-2 : tie.Need-returns-2
-returns-2 c = finds-short _ _ _ _ _ _ _ _ _ (c .before .before .before .before .before .before .before .before .opened .ensures) (c .before .before .before .before .before .before .if1 .left) (short (c .before)) (c .refused2 .ensures) refl refl
+returns-2 c =
+    let good = c .before .before .before .before .before .before in
+    finds-short _ _ _ _ _ _ _ _ _ (good .before .before .opened .ensures) (good .if1 .left) (short (c .before)) (c .refused2 .ensures) refl refl
 
 first-bad-requires : tie.Need-first-bad-requires
 first-bad-requires c κs =
-    let stand = c .before .before .before .before .before .before .before .opened .ensures in
-    let good = c .before .before .before .before .before .if1 .left in
-    (few-members _ _ _ _ _ _ stand good, enough-lent _ _ _ _ _ _ stand good)
+    let good = c .before .before .before .before .before in
+    let stand = good .before .before .opened .ensures in
+    (few-members _ _ _ _ _ _ stand (good .if1 .left), enough-lent _ _ _ _ _ _ stand (good .if1 .left))
 
 returns-3 : tie.Need-returns-3
 returns-3 c =
-    finds-bad _ _ _ _ _ _ _ _ _ (c .before .before .before .before .before .before .before .before .before .before .opened .ensures) (c .before .before .before .before .before .before .before .before .if1 .left) (long (c .before .before .before)) (c .before .before .first-bad .ensures) (omega arith) (c .refused3 .ensures) refl refl
+    let tables = c .before .before .before in
+    let good = tables .before .before .before .before .before in
+    finds-bad _ _ _ _ _ _ _ _ _ (good .before .before .opened .ensures) (good .if1 .left) (long tables) (c .before .before .first-bad .ensures) (omega arith)
+    (c .refused3 .ensures) refl refl
 
 first-strange-requires : tie.Need-first-strange-requires
 first-strange-requires c κs =
@@ -57,23 +62,33 @@ first-strange-requires c κs =
 returns-4 : tie.Need-returns-4
 returns-4 c =
     let tables = c .before .before .before .before .before in
+    let good = tables .before .before .before .before .before in
     let entries = power (tables .before .before .before .before) in
-    finds-strange _ _ _ _ _ _ _ _ _ (c .before .before .before .before .before .before .before .before .before .before .before .before .opened .ensures) (c .before .before .before .before .before .before .before .before .before .before .if1 .left) (long tables) (c .before .before .before .before .first-bad .ensures) (omega arith)
+    finds-strange _ _ _ _ _ _ _ _ _ (good .before .before .opened .ensures) (good .if1 .left) (long tables) (c .before .before .before .before .first-bad .ensures) (omega arith)
     (strange-is _ _ entries (c .before .before .first-strange .ensures)) (omega arith) (c .refused4 .ensures) refl refl
 
+-- that the groups are sixteen is said of the struct that was handed back
 slice-aggregate-solve-stand : tie.Need-slice-aggregate-solve-stand
-slice-aggregate-solve-stand c = let held = c .before .before .before .before .before .before .before .before .before .before .before .before .before .opened .ok in search needs
+slice-aggregate-solve-stand c =
+    let tables = c .before .before .before .before .before .before in
+    let held = tables .before .before .before .before .before .before .before .opened .ok in
+    search needs
 
 solve-stand-requires : tie.Need-solve-stand-requires
 solve-stand-requires c κs =
-    solvable _ _ _ _ _ _ _ _ _ (c .before .before .before .before .before .before .before .before .before .before .before .before .before .before .before .opened .ensures) (c .before .before .before .before .before .before .before .before .before .before .before .before .before .if1 .left) (long (c .before .before .before .before .before .before .before .before)) (c .before .before .before .before .before .before .before .first-bad .ensures) (omega arith)
+    let tables = c .before .before .before .before .before .before .before .before in
+    let good = tables .before .before .before .before .before in
+    solvable _ _ _ _ _ _ _ _ _ (good .before .before .opened .ensures) (good .if1 .left) (long tables) (c .before .before .before .before .before .before .before .first-bad .ensures) (omega arith)
 
 returns-5 : tie.Need-returns-5
 returns-5 c =
-    let tables = c .before .before .before .before .before .before .before .before .before .before .before .before .before in
+    let strange = c .before .before .before .before .before .before .before .before .before .before in
+    let tables = strange .before .before .before in
+    let good = tables .before .before .before .before .before in
+    let past = c .before .before .before .before .before .before .before .before .before .if4 .left in
     let entries = power (tables .before .before .before .before) in
-    finds-solved _ _ _ _ _ _ _ _ _ (c .before .before .before .before .before .before .before .before .before .before .before .before .before .before .before .before .before .before .before .before .opened .ensures) (c .before .before .before .before .before .before .before .before .before .before .before .before .before .before .before .before .before .before .if1 .left) (long tables) (c .before .before .before .before .before .before .before .before .before .before .before .before .first-bad .ensures) (omega arith)
-    (strange-is _ _ entries (c .before .before .before .before .before .before .before .before .before .before .first-strange .ensures)) (omega arith) (c .before .before .before .before .solve-stand .ensures)
+    finds-solved _ _ _ _ _ _ _ _ _ (good .before .before .opened .ensures) (good .if1 .left) (long tables) (strange .before .before .first-bad .ensures) (omega arith)
+    (strange-is _ _ entries (strange .first-strange .ensures)) (omega (arith, past, entries)) (c .before .before .before .before .solve-stand .ensures)
 
 pub search-spec : {M : Type 1} → statement M
 search-spec =

@@ -40,13 +40,15 @@ choose-requires : tie.Need-choose-requires
 choose-requires c κs =
     let weighed = c .before .before .before .before .before .before in
     let all = weighed .before .before .before in
-    weights-fillable (solvable-lent (all .before .before .before .before .before .before .pre)) (all .whole .ensures) (weighed .fill-stand .last .1 .1 .1 .1 .1 .0) (weighed .fill-stand .ensures) (work-length weighed)
+    let lent = solvable-lent (all .before .before .before .before .before .before .pre) in
+    weights-fillable lent (all .whole .ensures) (weighed .fill-stand .last .1 .1 .1 .1 .1 .0) (weighed .fill-stand .ensures) (work-length weighed)
 
 returns : tie.Need-returns
 returns c =
     let weighed = c .before .before .before .before .before .before .before .before .before .before .before in
     let all = weighed .before .before .before in
-    weights-solve (solvable-lent (all .before .before .before .before .before .before .pre)) (all .whole .ensures) (weighed .fill-stand .last .1 .1 .1 .1 .1 .0) (weighed .fill-stand .ensures) (work-length weighed)
+    let lent = solvable-lent (all .before .before .before .before .before .before .pre) in
+    weights-solve lent (all .whole .ensures) (weighed .fill-stand .last .1 .1 .1 .1 .1 .0) (weighed .fill-stand .ensures) (work-length weighed)
     (c .before .before .before .before .choose .ensures)
 
 pub solve-stand-spec : {M : Type 1} → statement M
