@@ -7,14 +7,17 @@ pub mod TestFaults
 pub mod CallFaults
 pub mod InOrder
 pub mod FirstDemand
+pub mod CheckFaults
 pub mod GeneTrees
 pub mod Scorable
 pub mod SecondDemand
 pub mod ThirdDemand
 pub mod Sceptic
 pub mod Sheets
+pub mod BranchCounts
 pub mod SmallInputs
 pub mod ShutOut
+pub mod ShutOutCounts
 pub mod Gathering
 pub mod TreesFaults
 pub mod Allowing
@@ -27,6 +30,8 @@ pub mod LineFeeds
 pub mod RefusalLines
 pub mod ProgramFaults
 pub mod Locality
+pub mod EndsElsewhere
+pub mod CheckUnread
 pub mod Lots
 pub mod LotsExample
 pub mod Ties

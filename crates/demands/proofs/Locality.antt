@@ -23,7 +23,7 @@ use Rattle.nodes.proofs.Fronts.{strict-placeless, text-elsewhere}
 use Rattle.nodes.proofs.Locality.{locality}
 use Rattle.meanings.proofs.Refusals.{refusal-before, refusal-inside, refusal-numbers}
 use Rattle.reader.specs.Promise.{textMost, needed, readingOf, fromStart, inLimit, onRoster, answerTo, Reads}
-use Rattle.reader.specs.Accepted.{Draws}
+use Rattle.reader.specs.Accepted.{Draws, JustBehind}
 use Rattle.reader.specs.declared.Kind.{Kind}
 use Rattle.reader.specs.declared.Reading.{Reading}
 use Rattle.reader.proofs.Accepts.{accepted-derives, derives-accepted}
@@ -63,6 +63,21 @@ answer-is-local kind threshold line text text′ start d number h low byte short
     judged false e =
         rw (le-leb (length text′) textMost short, le-leb start (length text′) inside) (limited (leb (length text) textMost) e)
 
+-- the bytes of a tree, from start up to the offset just after its `;`, stand before what is left of its text, and before what follows them in a text that has them too
+pub before-the-rests :
+    (text text′ : List ℕ) (start : ℕ) {rest : List ℕ} {next : ℕ} → JustBehind text start rest next → SameBytes text text′ start (next - start)
+    → (drop start text ≡ take (next - start) (drop start text) ++ rest)
+    × (drop start text′ ≡ take (next - start) (drop start text) ++ drop (next - start) (drop start text′))
+before-the-rests text text′ start {rest} {next} place agree =
+    let n = next - start in
+    let s = drop start text in
+    let s′ = drop start text′ in
+    let at : next ≡ start + n = omega (arith, place .after) in
+    let left : rest ≡ drop n s = place .left ∙ (ap (λ (k : ℕ). drop k text) at ∙ sym (drop-drop n start text)) in (
+      sym (take-append-drop n s) ∙ ap (λ (l : List ℕ). take n s ++ l) (sym left),
+      sym (take-append-drop n s′) ∙ ap (λ (l : List ℕ). l ++ drop n s′) agree,
+    )
+
 -- a tree is decided by the bytes from start up to the offset just after its `;`
 pub tree-is-local :
     (kind : Kind) (threshold : Threshold) (line text text′ : List ℕ) (start : ℕ) {t : Tree} {rest : List ℕ} {next : ℕ}
@@ -74,21 +89,18 @@ tree-is-local kind threshold line text text′ start {t} {rest} {next} h short a
     let s = drop start text in
     let s′ = drop start text′ in
     let rest′ = drop n s′ in
-    let at : next ≡ start + n = omega (arith, a .place .after) in
-    let left : rest ≡ drop n s = a .place .left ∙ (ap (λ (k : ℕ). drop k text) at ∙ sym (drop-drop n start text)) in
-    let split : s ≡ take n s ++ rest = sym (take-append-drop n s) ∙ ap (λ (l : List ℕ). take n s ++ l) (sym left) in
-    let split′ : s′ ≡ take n s ++ rest′ = sym (take-append-drop n s′) ∙ ap (λ (l : List ℕ). l ++ rest′) agree in
+    let before = before-the-rests text text′ start (a .place) agree in
     let bytes : length (take n s) ≡ n = length-take-le n s (omega (arith, length-drop start text, a .place .within, a .draws .inside)) in
-    let all : length s′ ≡ n + length rest′ = ap length split′ ∙ (length-append (take n s) rest′ ∙ ap (λ (k : ℕ). k + length rest′) bytes) in
+    let all : length s′ ≡ n + length rest′ = ap length (before .1) ∙ (length-append (take n s) rest′ ∙ ap (λ (k : ℕ). k + length rest′) bytes) in
     let inside : start ≤ length text′ = omega (arith, length-drop start text′, all, a .place .after) in
     let Drawn : List ℕ → List ℕ → Type 0 = λ l left. Text (strict (isGiven threshold) (names line)) openMost l t left in
-    let derives : Drawn (take n s ++ rest) rest = subst (λ (l : List ℕ). Drawn l rest) split (a .draws .derives) in
+    let derives : Drawn (take n s ++ rest) rest = subst (λ (l : List ℕ). Drawn l rest) (before .0) (a .draws .derives) in
     let drawn : Draws kind threshold line text′ start t rest′ =
     record {
       good = a .draws .good;
       short = short;
       inside = inside;
-      derives = subst (λ (l : List ℕ). Drawn l rest′) (sym split′)
+      derives = subst (λ (l : List ℕ). Drawn l rest′) (sym (before .1))
           (text-elsewhere (strict (isGiven threshold) (names line)) (strict-placeless (isGiven threshold) (names line)) (take n s) rest rest′ derives);
       once = a .draws .once;
       species = a .draws .species;

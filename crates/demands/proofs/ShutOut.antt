@@ -3,12 +3,9 @@ use Prim.Native.Nat.{ℕ, _+_, _-_, _^_, _≤_, _<_}
 use mathlib.Core.Path.{_≡_, refl, sym, ap, _∙_}
 use mathlib.Core.List.{List, [], _∷_, _++_, List·Memᴰ, List·Memᴰ·cases-cons, List·Memᴰ·eq-of-singleton}
 use mathlib.Core.Logic.{_⊎_, inl, inr}
-use mathlib.Core.Bool.{true}
 use native.Mathlib.Omega.{arith}
 use lib.Count.{ones, onesIn, trailingZeros}
-use lib.Dec.{ltb}
 use lib.ListN.{length, take, drop, getD, replicate}
-use borrow.Author.Tests.{ltb-true}
 use Rattle.clusters.specs.Sets.{whole, single, union, has, within, apart, size, lowest}
 use Rattle.labels.specs.Bytes.{run, nextIs, nextLabel}
 use Rattle.labels.specs.Labels.{bareLetters, letters, lettersFrom, doubled, rawTo, told, padded}
@@ -47,7 +44,6 @@ use Rattle.sheet.specs.Promise.{Sheets}
 use Rattle.splits.specs.BinaryTrees.{clustersIn, isLow, lows, each, forks, treesTo, treesOn}
 use Rattle.splits.specs.Least.{those, all, scoreOf, treesOver, leastTrees, best, noTree}
 use Rattle.terms.specs.Allowed.{allowedIn}
-use Rattle.search.proofs.BestTrees.{every-among}
 use Rattle.terms.specs.Allowed.{firstStrange, allowedTest}
 use Rattle.plain.specs.Promise.{FindsPlainly}
 use Rattle.search.specs.Promise.{searchTests, Finds}
@@ -65,8 +61,8 @@ use Rattle.report.specs.Input.{lineLength, firstLine, behindLine, endsInFeed, m
 use Rattle.report.specs.Program.{modeOf, program}
 use Rattle.outcomes.specs.Outcome.{searched}
 use Rattle.report.specs.Promise.{output, Reports}
-use Rattle.demands.specs.Handed.{Slice, Bytes, AnyRecord, ToRead, ToWrite, GeneTrees, ToWeigh, ToScore, ToMark, ToSearch, ToTie, ToPlain, AnyEntry, ToSheet}
-use Rattle.demands.proofs.SmallInputs.{ab-cd, ac-bd, every-of-four, lent-of-four}
+use Rattle.demands.specs.Handed.{Bytes, AnyRecord, ToRead, ToWrite, GeneTrees, ToWeigh, ToScore, ToMark, ToSearch, ToTie, ToPlain, AnyEntry, ToSheet}
+use Rattle.demands.proofs.SmallInputs.{slice-told, abc-line, ab-cd, ac-bd, every-of-four, lent-of-four}
 use Rattle.demands.proofs.FirstDemand.{replies-score, replies-find}
 use Rattle.demands.proofs.Scorable.{scored-exactly}
 use Rattle.demands.proofs.Sheets.{sheet-exactly, as-single-call, twelve-and-zero}
@@ -117,10 +113,7 @@ unfolding ab-line a-text Reads ones onesIn trailingZeros whole single union has 
     some insert sorted recordOf cluster clusters
 read-a-of-two r p q = omega (arith, ap (λ (r : Reading). r .number) (sym p ∙ q))
 
--- roster `a b c`, and `((a,b)::0.5,c);`, which loses a cluster at 501 thousandths and not at 500
-abc-line : List ℕ
-abc-line = 97 ∷ 32 ∷ 98 ∷ 32 ∷ 99 ∷ []
-
+-- `((a,b)::0.5,c);`, which loses a cluster at 501 thousandths and not at 500
 half-text : List ℕ
 half-text = 40 ∷ 40 ∷ 97 ∷ 44 ∷ 98 ∷ 41 ∷ 58 ∷ 58 ∷ 48 ∷ 46 ∷ 53 ∷ 44 ∷ 99 ∷ 41 ∷ 59 ∷ []
 
@@ -328,10 +321,6 @@ unfolding lineLength firstLine behindLine endsInFeed modePlace treesPlace modeOf
 no-output = refl
 
 -- ---- these inputs can be handed over
-
--- seen by computing
-slice-told : (bound : ℕ) (l : List ℕ) → every (λ x. ltb x bound) l ≡ true → length l < 65536 → Slice bound l
-slice-told bound l e h = record { below = λ x m. ltb-true x bound (every-among (λ x. ltb x bound) l e x m); long = omega arith }
 
 a-line-handed : Bytes a-line
 unfolding a-line every

@@ -13,6 +13,7 @@ use Rattle.texts.specs.Writing.{written}
 use Rattle.weights.specs.declared.Rooting.{Rooting}
 use Rattle.weights.specs.declared.Rooting.the-variants.{Unrooted}
 use Rattle.search.specs.Candidates.{Candidate}
+use Rattle.counts.specs.Promise.{countsText}
 use Rattle.demands.specs.GeneTrees.{MayEnter}
 
 -- an order of faults: one of the first kind; or, where none of these stands, one of the second
@@ -137,3 +138,10 @@ abbrev pub SheetFault : Rooting → ℕ → List ℕ → ℕ → ℕ → ℕ →
 SheetFault rooting n genes count =
     SpeciesFault n before CountFault count before LengthFault genes (32 * count)
     before RecordsFault n (recordsIn count genes) before RootingFault rooting n (recordsIn count genes)
+
+-- the same of the writer with branch counts (#114): "1, 11, 12 (genes), 16, 15", and "12 for its text comes last"
+abbrev pub WriteCountsFault : List ℕ → List ℕ → ℕ → List ℕ → List ℕ → ℕ → ℕ → Type 0
+WriteCountsFault line genes count species out =
+    RosterFault line before CountFault count before LengthFault genes (32 * count) before SpeciesRecordFault (length (names line)) species
+    before RecordsFault (length (names line)) (recordsIn count genes)
+    before LengthFault out (length (countsText (names line) genes count species))

@@ -8,6 +8,7 @@ pub mod Signed
 pub mod ReadAs
 pub mod Scorable
 pub mod CallFaults
+pub mod CheckFaults
 pub mod InOrder
 pub mod ProgramFaults
 pub mod Deciding
@@ -15,6 +16,7 @@ pub mod Lots
 pub mod Ties
 pub mod Sceptic
 pub mod Sheets
+pub mod BranchCounts
 pub mod Letters
 pub mod Thresholds
 pub mod Redrawn
