@@ -14,6 +14,7 @@ use Rattle.trees.proofs.Counts.{clusters-of-binary, binary-of-clusters}
 use Rattle.trees.proofs.LostNodes.{nodes-clusters}
 use Rattle.trees.proofs.Recorded.{count-record, valid-of-drawn}
 use Rattle.trees.proofs.Bounds.{whole-below-sixteen}
+use Rattle.trees.proofs.ValidTest.{binary-decides}
 use Rattle.roster.specs.Roster.{names}
 use Rattle.roster.specs.Judged.{speciesMost}
 use Rattle.roster.specs.Verdict.{Test, Verdict, verdict, lengthTest}
@@ -34,9 +35,9 @@ use Rattle.lineages.proofs.Verdicts.{verdict-first}
 use Rattle.search.specs.Candidates.{BinarySpecies}
 use Rattle.lineages.proofs.Verdicts.{NoneGives, verdict-never}
 use Rattle.counts.specs.Promise.{weightIn, firstWrong, countsTest, checkVerdict}
-use Rattle.counts.specs.Work.{binaryTest, callTests}
+use Rattle.counts.specs.Work.{callTests}
 use Rattle.counts.specs.Passes.{CallInOrder, DrawsBinary}
-use Rattle.counts.proofs.CallFaults.{Passed, passed-of, passed-on}
+use Rattle.counts.proofs.CallFaults.{passed-of, passed-on, drawnTests, DrawnPassed}
 use Rattle.counts.proofs.Checking.{nodes-many, saidOf, wrongIn, said-as}
 use Rattle.counts.proofs.FirstWrong.{Beside, ends-beside}
 
@@ -55,10 +56,10 @@ binary-record : {s : ℕ} {t : Tree} → On s t → BinaryOn s (recordOf (cluste
 binary-record {t = t} on is = rw (count-record (clusters t)) at is
 
 -- no test of the call has the number 23
-call-never : (n : ℕ) (genes : List ℕ) (count : ℕ) (numbers scores splits : List ℕ) → verdict (callTests n genes count numbers scores splits) .number ≡ 23 → ⊥
-unfolding callTests countTest lengthTest binaryTest recordsTest NoneGives
+call-never : (n : ℕ) (genes : List ℕ) (count : ℕ) (numbers scores splits : List ℕ) → verdict (drawnTests n genes count numbers scores splits) .number ≡ 23 → ⊥
+unfolding callTests countTest lengthTest recordsTest NoneGives
 call-never n genes count numbers scores splits e =
-    verdict-never 23 (callTests n genes count numbers scores splits) (λ z. omega arith)
+    verdict-never 23 (drawnTests n genes count numbers scores splits) (λ z. omega arith)
     (λ z. omega arith, (λ z. omega arith, (λ z. omega arith, (λ z. omega arith, (λ z. omega arith, (λ z. omega arith, tt)))))) e
 
 module _ (line text : List ℕ) (start : ℕ) where
@@ -90,12 +91,12 @@ module _ (line text : List ℕ) (start : ℕ) where
         (subst (λ (m : ℕ). EndsOf (length text) (allNodes (d .tree)) (behindsOf (d .derives)) (endsFrom m (drop start text) start)) (nodes-many (d .tree)) ends)
 
     module _ (genes : List ℕ) (count : ℕ) (scores splits : List ℕ) (order : CallInOrder line genes count scores splits) where
-      call-passed : Passed species genes count (recordOf (clusters (d .tree))) scores splits
+      call-passed : DrawnPassed species genes count (recordOf (clusters (d .tree))) scores splits
       call-passed = record {
         in-order = order .genes-in-order;
         scores-fit = order .scores-fit;
         splits-fit = order .splits-fit;
-        binary-on = drawn-species .binary;
+        is-binary = binary-decides (whole species) (recordOf (clusters (d .tree))) .told (drawn-species .binary);
       }
 
       -- what is said of it is what is said of its counts
@@ -105,7 +106,7 @@ module _ (line text : List ℕ) (start : ℕ) where
           (firstWrong (weightIn genes count) (map cluster (allNodes (d .tree))) (endsFrom (length (clusters (d .tree))) (drop start text) start)) ∷ [])
       drawn-said =
           rw (nodes-clusters (d .tree))
-          (said-as line text start genes count scores splits read-as ∙ passed-on species genes count (recordOf (clusters (d .tree))) scores splits call-passed _)
+          (said-as line text start genes count scores splits read-as ∙ passed-on species genes count _ scores splits _ call-passed _)
 
   -- ---- which texts come so far
 
@@ -123,11 +124,11 @@ module _ (line text : List ℕ) (start : ℕ) where
     -- and none of the call
     late-passed :
         {t : Tree} {rest : List ℕ} {next : ℕ} → answerTo Species NoThreshold line text start ≡ parsed t rest next → Late
-        → verdict (callTests species genes count (recordOf (clusters t)) scores splits) .number ≡ 0
+        → verdict (drawnTests species genes count (recordOf (clusters t)) scores splits) .number ≡ 0
     late-passed {t} e late = go (verdict calls .number) refl late
       where
         calls : List Test
-        calls = callTests species genes count (recordOf (clusters t)) scores splits
+        calls = drawnTests species genes count (recordOf (clusters t)) scores splits
 
         same : (verdict calls .number ≡ 0 → ⊥) → saidOf line text start genes count scores splits .number ≡ verdict calls .number
         same f =
@@ -150,7 +151,7 @@ module _ (line text : List ℕ) (start : ℕ) where
         by (parsed t rest next) e =
             let d = accepted-derives Species NoThreshold line text start e .draws in
             let few = names-count speciesMost line (d .good) in
-            let p = passed-of species genes count (recordOf (clusters t)) scores splits (few .0) (few .1) (late-passed e late) in
+            let p = passed-of species genes count _ scores splits _ (few .0) (few .1) (late-passed e late) in
             let on : On (whole species) t = record { once = d .once; all = d .species } in (
               record {
                 good = d .good;
@@ -160,7 +161,7 @@ module _ (line text : List ℕ) (start : ℕ) where
                 rest = rest;
                 derives = d .derives;
                 on = on;
-                binary = binary-of-clusters on (binary-record on (p .binary-on));
+                binary = binary-of-clusters on (binary-record on (binary-decides (whole species) (recordOf (clusters t)) .holds (p .is-binary)));
               },
               record { genes-in-order = p .in-order; scores-fit = p .scores-fit; splits-fit = p .splits-fit },
             )

@@ -1,4 +1,3 @@
 pub mod Promise
-pub mod WrittenWork
 pub mod Work
 pub mod Passes
