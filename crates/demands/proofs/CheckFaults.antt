@@ -32,8 +32,8 @@ use Rattle.branches.specs.Ends.{endsFrom}
 use Rattle.lineages.specs.Checks.{countTest, recordsTest}
 use Rattle.counts.specs.Promise.{drawnTest, countsTest, checkTests, checkVerdict, Checks}
 use Rattle.counts.specs.Passes.{CallInOrder, FirstFault}
-use Rattle.counts.specs.Work.{binaryTest, callTests}
-use Rattle.counts.proofs.CallFaults.{passed-of, passed-on}
+use Rattle.counts.specs.Work.{callTests}
+use Rattle.counts.proofs.CallFaults.{drawnTests, passed-of, passed-on}
 use Rattle.counts.proofs.Checking.{saidOf, wrongIn, said-as}
 use Rattle.counts.proofs.Yes.{says-which}
 use Rattle.demands.specs.CheckFaults.{UnresolvedFault, CountsFault, BehindReading, CheckFault}
@@ -107,8 +107,8 @@ module _ (line text : List ℕ) (start : ℕ) (genes : List ℕ) (count : ℕ) (
   calls-pass :
       (t : Tree) → countTest count .fault ≡ false → lengthTest (length genes) (32 * count) .fault ≡ false → lengthTest (length scores) (2 ^ n) .fault ≡ false
       → lengthTest (length splits) (2 ^ n) .fault ≡ false → drawnTest n t .fault ≡ false → recordsTest n (recordsIn count genes) .fault ≡ false
-      → verdict (callTests n genes count (recordOf (clusters t)) scores splits) .number ≡ 0
-  unfolding callTests binaryTest drawnTest verdict
+      → verdict (drawnTests n genes count (recordOf (clusters t)) scores splits) .number ≡ 0
+  unfolding callTests drawnTest verdict
   calls-pass t c l s p b v = rw (c, l, s, p, b, v)
 
   module _ {t : Tree} {rest : List ℕ} {next : ℕ} (e : answerTo Species NoThreshold line text start ≡ parsed t rest next) where
@@ -127,10 +127,10 @@ module _ (line text : List ℕ) (start : ℕ) (genes : List ℕ) (count : ℕ) (
         exact-next _ (length-met splits (2 ^ n)) (λ p.
         exact-next _ (unresolved-met line text start draws) (λ b.
         exact-next _ (records-met n (few .1) (recordsIn count genes)) (λ v.
-        let passed = passed-of n genes count (recordOf (clusters t)) scores splits (few .0) (few .1) (calls-pass t c l s p b v) in
+        let passed = passed-of n genes count (2 ^ n) scores splits _ (few .0) (few .1) (calls-pass t c l s p b v) in
         counts-exact (wrongIn text start genes count t)
         (record { genes-in-order = passed .in-order; scores-fit = passed .scores-fit; splits-fit = passed .splits-fit })
-        (sym (said-as line text start genes count scores splits e ∙ passed-on n genes count (recordOf (clusters t)) scores splits passed _))))))))
+        (sym (said-as line text start genes count scores splits e ∙ passed-on n genes count (2 ^ n) scores splits _ passed _))))))))
 
   pub check-exact : Exact said (CheckFault line text start genes count scores splits)
   unfolding checkVerdict
