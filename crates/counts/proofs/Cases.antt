@@ -1,7 +1,7 @@
 -- What `check` answers of some texts on the roster `a b c` with the gene tree `((a,b),c);`, computed (#114).
 use Prim.Native.Nat.{ℕ}
 use mathlib.Core.Path.{_≡_, refl}
-use mathlib.Core.List.{List, [], _∷_}
+use mathlib.Core.List.{List, [], _∷_, _++_}
 use lib.Count.{ones, onesIn, trailingZeros}
 use lib.ListN.{length, replicate}
 use Rattle.clusters.specs.Sets.{whole, single, union, has, within, apart, size, lowest}
@@ -63,15 +63,23 @@ second = 40 ∷ 40 ∷ 97 ∷ 58 ∷ 48 ∷ 44 ∷ 99 ∷ 58 ∷ 48 ∷ 41 ∷ 5
 abbrev wide : List ℕ
 wide = 40 ∷ 97 ∷ 58 ∷ 48 ∷ 44 ∷ 98 ∷ 58 ∷ 48 ∷ 44 ∷ 99 ∷ 58 ∷ 53 ∷ 41 ∷ 58 ∷ 48 ∷ 59 ∷ []
 
--- what is promised of a text, with tables of 8 entries
-unfoldable pub replyTo : List ℕ → Reply
+-- the record of that gene tree, and one that is at fault behind it
+abbrev faulty-second : List ℕ
+faulty-second = gene ++ replicate 32 0
+
+-- what is promised of a text, with gene records and tables of 8 entries
+unfoldable pub replyOn : List ℕ → ℕ → List ℕ → Reply
 unfolding distance leastScore
-replyTo text =
-    replyOf (checkVerdict abc text 0 gene 1 (replicate 8 9) (replicate 8 9) (answerTo Species NoThreshold abc text 0))
-    (distanceOf (length (names abc)) (recordsIn 1 gene) (answerTo Species NoThreshold abc text 0))
+replyOn genes count text =
+    replyOf (checkVerdict abc text 0 genes count (replicate 8 9) (replicate 8 9) (answerTo Species NoThreshold abc text 0))
+    (distanceOf (length (names abc)) (recordsIn count genes) (answerTo Species NoThreshold abc text 0))
+
+-- with the one gene tree
+abbrev pub replyTo : List ℕ → Reply
+replyTo text = replyOn gene 1 text
 
 -- the tree `((a,c),b)` scores 1, and `((a,b),c)` scores 0; "zeros in front change nothing";
--- a wrong count of the node (a,c), none of the root, a point behind a, a second number behind b; 16 before 23
+-- a wrong count of the node (a,c), none of the root, a point behind a, a second number behind b; 16 before 23; 15, of the second gene record, before 23
 pub replies :
     (replyTo right ≡ record { number = 0; place = 0; value = 1 })
     × (replyTo lower ≡ record { number = 23; place = 10; value = 0 })
@@ -79,15 +87,16 @@ pub replies :
     × (replyTo fractional ≡ record { number = 23; place = 3; value = 0 })
     × (replyTo second ≡ record { number = 23; place = 14; value = 0 })
     × (replyTo wide ≡ record { number = 16; place = 0; value = 0 })
-unfolding replyTo checkVerdict checkTests drawnTest firstWrong ones onesIn trailingZeros whole single union has within apart size lowest run nextIs nextLabel
+    × (replyOn faulty-second 2 lower ≡ record { number = 15; place = 1; value = 0 })
+unfolding replyOn checkVerdict checkTests drawnTest firstWrong ones onesIn trailingZeros whole single union has within apart size lowest run nextIs nextLabel
     bareLetters letters lettersFrom doubled rawTo told padded properly maximal placed byLowest children drawnTo drawn upTo keep some insert sorted pieces total
     recordOf cluster clusters every among rising singlesFrom nested valid validGene binary same position inQuotes begins beginnings nameAt names strayAt longAt
     manyAt againAt openAt faultAt least firstFault faulty verdict lengthTest blanks skip number numberBehind numbers name innerName supported written writtenBehind
     leafBy closingBy readTreeToBy readTreeBy readNodeBy answerTo lead nextEnd endsFrom isCount countIn kOf extra weight score countTest firstFailing recordsTest
     clustersIn isLow lows each forks treesTo treesOn those all scoreOf treesOver leastTrees best bestFor allowedIn
-replies = (refl, refl, refl, refl, refl, refl)
+replies = (refl, refl, refl, refl, refl, refl, refl)
 
 -- and so `check` answers
 pub replied : (text s p : List ℕ) (r : Reply) → Checks abc text 0 gene 1 (replicate 8 9) (replicate 8 9) r s p → r ≡ replyTo text
-unfolding replyTo
+unfolding replyOn
 replied text s p r c = c .reply

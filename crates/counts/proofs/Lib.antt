@@ -2,6 +2,7 @@ pub mod Weighing
 pub mod TreesJudging
 pub mod Answered
 pub mod CountsBehind
+pub mod NotesTakenOut
 pub mod CountedText
 pub mod WrittenPasses
 pub mod Comparing

@@ -66,9 +66,13 @@ firstWrong w (a ∷ l) (e ∷ ends) = placeUnless (isRight (w a) (countIn (e .be
 
 -- ---- check
 
+-- 16, of a tree that is binary or not
+abbrev pub treeTest : Bool → Test
+treeTest two = record { fault = not two; number = 16; place = 0 }
+
 -- "16 (the tree drawn is not binary)"
 unfoldable pub drawnTest : ℕ → Tree → Test
-drawnTest n t = record { fault = not (binary (whole n) (recordOf (clusters t))); number = 16; place = 0 }
+drawnTest n t = treeTest (binary (whole n) (recordOf (clusters t)))
 
 -- "23 for a missing, fractional or wrong count or a second number" (#114)
 abbrev pub countsTest : Option ℕ → Test
