@@ -14,9 +14,10 @@ use Rattle.branches.specs.Ends.{endsFrom}
 use Rattle.weights.specs.Count.{weight, score}
 use Rattle.weights.specs.declared.Rooting.the-variants.{Rooted}
 use Rattle.lineages.specs.Checks.{countTest, recordsTest}
+use Rattle.terms.specs.Allowed.{everyCluster}
 use Rattle.splits.specs.Least.{scoreEntry, splitEntry, filled}
 use Rattle.splits.specs.Best.{bestFor}
-use Rattle.counts.specs.Promise.{weightIn, everyCluster, leastScore, isRight, firstWrong, treeTest, countsTest}
+use Rattle.counts.specs.Promise.{weightIn, leastScore, isRight, firstWrong, treeTest, countsTest}
 
 -- the count of a node, where it has one
 abbrev pub given : Bool → ℕ → Option ℕ

@@ -37,7 +37,8 @@ use Rattle.search.proofs.EveryCluster.{all-compete}
 use Rattle.search.proofs.Unread.{same-outcome}
 use Rattle.terms.proofs.AllMarked.{all-judged}
 use Rattle.terms.specs.declared.Found.{Found}
-use Rattle.counts.specs.Promise.{weightIn, everyCluster, leastScore, distance, distanceOf, firstWrong, countsTest, Checks, countsText, WritesCounts}
+use Rattle.terms.specs.Allowed.{everyCluster}
+use Rattle.counts.specs.Promise.{weightIn, leastScore, distance, distanceOf, firstWrong, countsTest, Checks, countsText, WritesCounts}
 use Rattle.counts.specs.Passes.{CallInOrder, DrawsBinary, CountRight, Passes}
 use Rattle.counts.proofs.CallFaults.{drawnTests}
 use Rattle.counts.proofs.Checking.{saidOf, wrongIn, said-as}
