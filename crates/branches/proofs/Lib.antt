@@ -1,7 +1,6 @@
 pub mod Cases
 pub mod LeadBytes
 pub mod Counts
-pub mod DistanceValues
 pub mod EndWays
 pub mod Found
 pub mod DrawnEnds

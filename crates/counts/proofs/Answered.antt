@@ -22,7 +22,7 @@ use Rattle.writer.proofs.Outcomes.{Stands, puts-zero}
 use Rattle.counts.specs.Promise.{weightIn, countsText, writeCountsTests, WritesCounts}
 use Rattle.counts.specs.Work.{callTests, CallJudged, Weighed}
 use Rattle.counts.proofs.Weighing.{weighed-notes}
-use Rattle.counts.proofs.CallFaults.{front-none, passed-on}
+use Rattle.counts.proofs.CallFaults.{front-none, tests-behind}
 use Rattle.counts.proofs.TreesJudging.{TreesInOrder, isTree, treeTests, TreesJudged, trees-in-order, in-order-passed}
 
 -- a good roster has a name
@@ -74,7 +74,7 @@ module _ (line genes : List ℕ) (count : ℕ) (species out : List ℕ) where
   unfolding fits
   checked-verdict f o =
       let named = good-names line f in
-      good-verdict f ∙ passed-on n genes count 0 [] [] (isTree n species) (in-order-passed (named .some) (named .few) genes count species o) (textTest ∷ [])
+      good-verdict f ∙ tests-behind n genes count 0 [] [] (isTree n species) (in-order-passed (named .some) (named .few) genes count species o) (textTest ∷ [])
 
   -- ---- the ways
 

@@ -94,9 +94,9 @@ pub record Passed (n : ℕ) (genes : List ℕ) (count entries : ℕ) (scores spl
   pub is-binary : two ≡ true
 
 module _ (n : ℕ) (genes : List ℕ) (count entries : ℕ) (scores splits : List ℕ) (two : Bool) where
-  pub passed-of : 1 ≤ n → n ≤ 16 → verdict (callTests n genes count entries scores splits two) .number ≡ 0 → Passed n genes count entries scores splits two
+  pub tests-passed : 1 ≤ n → n ≤ 16 → verdict (callTests n genes count entries scores splits two) .number ≡ 0 → Passed n genes count entries scores splits two
   unfolding callTests countTest lengthTest recordsTest
-  passed-of one few e =
+  tests-passed one few e =
       let a = verdict-passed _ _ (λ z. omega arith) e in
       let b = verdict-passed _ _ (λ z. omega arith) (a .1) in
       let c = verdict-passed _ _ (λ z. omega arith) (b .1) in
@@ -121,9 +121,9 @@ module _ (n : ℕ) (genes : List ℕ) (count entries : ℕ) (scores splits : Lis
         is-binary = not-false two (f .0);
       }
 
-  pub passed-on : Passed n genes count entries scores splits two → (rest : List Test) → verdict (callTests n genes count entries scores splits two ++ rest) ≡ verdict rest
+  pub tests-behind : Passed n genes count entries scores splits two → (rest : List Test) → verdict (callTests n genes count entries scores splits two ++ rest) ≡ verdict rest
   unfolding callTests countTest lengthTest recordsTest verdict
-  passed-on p rest =
+  tests-behind p rest =
       let s = p .in-order .shaped in
       let none = all-valid-none-bad n (recordsIn count genes) (s .few-species) (p .in-order .valid) in
       rw (
@@ -143,3 +143,10 @@ drawnTests n genes count numbers scores splits = callTests n genes count (2 ^ n)
 
 abbrev pub DrawnPassed : ℕ → List ℕ → ℕ → List ℕ → List ℕ → List ℕ → Type 0
 DrawnPassed n genes count numbers scores splits = Passed n genes count (2 ^ n) scores splits (binary (whole n) numbers)
+
+module _ (n : ℕ) (genes : List ℕ) (count : ℕ) (numbers scores splits : List ℕ) where
+  pub passed-of : 1 ≤ n → n ≤ 16 → verdict (drawnTests n genes count numbers scores splits) .number ≡ 0 → DrawnPassed n genes count numbers scores splits
+  passed-of one few e = tests-passed n genes count (2 ^ n) scores splits (binary (whole n) numbers) one few e
+
+  pub passed-on : DrawnPassed n genes count numbers scores splits → (rest : List Test) → verdict (drawnTests n genes count numbers scores splits ++ rest) ≡ verdict rest
+  passed-on p rest = tests-behind n genes count (2 ^ n) scores splits (binary (whole n) numbers) p rest

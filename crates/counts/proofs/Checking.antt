@@ -150,7 +150,7 @@ module _ (line text : List ℕ) (start : ℕ) (genes : List ℕ) (count : ℕ) (
     unfolding CallJudged
     call-right judged call z =
         let few = names-count speciesMost line (w .good) in
-        passed-of (length (names line)) genes count _ scores splits _ (few .0) (few .1) (sym (ap (λ (r : Reply). r .number) call) ∙ z)
+        passed-of (length (names line)) genes count (q .numbers) scores splits (few .0) (few .1) (sym (ap (λ (r : Reply). r .number) call) ∙ z)
 
     module _ (passed : DrawnPassed (length (names line)) genes count (q .numbers) scores splits) where
       -- the tree is one of the binary species trees
@@ -161,7 +161,7 @@ module _ (line text : List ℕ) (start : ℕ) (genes : List ℕ) (count : ℕ) (
       }
 
       counts-told : saidOf ≡ verdict (countsTest (wrongIn text start genes count (w .tree)) ∷ [])
-      counts-told = told ∙ passed-on (length (names line)) genes count _ scores splits _ passed (countsTest (wrongIn text start genes count (w .tree)) ∷ [])
+      counts-told = told ∙ passed-on (length (names line)) genes count (q .numbers) scores splits passed (countsTest (wrongIn text start genes count (w .tree)) ∷ [])
 
       module _ (found : List ℕ) (compared : Reply) (stores : Stores NoThreshold (answerTo Species NoThreshold line text start) found)
           (counts : CountsJudged text start genes count found (clusterCount (q .numbers)) compared) where

@@ -22,12 +22,11 @@ use Rattle.nodes.specs.Grammar.Numbers.{nothing, distance, both, support}
 use Rattle.nodes.specs.Worth.{behindOf}
 use Rattle.nodes.proofs.DrawnValues.{drawn-fits}
 use Rattle.branches.specs.Ends.{isCount, countIn}
-use Rattle.branches.proofs.DistanceValues.{counted-as}
-use Rattle.branches.proofs.Counts.{point-no-count}
+use Rattle.branches.proofs.Counts.{some-none, counted-as, point-no-count}
 use Rattle.branches.proofs.EndWays.{second-none}
 use Rattle.counts.specs.Passes.{Fault}
 use Rattle.counts.specs.Passes.Fault.{missing, fractional, second, wrong}
-use Rattle.counts.proofs.FirstWrong.{some-is, some-none}
+use Rattle.counts.proofs.FirstWrong.{some-is}
 
 -- ---- what may be written as d: nothing, digits, or digits, a point and digits
 

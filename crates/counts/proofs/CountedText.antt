@@ -1,12 +1,12 @@
--- The text that `write_counts` writes: how long it is, that it reads back, and that without the counts it is the writer's.
+-- The text that `write_counts` writes: how long it is, and that it reads back.
 use Prim.Native.Nat.{ℕ, _≤_}
 use mathlib.Core.Path.{_≡_, refl, sym, ap, _∙_}
 use mathlib.Core.Bool.{false}
-use mathlib.Core.List.{List, [], map}
+use mathlib.Core.List.{List, []}
 use native.Mathlib.Omega.{arith}
 use lib.ListN.{length, take}
 use Rattle.clusters.specs.Sets.{whole}
-use Rattle.trees.specs.Tree.{Tree, clusters}
+use Rattle.trees.specs.Tree.{Tree}
 use Rattle.trees.specs.Records.{listed, largest, GeneValid}
 use Rattle.trees.specs.Drawn.{drawn}
 use Rattle.trees.proofs.GeneRecords.{gene-of-species, largest-of-valid}
@@ -18,7 +18,7 @@ use Rattle.tokens.specs.declared.answer.Threshold.the-variants.{NoThreshold}
 use Rattle.reader.specs.Promise.{answerTo, Reads}
 use Rattle.reader.specs.declared.Kind.the-variants.{Species}
 use Rattle.reader.specs.declared.Reading.{Reading}
-use Rattle.texts.specs.Writing.{countNote, written, counted}
+use Rattle.texts.specs.Writing.{counted}
 use Rattle.texts.proofs.Lengths.{counted-most}
 use Rattle.weights.specs.declared.Rooting.the-variants.{Rooted}
 use Rattle.weights.proofs.Sums.{valid-countable}
@@ -27,17 +27,9 @@ use Rattle.writer.proofs.RosterNames.{GoodNames, good-names}
 use Rattle.writer.proofs.Outcomes.{puts-done}
 use Rattle.writer.proofs.RoundTrip.{counted-round-trip, counted-reads-back, write-read}
 use Rattle.counts.specs.Promise.{weightIn, countsText, WritesCounts}
-use Rattle.counts.proofs.NotesTakenOut.{TakenOut, without-notes}
 use Rattle.counts.proofs.Weighing.{weight-small}
 use Rattle.counts.proofs.TreesJudging.{TreesInOrder}
 use Rattle.counts.proofs.Answered.{writes-counts-once, counts-put, WroteCounts, counts-zero, counts-there}
-
--- "Our writer gets a form with these counts" (#114): with `:` and the weight of each node's cluster taken out, in the order in which the nodes end, it is the writer's text
-pub without-counts :
-    (ns : List (List ℕ)) (genes : List ℕ) (count : ℕ) (species : List ℕ)
-    → TakenOut (map (countNote (weightIn genes count)) (clusters (drawn (listed species) (largest species)))) (countsText ns genes count species) (written ns species)
-unfolding countsText
-without-counts ns genes count species = without-notes (countNote (weightIn genes count)) ns species
 
 -- ---- gene trees and a species record that are in order
 

@@ -106,7 +106,7 @@ module _ (line text : List ℕ) (start : ℕ) where
           (firstWrong (weightIn genes count) (map cluster (allNodes (d .tree))) (endsFrom (length (clusters (d .tree))) (drop start text) start)) ∷ [])
       drawn-said =
           rw (nodes-clusters (d .tree))
-          (said-as line text start genes count scores splits read-as ∙ passed-on species genes count _ scores splits _ call-passed _)
+          (said-as line text start genes count scores splits read-as ∙ passed-on species genes count (recordOf (clusters (d .tree))) scores splits call-passed _)
 
   -- ---- which texts come so far
 
@@ -151,7 +151,7 @@ module _ (line text : List ℕ) (start : ℕ) where
         by (parsed t rest next) e =
             let d = accepted-derives Species NoThreshold line text start e .draws in
             let few = names-count speciesMost line (d .good) in
-            let p = passed-of species genes count _ scores splits _ (few .0) (few .1) (late-passed e late) in
+            let p = passed-of species genes count (recordOf (clusters t)) scores splits (few .0) (few .1) (late-passed e late) in
             let on : On (whole species) t = record { once = d .once; all = d .species } in (
               record {
                 good = d .good;

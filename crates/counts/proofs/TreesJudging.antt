@@ -15,7 +15,7 @@ use Rattle.roster.specs.declared.Reply.{Reply}
 use Rattle.weights.specs.declared.Rooting.the-variants.{Rooted}
 use Rattle.lineages.specs.InOrder.{GenesInOrder}
 use Rattle.counts.specs.Work.{callTests, CallJudged}
-use Rattle.counts.proofs.CallFaults.{Passed, passed-of}
+use Rattle.counts.proofs.CallFaults.{Passed, tests-passed}
 
 -- the gene trees are in order, and the species record is that of a binary tree with every species
 pub record TreesInOrder (n : ℕ) (genes : List ℕ) (count : ℕ) (species : List ℕ) : Type 0 where
@@ -39,7 +39,7 @@ module _ {n : ℕ} (some : 1 ≤ n) (few : n ≤ 16) (genes : List ℕ) (count :
   -- where no number is given, all is in order
   pub trees-in-order : verdict (treeTests n genes count species) .number ≡ 0 → TreesInOrder n genes count species
   trees-in-order e =
-      let p = passed-of n genes count 0 [] [] (isTree n species) some few e in
+      let p = tests-passed n genes count 0 [] [] (isTree n species) some few e in
       let tree = both (valid (whole n) species) (binary (whole n) species) (p .is-binary) in
       record {
         trees = p .in-order;

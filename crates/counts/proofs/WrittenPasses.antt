@@ -85,7 +85,7 @@ module _ (line : List ℕ) {genes : List ℕ} {count : ℕ} {species : List ℕ}
         is-binary = binary-decides (whole n) (recordOf (clusters tree)) .told (rw own-record (o .binary));
       } in
       let said-none : saidOf line text 0 genes count scores splits ≡ said 0 0
-      = said-as line text 0 genes count scores splits (text-read line good o) ∙ passed-on n genes count _ scores splits _ passed _ ∙ counts-none own-counts in
+      = said-as line text 0 genes count scores splits (text-read line good o) ∙ passed-on n genes count (recordOf (clusters tree)) scores splits passed _ ∙ counts-none own-counts in
       c .reply ∙ rw said-none (ap (λ (a : Answer Tree). done (distanceOf n (recordsIn count genes) a)) (text-read line good o)) ∙ ap (λ (d : ℕ). done d) own-distance
 
 -- "always passed" (#114): whatever `write_counts` has written

@@ -1,3 +1,4 @@
 pub mod Promise
 pub mod Work
 pub mod Passes
+pub mod Without

@@ -26,7 +26,7 @@ use Rattle.reader.specs.declared.Reading.{Reading}
 use Rattle.reader.proofs.Accepts.{accepted-derives, derives-accepted}
 use Rattle.nodes.specs.Worth.{behindOf}
 use Rattle.branches.specs.Ends.{endsFrom, countIn}
-use Rattle.branches.proofs.DistanceValues.{count-as-distance}
+use Rattle.branches.proofs.Counts.{some-none}
 use Rattle.weights.specs.Count.{score}
 use Rattle.weights.specs.declared.Rooting.the-variants.{Rooted}
 use Rattle.writer.specs.Promise.{rosterTest}
@@ -43,8 +43,9 @@ use Rattle.counts.specs.Passes.{CallInOrder, DrawsBinary, CountRight, Passes}
 use Rattle.counts.proofs.CallFaults.{drawnTests}
 use Rattle.counts.proofs.Checking.{saidOf, wrongIn, said-as}
 use Rattle.counts.proofs.DrawnBinary.{read-as, drawn-species, drawn-beside}
-use Rattle.counts.proofs.FirstWrong.{some-none, none-wrong, all-right}
+use Rattle.counts.proofs.FirstWrong.{none-wrong, all-right}
 use Rattle.counts.proofs.Nearest.{yes-distance, yes-nearest, yes-tables}
+use Rattle.counts.proofs.PassedText.{passed-draws, passed-reads, passed-distances}
 use Rattle.counts.proofs.Yes.{says-yes}
 use Rattle.counts.proofs.Answered.{counts-zero}
 use Rattle.counts.proofs.CountedText.{write-counts-read}
@@ -179,17 +180,16 @@ module _ (line text : List ℕ) (start : ℕ) (genes : List ℕ) (count : ℕ) (
 
     -- a text that passes is, its counts read as distances, read to the record of its tree
     pub yes-counts-distances : (q : Reading) → Reads Species NoThreshold line text start q → CountsAsDistances line text start genes count q
-    unfolding Reads
     yes-counts-distances q reads =
-        let answered = read-as line text start own-tree in
-        let is = reads ∙ ap (readingOf NoThreshold start) answered in
+        let d = passed-draws line text start genes count scores splits c yes in
+        let is = passed-reads line text start genes count scores splits c yes q reads in
         record {
-          is-read = ap (λ (q : Reading). q .number) is;
-          tree = own-tree .tree;
-          rest = own-tree .rest;
-          draws = accepted-derives Species NoThreshold line text start answered .draws;
-          numbers = ap (λ (q : Reading). q .numbers) is;
-          distances = λ u m. count-as-distance u (passes .counts u m);
+          is-read = is .0;
+          tree = d .tree;
+          rest = d .rest;
+          draws = accepted-derives Species NoThreshold line text start (read-as line text start d) .draws;
+          numbers = is .1;
+          distances = passed-distances line text start genes count scores splits c yes d;
         }
 
 -- ---- what is written behind a node matters no further than its count

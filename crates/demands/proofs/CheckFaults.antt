@@ -127,10 +127,10 @@ module _ (line text : List ℕ) (start : ℕ) (genes : List ℕ) (count : ℕ) (
         exact-next _ (length-met splits (2 ^ n)) (λ p.
         exact-next _ (unresolved-met line text start draws) (λ b.
         exact-next _ (records-met n (few .1) (recordsIn count genes)) (λ v.
-        let passed = passed-of n genes count (2 ^ n) scores splits _ (few .0) (few .1) (calls-pass t c l s p b v) in
+        let passed = passed-of n genes count (recordOf (clusters t)) scores splits (few .0) (few .1) (calls-pass t c l s p b v) in
         counts-exact (wrongIn text start genes count t)
         (record { genes-in-order = passed .in-order; scores-fit = passed .scores-fit; splits-fit = passed .splits-fit })
-        (sym (said-as line text start genes count scores splits e ∙ passed-on n genes count (2 ^ n) scores splits _ passed _))))))))
+        (sym (said-as line text start genes count scores splits e ∙ passed-on n genes count (recordOf (clusters t)) scores splits passed _))))))))
 
   pub check-exact : Exact said (CheckFault line text start genes count scores splits)
   unfolding checkVerdict

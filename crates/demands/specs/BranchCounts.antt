@@ -4,7 +4,7 @@ use mathlib.Core.Path.{_≡_}
 use mathlib.Core.Logic.{_↔_}
 use mathlib.Core.Bool.{false}
 use mathlib.Core.Option.{Option, some}
-use mathlib.Core.List.{List, [], map, List·Memᴰ}
+use mathlib.Core.List.{List, map, List·Memᴰ}
 use lib.ListN.{length, getD, take}
 use Rattle.trees.specs.Tree.{Tree, cluster, clusters}
 use Rattle.trees.specs.Thinned.{allNodes}
@@ -44,7 +44,7 @@ pub record CountsWeighed (n : ℕ) (genes : List ℕ) (count : ℕ) (t : Tree) :
   pub each : (u : Tree) → List·Memᴰ u (allNodes t) → (w : Reply) → Weighs Rooted n genes count (cluster u) w → (w .number ≡ 0) × (countIn (behindOf u) ≡ some (w .value))
 
 -- what the reader makes of a text that passes, its counts read as distances (#114): the record of the tree that is drawn, whose nodes have the weights of their clusters
--- as distances, in thousandths, and no supports
+-- as distances, in thousandths
 pub record CountsAsDistances (line text : List ℕ) (start : ℕ) (genes : List ℕ) (count : ℕ) (q : Reading) : Type 0 where
   pub is-read : q .number ≡ 0
   pub tree : Tree
@@ -52,7 +52,7 @@ pub record CountsAsDistances (line text : List ℕ) (start : ℕ) (genes : List 
   pub draws : Draws Species NoThreshold line text start tree rest
   pub numbers : q .numbers ≡ recordOf (clusters tree)
   pub distances :
-      (u : Tree) → List·Memᴰ u (allNodes tree) → (distanceValue u ≡ Thousandths (1000 * weightIn genes count (cluster u))) × (behindOf u .support ≡ [])
+      (u : Tree) → List·Memᴰ u (allNodes tree) → distanceValue u ≡ Thousandths (1000 * weightIn genes count (cluster u))
 
 -- "With a yes goes the distance of its score above the least one over all clusters" (#114), by the calls that score and search
 pub record GoesWithYes (n : ℕ) (genes : List ℕ) (count : ℕ) (tree : List ℕ) (distance : ℕ) : Type 0 where

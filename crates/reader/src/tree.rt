@@ -123,7 +123,7 @@ fn recorded(
 }
 
 // The tree of the kind that begins at `start`, as `read` answers it, with its clusters at the front of `found`, in the order in which its nodes end.
-// `read` calls it, and a call that goes through the nodes of a text again.
+// `read` calls it, and `counts`, which goes through the nodes of the text again.
 pub fn read_into(
     kind: Kind,
     threshold: Threshold,

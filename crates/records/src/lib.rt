@@ -47,7 +47,7 @@ pub fn valid_gene(r: &[u16], n: usize) -> bool
     false
 }
 
-// Whether r has as many clusters as a binary tree on s. `lineages` asks it of 32 numbers.
+// Whether r has as many clusters as a binary tree on s. `lineages` and `counts` ask it of 32 numbers.
 pub fn binary(r: &[u16], s: u32) -> bool
     requires { ⌜ length (now r) ≡ 32 ⌝ }
     ensures { λ result. ⌜ Decides result (BinaryOn s (now (r .entry))) ⌝ }

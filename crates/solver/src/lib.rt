@@ -9,7 +9,7 @@ ghost use Rattle.trees.specs.Records.{recordsIn};
 ghost use Rattle.terms.specs.Allowed.{allowedFor};
 ghost use Rattle.solver.specs.Work.{Checked, Solves};
 
-// Fills both tables, and answers the tree that they choose for all species. `search` calls it, behind all its checks.
+// Fills both tables, and answers the tree that they choose for all species. `search` and `counts` call it, each behind all its checks.
 pub fn solve(
     rooting: Rooting,
     allowance: Allowance,

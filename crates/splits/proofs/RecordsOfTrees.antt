@@ -1,18 +1,18 @@
 -- The records of binary trees are the valid binary records, one for each tree, and a tree's score is its record's.
-use Prim.Native.Nat.{ℕ, _+_, _-_, _*_, _^_, _≤_, _<_, min, max}
+use Prim.Native.Nat.{ℕ, _+_, _-_, _*_, _^_, _≤_, _<_}
 use mathlib.Core.Path.{_≡_, refl, sym, ap, ap₂, _∙_, subst}
 use mathlib.Core.List.{List, [], _∷_, map, List·Memᴰ, List·Memᴰ·head as here}
-use native.Mathlib.Decide.{decLe}
 use native.Mathlib.Omega.{arith}
 use lib.ListN.{length}
 use Rattle.clusters.specs.Sets.{Within, whole, size, lowest}
 use Rattle.clusters.proofs.Members.{has-of-within, has-of-apart}
 use Rattle.clusters.proofs.Sets.{within-antisym, within-le, within-apart, apart-within, minus-apart}
-use Rattle.trees.specs.Lists.{Among, sorted, insert, total}
+use Rattle.trees.specs.Lists.{Among, total}
 use Rattle.trees.specs.Records.{count, listed, recordOf, ValidOn, BinaryOn}
 use Rattle.trees.specs.Tree.{Tree, clusters}
 use Rattle.trees.specs.Drawn.{drawn}
 use Rattle.trees.proofs.Bounds.{whole-below-sixteen}
+use Rattle.trees.proofs.Totals.{total-sorted}
 use Rattle.trees.proofs.Counts.{binary-of-clusters}
 use Rattle.trees.proofs.Recorded.{count-record, listed-record, record-same, among-record, record-among, valid-of-drawn}
 use Rattle.trees.proofs.Drawing.{drawn-on, drawn-record}
@@ -147,21 +147,6 @@ tree-of-record {s} {r} l v b =
     record { tree = lowTree d; on = low; recorded = same; only = λ u w k. same-record-same-tree low w (same ∙ sym k) }
 
 -- ---- the score of a tree is the score of its record
-
-total-insert : (w : ℕ → ℕ) (x : ℕ) (l : List ℕ) → total (map w (insert x l)) ≡ w x + total (map w l)
-unfolding total insert
-total-insert w x [] = refl
-total-insert w x (y ∷ l) = go (decLe x y) (total-insert w (max x y) l)
-  where
-    go : Dec (x ≤ y) → total (map w (insert (max x y) l)) ≡ w (max x y) + total (map w l)
-        → w (min x y) + total (map w (insert (max x y) l)) ≡ w x + (w y + total (map w l))
-    go (yes h) ih = omega (arith, ap w {x = min x y} {y = x} (omega arith), ap w {x = max x y} {y = y} (omega arith))
-    go (no h) ih = omega (arith, ap w {x = min x y} {y = y} (omega (arith, h)), ap w {x = max x y} {y = x} (omega (arith, h)))
-
-total-sorted : (w : ℕ → ℕ) (l : List ℕ) → total (map w (sorted l)) ≡ total (map w l)
-unfolding total sorted
-total-sorted w [] = refl
-total-sorted w (x ∷ l) = total-insert w x (sorted l) ∙ ap (λ n. w x + n) (total-sorted w l)
 
 pub score-of-record : (rooting : Rooting) (genes : List (List ℕ)) (t : Binary) → score rooting genes (recordOf (clustersIn t)) ≡ scoreOf (weight rooting genes) t
 unfolding score scoreOf
