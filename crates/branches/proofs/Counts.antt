@@ -85,18 +85,21 @@ count-value d is =
 pub some-none : {a : ℕ} → _≡_ {A = Option ℕ} (some a) none → ⊥
 some-none e = let z : _≡_ {A = ℕ} 0 1 = cc in omega arith
 
+-- where a node has a count, it is written in digits, and no second number stands behind it
+pub counted-as : (t : Bool) (d b : List ℕ) {n : ℕ} → countBy t d b ≡ some n → (t ≡ true) × (b ≡ []) × (written d ≡ n)
+counted-as true d [] {n} e =
+    let same : written d ≡ n = cc in
+    (refl, refl, same)
+counted-as true d (x ∷ b) e = absurd (some-none (sym e))
+counted-as false d b e = absurd (some-none (sym e))
+
 -- a count is so many whole thousandths, as every number that is read (#113)
 pub counted-value : (b : Behind) (w : ℕ) → countIn b ≡ some w → thousandths (b .distance) ≡ Thousandths (1000 * w)
 unfolding countIn
-counted-value b w is = by (isCount (b .distance)) refl (b .support) is
-  where
-    by : (t : Bool) → isCount (b .distance) ≡ t → (l : List ℕ) → countBy t (b .distance) l ≡ some w → thousandths (b .distance) ≡ Thousandths (1000 * w)
-    by true digits [] e =
-        let c = count-digits (b .distance) digits in
-        let same : written (b .distance) ≡ w = cc in
-        whole-value (b .distance) (c .all) (c .some-byte) ∙ ap (λ (n : ℕ). Thousandths (1000 * n)) same
-    by true digits (x ∷ l) e = absurd (some-none (sym e))
-    by false digits l e = absurd (some-none (sym e))
+counted-value b w is =
+    let h = counted-as (isCount (b .distance)) (b .distance) (b .support) is in
+    let c = count-digits (b .distance) (h .0) in
+    whole-value (b .distance) (c .all) (c .some-byte) ∙ ap (λ (n : ℕ). Thousandths (1000 * n)) (h .2)
 
 -- ---- which numbers are counts
 

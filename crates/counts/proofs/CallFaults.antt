@@ -21,7 +21,8 @@ use Rattle.lineages.specs.Work.{shapeTests, genesTests, said, GenesJudged}
 use Rattle.lineages.proofs.Calls.{refused-reply}
 use Rattle.lineages.proofs.FirstBad.{none-bad, all-valid-none-bad, none-unresolved}
 use Rattle.lineages.proofs.Verdicts.{verdict-first, verdict-passed, shape-passed}
-use Rattle.counts.specs.Work.{treeTest, callTests, CallJudged}
+use Rattle.counts.specs.Promise.{treeTest}
+use Rattle.counts.specs.Work.{callTests, CallJudged}
 
 -- what is judged after the shape
 callRest : ℕ → List ℕ → ℕ → ℕ → List ℕ → List ℕ → Bool → List Test

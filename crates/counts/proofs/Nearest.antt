@@ -21,7 +21,8 @@ use Rattle.search.specs.Promise.{Finds}
 use Rattle.search.proofs.Demand.{finds-once}
 use Rattle.search.proofs.EveryCluster.{every-finds}
 use Rattle.search.proofs.Finding.{refused-kept}
-use Rattle.counts.specs.Promise.{everyCluster, leastScore, distance, Checks}
+use Rattle.terms.specs.Allowed.{everyCluster}
+use Rattle.counts.specs.Promise.{leastScore, distance, Checks}
 use Rattle.counts.specs.Passes.{DrawsBinary}
 use Rattle.counts.proofs.Checking.{saidOf}
 use Rattle.counts.proofs.DrawnBinary.{read-as, drawn-species}

@@ -1,7 +1,7 @@
 -- What the parts of `check` and `write_counts` ask of one another.
 use Prim.Native.Nat.{ℕ, _-_, _*_, _^_, _≤_}
 use mathlib.Core.Path.{_≡_}
-use mathlib.Core.Bool.{Bool, true, false, not}
+use mathlib.Core.Bool.{Bool, true, false}
 use mathlib.Core.Option.{Option, some, none}
 use mathlib.Core.List.{List, [], _∷_}
 use lib.ListN.{length, getD, take, drop}
@@ -14,9 +14,10 @@ use Rattle.branches.specs.Ends.{endsFrom}
 use Rattle.weights.specs.Count.{weight, score}
 use Rattle.weights.specs.declared.Rooting.the-variants.{Rooted}
 use Rattle.lineages.specs.Checks.{countTest, recordsTest}
+use Rattle.terms.specs.Allowed.{everyCluster}
 use Rattle.splits.specs.Least.{scoreEntry, splitEntry, filled}
 use Rattle.splits.specs.Best.{bestFor}
-use Rattle.counts.specs.Promise.{weightIn, everyCluster, leastScore, isRight, firstWrong, countsTest}
+use Rattle.counts.specs.Promise.{weightIn, leastScore, isRight, firstWrong, treeTest, countsTest}
 
 -- the count of a node, where it has one
 abbrev pub given : Bool → ℕ → Option ℕ
@@ -35,10 +36,6 @@ AllEnd m text start = length (endsFrom m (drop start text) start) ≡ m
 unfoldable pub CountsJudged : List ℕ → ℕ → List ℕ → ℕ → List ℕ → ℕ → Reply → Type 0
 CountsJudged text start genes count found m r =
     r ≡ replyOf (verdict (countsTest (firstWrong (weightIn genes count) (take m found) (endsFrom m (drop start text) start)) ∷ [])) 0
-
--- "16", of a tree that is binary or not
-abbrev pub treeTest : Bool → Test
-treeTest two = record { fault = not two; number = 16; place = 0 }
 
 -- 11, 12, 16 and 15, with so many entries for each table
 unfoldable pub callTests : ℕ → List ℕ → ℕ → ℕ → List ℕ → List ℕ → Bool → List Test

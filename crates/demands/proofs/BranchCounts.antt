@@ -1,8 +1,9 @@
 -- Trees that come with branch counts (#114): when `check` says yes, what goes with a yes, and that what `write_counts` writes is always passed.
-use Prim.Native.Nat.{ℕ, _+_, _^_, _≤_}
+use Prim.Native.Nat.{ℕ, _+_, _-_, _^_, _≤_}
 use mathlib.Core.Path.{_≡_, refl, sym, ap, ap₂, _∙_, subst}
 use mathlib.Core.Logic.{_⊎_, inl, inr, _↔_}
-use mathlib.Core.Option.{Option, some}
+use mathlib.Core.Bool.{Bool, true, false}
+use mathlib.Core.Option.{Option, some, none}
 use mathlib.Core.List.{List, [], _∷_, _++_, map, map-map, List·Memᴰ, List·Memᴰ·head as here, List·Memᴰ·tail as there, List·Memᴰ·not-nil, List·Memᴰ·cases-cons, Memᴰ·map}
 use native.Mathlib.Omega.{arith}
 use lib.ListN.{length, take, drop, length-replicate, getD-replicate}
@@ -14,15 +15,18 @@ use Rattle.trees.specs.Records.{recordOf, recordsIn}
 use Rattle.trees.proofs.LostNodes.{nodes-clusters}
 use Rattle.trees.proofs.Recorded.{record-among}
 use Rattle.roster.specs.Roster.{names}
+use Rattle.roster.specs.Verdict.{Test, Verdict, verdictBy, verdict, valueBy}
 use Rattle.roster.specs.declared.Reply.{Reply}
+use Rattle.tokens.specs.Answers.{Answer}
 use Rattle.tokens.specs.declared.answer.Threshold.the-variants.{NoThreshold}
 use Rattle.reader.specs.Accepted.{Draws}
-use Rattle.reader.specs.Promise.{Reads, readingOf}
+use Rattle.reader.specs.Promise.{Reads, readingOf, answerTo}
 use Rattle.reader.specs.declared.Kind.the-variants.{Species}
 use Rattle.reader.specs.declared.Reading.{Reading}
-use Rattle.reader.proofs.Accepts.{derives-accepted}
+use Rattle.reader.proofs.Accepts.{accepted-derives, derives-accepted}
 use Rattle.nodes.specs.Worth.{behindOf}
-use Rattle.branches.specs.Ends.{countIn}
+use Rattle.branches.specs.Ends.{endsFrom, countIn}
+use Rattle.branches.proofs.Counts.{some-none}
 use Rattle.weights.specs.Count.{score}
 use Rattle.weights.specs.declared.Rooting.the-variants.{Rooted}
 use Rattle.writer.specs.Promise.{rosterTest}
@@ -33,15 +37,20 @@ use Rattle.search.proofs.EveryCluster.{all-compete}
 use Rattle.search.proofs.Unread.{same-outcome}
 use Rattle.terms.proofs.AllMarked.{all-judged}
 use Rattle.terms.specs.declared.Found.{Found}
-use Rattle.counts.specs.Promise.{weightIn, everyCluster, leastScore, Checks, countsText, WritesCounts}
+use Rattle.terms.specs.Allowed.{everyCluster}
+use Rattle.counts.specs.Promise.{weightIn, leastScore, distance, distanceOf, firstWrong, countsTest, Checks, countsText, WritesCounts}
 use Rattle.counts.specs.Passes.{CallInOrder, DrawsBinary, CountRight, Passes}
-use Rattle.counts.proofs.DrawnBinary.{read-as, drawn-species}
-use Rattle.counts.proofs.Nearest.{drawnScore, yes-distance, yes-nearest, yes-tables}
+use Rattle.counts.proofs.CallFaults.{drawnTests}
+use Rattle.counts.proofs.Checking.{saidOf, wrongIn, said-as}
+use Rattle.counts.proofs.DrawnBinary.{read-as, drawn-species, drawn-beside}
+use Rattle.counts.proofs.FirstWrong.{none-wrong, all-right}
+use Rattle.counts.proofs.Nearest.{yes-distance, yes-nearest, yes-tables}
+use Rattle.counts.proofs.PassedText.{passed-draws, passed-reads, passed-distances}
 use Rattle.counts.proofs.Yes.{says-yes}
 use Rattle.counts.proofs.Answered.{counts-zero}
 use Rattle.counts.proofs.CountedText.{write-counts-read}
 use Rattle.counts.proofs.WrittenPasses.{always-passed}
-use Rattle.demands.specs.BranchCounts.{OverAllClusters, countsOf, CountsWeighed, GoesWithYes, CountsWritable}
+use Rattle.demands.specs.BranchCounts.{OverAllClusters, countsOf, CountsWeighed, CountsAsDistances, GoesWithYes, CountsWritable}
 use Rattle.demands.specs.CallFaults.{SpeciesRecordFault, WriteCountsFault}
 use Rattle.demands.specs.CallFaults.SpeciesRecordFault.{not-valid-or-binary}
 use Rattle.demands.specs.Lots.{Searched}
@@ -169,6 +178,20 @@ module _ (line text : List ℕ) (start : ℕ) (genes : List ℕ) (count : ℕ) (
             let z = weighed-exactly Rooted n genes count (cluster u) w weighs .1 (record { in-order = order .genes-in-order; cluster = (inside .0, below-of-within n (inside .1)) }) in
             (z, passes .counts u m ∙ ap (λ (x : ℕ). some x) (sym (weighed-value Rooted n genes count (cluster u) w weighs z)))
 
+    -- a text that passes is, its counts read as distances, read to the record of its tree
+    pub yes-counts-distances : (q : Reading) → Reads Species NoThreshold line text start q → CountsAsDistances line text start genes count q
+    yes-counts-distances q reads =
+        let d = passed-draws line text start genes count scores splits c yes in
+        let is = passed-reads line text start genes count scores splits c yes q reads in
+        record {
+          is-read = is .0;
+          tree = d .tree;
+          rest = d .rest;
+          draws = accepted-derives Species NoThreshold line text start (read-as line text start d) .draws;
+          numbers = is .1;
+          distances = passed-distances line text start genes count scores splits c yes d;
+        }
+
 -- ---- what is written behind a node matters no further than its count
 
 module _ (f g : Tree → Option ℕ) where
@@ -199,36 +222,68 @@ right-exactly genes count t =
     = sym (map-map (λ (a : ℕ). some (weightIn genes count a)) cluster (allNodes t)) ∙ ap (map (λ (a : ℕ). some (weightIn genes count a))) (nodes-clusters t) in
     (λ right. each-agrees own due (allNodes t) right ∙ weighed, λ same. agree-each own due (allNodes t) (same ∙ sym weighed))
 
--- where a text is passed, so is another that draws the same clusters with the same counts
-passed-too :
-    {line text text′ : List ℕ} {start start′ : ℕ} {genes : List ℕ} {count : ℕ} {scores splits : List ℕ} {r r′ : Reply} {s p s′ p′ : List ℕ}
-    → Checks line text start genes count scores splits r s p → Checks line text′ start′ genes count scores splits r′ s′ p′
-    → (d : DrawsBinary line text start) (d′ : DrawsBinary line text′ start′) → clusters (d .tree) ≡ clusters (d′ .tree) → countsOf (d .tree) ≡ countsOf (d′ .tree)
-    → r .number ≡ 0 → r′ .number ≡ 0
-passed-too {line} {text} {text′} {start} {start′} {genes} {count} {scores} {splits} c c′ d d′ same counts z =
-    let own = yes-exactly-when line text start genes count scores splits c .0 z in
-    let answered = sym (read-as line text start (own .0 .draws)) ∙ read-as line text start d in
-    let tree : own .0 .draws .tree ≡ d .tree = cc in
-    let due : List ℕ → List (Option ℕ) = map (λ (a : ℕ). some (weightIn genes count a)) in
-    let right : countsOf (d .tree) ≡ due (clusters (d .tree)) = rw tree at (right-exactly genes count (own .0 .draws .tree) .0 (own .0 .counts)) in
-    let right′ : countsOf (d′ .tree) ≡ due (clusters (d′ .tree)) = sym counts ∙ right ∙ ap due same in
-    yes-exactly-when line text′ start′ genes count scores splits c′ .1 (record { draws = d′; counts = right-exactly genes count (d′ .tree) .1 right′ }, own .1)
+-- so no count of a drawn tree is wrong exactly then
+none-wrong-exactly :
+    {line text : List ℕ} {start : ℕ} (genes : List ℕ) (count : ℕ) (d : DrawsBinary line text start)
+    → (wrongIn text start genes count (d .tree) ≡ none) ↔ (countsOf (d .tree) ≡ map (λ (a : ℕ). some (weightIn genes count a)) (clusters (d .tree)))
+none-wrong-exactly {line} {text} {start} genes count d =
+    let w = weightIn genes count in
+    let ends = endsFrom (length (clusters (d .tree))) (drop start text) start in
+    let beside = drawn-beside line text start d in
+    let all = nodes-clusters (d .tree) in
+    let exactly = right-exactly genes count (d .tree) in (
+      λ z. exactly .0 (none-wrong w beside (subst (λ (l : List ℕ). firstWrong w l ends ≡ none) (sym all) z)),
+      λ same. subst (λ (l : List ℕ). firstWrong w l ends ≡ none) all (all-right w beside (exactly .1 same)),
+    )
+
+-- behind the same tests, the counts of two texts lead to one number where in both or in neither one is wrong
+same-number :
+    (l : List Test) (o o′ : Option ℕ) → ((o ≡ none) ↔ (o′ ≡ none)) → verdict (l ++ (countsTest o ∷ [])) .number ≡ verdict (l ++ (countsTest o′ ∷ [])) .number
+unfolding verdict
+same-number [] (some p) (some q) h = refl
+same-number [] (some p) none h = absurd (some-none (h .1 refl))
+same-number [] none (some q) h = absurd (some-none (h .0 refl))
+same-number [] none none h = refl
+same-number (t ∷ l) o o′ h = go (t .fault) (same-number l o o′ h)
+  where
+    go : (b : Bool) → verdict (l ++ (countsTest o ∷ [])) .number ≡ verdict (l ++ (countsTest o′ ∷ [])) .number
+        → verdictBy b t (verdict (l ++ (countsTest o ∷ []))) .number ≡ verdictBy b t (verdict (l ++ (countsTest o′ ∷ []))) .number
+    go true e = refl
+    go false e = e
 
 -- "zeros in front change nothing" (#114), nor do blanks or the names of inner nodes: of two texts that draw the same clusters with the same counts
--- both are passed, with one distance, or neither
+-- one number is said, with one distance, and both tables are filled alike; the place of 23 is one of the text
 pub only-counts-matter :
     (line text text′ : List ℕ) (start start′ : ℕ) (genes : List ℕ) (count : ℕ) (scores splits : List ℕ) (r r′ : Reply) (s p s′ p′ : List ℕ)
     → Checks line text start genes count scores splits r s p → Checks line text′ start′ genes count scores splits r′ s′ p′
     → (d : DrawsBinary line text start) (d′ : DrawsBinary line text′ start′) → clusters (d .tree) ≡ clusters (d′ .tree) → countsOf (d .tree) ≡ countsOf (d′ .tree)
-    → ((r .number ≡ 0) ↔ (r′ .number ≡ 0)) × (r .number ≡ 0 → r .value ≡ r′ .value)
-only-counts-matter line text text′ start start′ genes count scores splits r r′ s p s′ p′ c c′ d d′ same counts = (
-  (passed-too c c′ d d′ same counts, passed-too c′ c d′ d (sym same) (sym counts)),
-  λ z.
-      let far = yes-distance line text start genes count scores splits c z d in
-      let far′ = yes-distance line text′ start′ genes count scores splits c′ (passed-too c c′ d d′ same counts z) d′ in
-      let scores : drawnScore genes count d ≡ drawnScore genes count d′ = ap (λ (l : List ℕ). score Rooted (recordsIn count genes) (recordOf l)) same in
-      omega (arith, far, far′, scores),
-)
+    → (r .number ≡ r′ .number) × (r .value ≡ r′ .value) × (s ≡ s′) × (p ≡ p′)
+unfolding distance
+only-counts-matter line text text′ start start′ genes count scores splits r r′ s p s′ p′ c c′ d d′ same counts =
+    let n = length (names line) in
+    let recs = recordsIn count genes in
+    let due : List ℕ → List (Option ℕ) = map (λ (a : ℕ). some (weightIn genes count a)) in
+    let own = none-wrong-exactly genes count d in
+    let other = none-wrong-exactly genes count d′ in
+    let wrong = wrongIn text start genes count (d .tree) in
+    let wrong′ = wrongIn text′ start′ genes count (d′ .tree) in
+    let answered = read-as line text start d in
+    let answered′ = read-as line text′ start′ d′ in
+    let said : saidOf line text start genes count scores splits .number ≡ saidOf line text′ start′ genes count scores splits .number
+    = ap (λ (v : Verdict). v .number) (said-as line text start genes count scores splits answered)
+    ∙ ap (λ (l : List ℕ). verdict (drawnTests n genes count (recordOf l) scores splits ++ (countsTest wrong ∷ [])) .number) same
+    ∙ same-number (drawnTests n genes count (recordOf (clusters (d′ .tree))) scores splits) wrong wrong′
+    (λ z. other .1 (sym counts ∙ own .0 z ∙ ap due same), λ z. own .1 (counts ∙ other .0 z ∙ ap due (sym same)))
+    ∙ sym (ap (λ (v : Verdict). v .number) (said-as line text′ start′ genes count scores splits answered′)) in
+    let far : distanceOf n recs (answerTo Species NoThreshold line text start) ≡ distanceOf n recs (answerTo Species NoThreshold line text′ start′)
+    = ap (λ (a : Answer Tree). distanceOf n recs a) answered
+    ∙ ap (λ (l : List ℕ). score Rooted recs (recordOf l) - leastScore n recs) same
+    ∙ sym (ap (λ (a : Answer Tree). distanceOf n recs a) answered′) in (
+      ap (λ (r : Reply). r .number) (c .reply) ∙ said ∙ sym (ap (λ (r : Reply). r .number) (c′ .reply)),
+      ap (λ (r : Reply). r .value) (c .reply) ∙ ap₂ valueBy said far ∙ sym (ap (λ (r : Reply). r .value) (c′ .reply)),
+      c .scoreTable ∙ rw said (sym (c′ .scoreTable)),
+      c .splitTable ∙ rw said (sym (c′ .splitTable)),
+    )
 
 -- ---- the writer with counts
 

@@ -32,8 +32,8 @@ use Rattle.branches.specs.Ends.{endsFrom}
 use Rattle.lineages.specs.Checks.{countTest, recordsTest}
 use Rattle.counts.specs.Promise.{drawnTest, countsTest, checkTests, checkVerdict, Checks}
 use Rattle.counts.specs.Passes.{CallInOrder, FirstFault}
-use Rattle.counts.specs.Work.{binaryTest, callTests}
-use Rattle.counts.proofs.CallFaults.{passed-of, passed-on}
+use Rattle.counts.specs.Work.{callTests}
+use Rattle.counts.proofs.CallFaults.{drawnTests, passed-of, passed-on}
 use Rattle.counts.proofs.Checking.{saidOf, wrongIn, said-as}
 use Rattle.counts.proofs.Yes.{says-which}
 use Rattle.demands.specs.CheckFaults.{UnresolvedFault, CountsFault, BehindReading, CheckFault}
@@ -107,8 +107,8 @@ module _ (line text : List ℕ) (start : ℕ) (genes : List ℕ) (count : ℕ) (
   calls-pass :
       (t : Tree) → countTest count .fault ≡ false → lengthTest (length genes) (32 * count) .fault ≡ false → lengthTest (length scores) (2 ^ n) .fault ≡ false
       → lengthTest (length splits) (2 ^ n) .fault ≡ false → drawnTest n t .fault ≡ false → recordsTest n (recordsIn count genes) .fault ≡ false
-      → verdict (callTests n genes count (recordOf (clusters t)) scores splits) .number ≡ 0
-  unfolding callTests binaryTest drawnTest verdict
+      → verdict (drawnTests n genes count (recordOf (clusters t)) scores splits) .number ≡ 0
+  unfolding callTests drawnTest verdict
   calls-pass t c l s p b v = rw (c, l, s, p, b, v)
 
   module _ {t : Tree} {rest : List ℕ} {next : ℕ} (e : answerTo Species NoThreshold line text start ≡ parsed t rest next) where

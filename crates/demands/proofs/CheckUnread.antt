@@ -30,7 +30,8 @@ use Rattle.weights.specs.declared.Rooting.the-variants.{Rooted}
 use Rattle.terms.proofs.AllMarked.{all-judged}
 use Rattle.search.specs.Candidates.{SameTable}
 use Rattle.search.proofs.Unread.{both-fit}
-use Rattle.counts.specs.Promise.{weightIn, everyCluster, checkTests, checkVerdict, distanceOf, Checks, countsText, writeCountsTests, WritesCounts}
+use Rattle.terms.specs.Allowed.{everyCluster}
+use Rattle.counts.specs.Promise.{weightIn, checkTests, checkVerdict, distanceOf, Checks, countsText, writeCountsTests, WritesCounts}
 use Rattle.counts.proofs.Checking.{nodes-many}
 use Rattle.counts.proofs.Nearest.{yes-tables}
 use Rattle.demands.specs.BranchCounts.{OverAllClusters}

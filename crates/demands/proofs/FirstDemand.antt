@@ -36,7 +36,7 @@ use Rattle.lineages.specs.Promise.{Weighs, Scores, Marks, markedBy}
 use Rattle.lineages.proofs.Verdicts.{NoneGives}
 use Rattle.splits.specs.BinaryTrees.{Binary}
 use Rattle.splits.specs.Least.{scoreEntry, splitEntry}
-use Rattle.terms.specs.Allowed.{allowedTest}
+use Rattle.terms.specs.Allowed.{allowedTest, everyCluster}
 use Rattle.sheet.specs.Promise.{sheetTests, entryFor, entriesBy, Sheets}
 use Rattle.sheet.specs.declared.Entry.{Entry}
 use Rattle.sheet.proofs.Entries.{none-altered}
@@ -50,7 +50,7 @@ use Rattle.search.specs.declared.tied.Tied.{Tied}
 use Rattle.search.proofs.Accepted.{none-gives}
 use Rattle.search.proofs.Tying.{tests-passed}
 use Rattle.search.proofs.Ties.{is-a-search, some-tie-exactly}
-use Rattle.counts.specs.Promise.{everyCluster, distance, drawnTest, countsTest, checkTests, checkVerdict, distanceOf, Checks, countsText, writeCountsTests, WritesCounts}
+use Rattle.counts.specs.Promise.{distance, drawnTest, countsTest, checkTests, checkVerdict, distanceOf, Checks, countsText, writeCountsTests, WritesCounts}
 use Rattle.counts.proofs.Checking.{saidOf, wrongIn}
 use Rattle.counts.proofs.Nearest.{refusal-keeps}
 use Rattle.report.specs.Promise.{output, Reports}
