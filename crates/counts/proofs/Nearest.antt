@@ -84,7 +84,7 @@ module _ (line text : List ℕ) (start : ℕ) (genes : List ℕ) (count : ℕ) (
         let far = distances {numbers = []} _ one most solved refl in (
           c .scoreTable ∙ rw said-nothing (sym (far .scoreTable) ∙ same .1),
           c .splitTable ∙ rw said-nothing (sym (far .splitTable) ∙ same .2),
-          sym (ap (λ (f : Found). f .score) (same .0)) ∙ solved-least one most solved,
+          sym (ap (λ (f : Found). f .score) (same .0)) ∙ solved-least (recordsIn count genes) one most solved,
         )
 
   -- ---- a refusal

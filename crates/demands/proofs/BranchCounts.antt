@@ -173,7 +173,7 @@ module _ (line text : List ℕ) (start : ℕ) (genes : List ℕ) (count : ℕ) (
         each : (u : Tree) → List·Memᴰ u (allNodes (own-tree .tree)) → (w : Reply) → Weighs Rooted n genes count (cluster u) w
             → (w .number ≡ 0) × (countIn (behindOf u) ≡ some (w .value))
         each u m w weighs =
-            let listed = record-among (clusters (own-tree .tree)) (subst (λ (l : List ℕ). Among (cluster u) l) (nodes-clusters (own-tree .tree)) (Memᴰ·map cluster m)) in
+            let listed = record-among 16 (clusters (own-tree .tree)) (subst (λ (l : List ℕ). Among (cluster u) l) (nodes-clusters (own-tree .tree)) (Memᴰ·map cluster m)) in
             let inside = own-species .valid .inside (cluster u) listed in
             let z = weighed-exactly Rooted n genes count (cluster u) w weighs .1 (record { in-order = order .genes-in-order; cluster = (inside .0, below-of-within n (inside .1)) }) in
             (z, passes .counts u m ∙ ap (λ (x : ℕ). some x) (sym (weighed-value Rooted n genes count (cluster u) w weighs z)))

@@ -49,7 +49,7 @@ use Rattle.demands.proofs.FirstDemand.{replies-check}
 -- the test of the drawn tree's record tells whether the tree is binary
 binary-told : {s : ℕ} {t : Tree} → On s t → Tells (binary s (recordOf (clusters t))) (Binary t)
 binary-told {s} {t} on =
-    tells-also (λ b. binary-of-clusters on (rw (count-record (clusters t)) at b)) (λ b. rw (count-record (clusters t)) (clusters-of-binary on b))
+    tells-also (λ b. binary-of-clusters on (rw (count-record 16 (clusters t)) at b)) (λ b. rw (count-record 16 (clusters t)) (clusters-of-binary on b))
     (binary-decides s (recordOf (clusters t)))
 
 module _ (line text : List ℕ) (start : ℕ) {t : Tree} {rest : List ℕ} (d : Draws Species NoThreshold line text start t rest) where

@@ -11,9 +11,9 @@ use Rattle.labels.specs.Labels.{bareLetters, letters, lettersFrom, doubled, raw
 use Rattle.labels.specs.Writing.{labelOf, mayBeBare}
 use Rattle.trees.specs.Drawn.{properly, maximal, placed, byLowest, children, drawnTo, drawn}
 use Rattle.trees.specs.Lists.{upTo, keep, some, insert, sorted, pieces, total}
-use Rattle.trees.specs.Records.{recordOf}
+use Rattle.trees.specs.Records.{recordFor}
 use Rattle.trees.specs.Tree.{cluster, clusters}
-use Rattle.trees.specs.Valid.{every, among, rising, singlesFrom, nested, valid, validGene, binary}
+use Rattle.trees.specs.Valid.{every, among, rising, singlesFrom, nested, validFor, validGeneFor, binary}
 use Rattle.roster.specs.Roster.{same, position, inQuotes, begins, beginnings, nameAt, names, strayAt, longAt, manyAt, againAt, openAt, faultAt, least, firstFault, faulty}
 use Rattle.roster.specs.Verdict.{verdict, lengthTest}
 use Rattle.roster.specs.declared.Reply.{Reply}
@@ -21,7 +21,7 @@ use Rattle.tokens.specs.Tokens.{blanks, skip, number, numberBehind, numbers, na
 use Rattle.tokens.specs.Supports.{supported}
 use Rattle.tokens.specs.Values.{written as writes, writtenBehind}
 use Rattle.nodes.specs.Reading.{leafBy, closingBy, readTreeToBy, readTreeBy, readNodeBy}
-use Rattle.reader.specs.Promise.{answerTo}
+use Rattle.reader.specs.Promise.{answerWithin}
 use Rattle.branches.specs.Ends.{lead, nextEnd, endsFrom, isCount, countIn}
 use Rattle.printing.specs.Words.{digitsTo, decimal}
 use Rattle.texts.specs.Writing.{nodeWith, treeWith, writtenWith, written}
@@ -66,9 +66,9 @@ checks-computed :
 unfolding abc-line alike-text far-text ab-c ac-b lent distance leastScore checkVerdict checkTests drawnTest firstWrong ones onesIn trailingZeros whole single union
     has within apart size lowest run nextIs nextLabel
     bareLetters letters lettersFrom doubled rawTo told padded properly maximal placed byLowest children drawnTo drawn upTo keep some insert sorted pieces total
-    recordOf cluster clusters every among rising singlesFrom nested valid validGene binary same position inQuotes begins beginnings nameAt names strayAt longAt
+    recordFor cluster clusters every among rising singlesFrom nested validFor validGeneFor binary same position inQuotes begins beginnings nameAt names strayAt longAt
     manyAt againAt openAt faultAt least firstFault faulty verdict lengthTest blanks skip number numberBehind numbers name innerName supported writes writtenBehind
-    leafBy closingBy readTreeToBy readTreeBy readNodeBy answerTo lead nextEnd endsFrom isCount countIn kOf extra weight score countTest firstFailing recordsTest
+    leafBy closingBy readTreeToBy readTreeBy readNodeBy answerWithin lead nextEnd endsFrom isCount countIn kOf extra weight score countTest firstFailing recordsTest
     clustersIn isLow lows each forks treesTo treesOn those all scoreOf treesOver leastTrees best bestFor allowedIn
 checks-computed = (
   λ r s p c. (c .reply, ap (λ (l : List ℕ). getD l 0 0) (c .scoreTable), ap (λ (l : List ℕ). getD l 0 0) (c .splitTable)),
@@ -86,8 +86,8 @@ writes-computed :
 unfolding abc-line alike-text unlike-text plain-text ab-c ac-b room writeCountsTests rosterTest countTest lengthTest speciesRecordTest firstFailing recordsTest verdict
     countsText written writtenWith
     treeWith nodeWith digitsTo decimal labelOf mayBeBare ones onesIn trailingZeros whole single union has within apart size lowest run nextIs bareLetters letters
-    lettersFrom doubled rawTo told upTo keep some insert sorted pieces total properly maximal placed byLowest children drawnTo drawn recordOf cluster every among rising
-    singlesFrom nested valid validGene binary same position inQuotes begins beginnings nameAt names strayAt longAt manyAt againAt openAt faultAt least firstFault faulty
+    lettersFrom doubled rawTo told upTo keep some insert sorted pieces total properly maximal placed byLowest children drawnTo drawn recordFor cluster every among rising
+    singlesFrom nested validFor validGeneFor binary same position inQuotes begins beginnings nameAt names strayAt longAt manyAt againAt openAt faultAt least firstFault faulty
     kOf extra weight
 writes-computed = (λ r after w. (w .answer, w .bytes), λ r after w. (w .answer, w .bytes), refl)
 
@@ -98,11 +98,11 @@ unfolding abc-line every
 abc-handed = slice-told (2 ^ 8) abc-line refl (omega arith)
 
 alike-genes : Numbers (ab-c ++ ab-c)
-unfolding ab-c recordOf sorted insert every
+unfolding ab-c recordFor sorted insert every
 alike-genes = slice-told (2 ^ 16) (ab-c ++ ab-c) refl (omega arith)
 
 unlike-genes : Numbers (ab-c ++ ac-b)
-unfolding ab-c ac-b recordOf sorted insert every
+unfolding ab-c ac-b recordFor sorted insert every
 unlike-genes = slice-told (2 ^ 16) (ab-c ++ ac-b) refl (omega arith)
 
 alike-text-handed : Bytes alike-text
@@ -133,7 +133,7 @@ to-check-far : ToCheck abc-line far-text 0 (ab-c ++ ab-c) 2 lent lent
 to-check-far = to-check far-text (ab-c ++ ab-c) far-text-handed alike-genes
 
 to-write : (genes : List ℕ) → Numbers genes → ToWriteCounts abc-line genes 2 ab-c room
-unfolding ab-c room recordOf sorted insert every
+unfolding ab-c room recordFor sorted insert every
 to-write genes numbers = record {
   to-write = record {
     line-bytes = abc-handed;
@@ -210,7 +210,7 @@ module _ (f : List ℕ → List ℕ → ℕ → List ℕ → ℕ → List ℕ �
       ((line text : List ℕ) (start : ℕ) (genes genes′ : List ℕ) (count : ℕ) (scores splits : List ℕ) → ToCheck line text start genes count scores splits
       → ToCheck line text start genes′ count scores splits → take 32 genes ≡ take 32 genes′
       → f line text start genes count scores splits .number ≡ f line text start genes′ count scores splits .number) → ⊥
-  unfolding ab-c ac-b recordOf sorted insert
+  unfolding ab-c ac-b recordFor sorted insert
   check-counts-every-gene-tree first-only =
       let e = first-only abc-line alike-text 0 (ab-c ++ ab-c) (ab-c ++ ac-b) 2 lent lent to-check-alike to-check-unlike refl in
       omega (arith, e, alike-passed, ap (λ (r : Reply). r .number) checked-unlike)
@@ -262,7 +262,7 @@ module _ (f : List ℕ → List ℕ → ℕ → List ℕ → List ℕ → Reply)
       ((line genes genes′ : List ℕ) (count : ℕ) (species out : List ℕ) → ToWriteCounts line genes count species out → ToWriteCounts line genes′ count species out
       → take 32 genes ≡ take 32 genes′ → f line genes count species out .number ≡ 0 → f line genes′ count species out .number ≡ 0
       → after line genes count species out ≡ after line genes′ count species out) → ⊥
-  unfolding ab-c ac-b recordOf sorted insert alike-text unlike-text
+  unfolding ab-c ac-b recordFor sorted insert alike-text unlike-text
   write-counts-counts-every-gene-tree first-only =
       let e = first-only abc-line (ab-c ++ ab-c) (ab-c ++ ac-b) 2 ab-c room (to-write (ab-c ++ ab-c) alike-genes) (to-write (ab-c ++ ac-b) unlike-genes) refl
       alike-written (ap (λ (r : Reply). r .number) (written-unlike .0)) in
