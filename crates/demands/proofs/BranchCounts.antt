@@ -14,7 +14,8 @@ use Rattle.trees.specs.Thinned.{allNodes}
 use Rattle.trees.specs.Records.{recordOf, recordsIn}
 use Rattle.trees.proofs.LostNodes.{nodes-clusters}
 use Rattle.trees.proofs.Recorded.{record-among}
-use Rattle.roster.specs.Roster.{names}
+use Rattle.roster.specs.Roster.{names, faulty}
+use Rattle.roster.specs.Judged.{speciesMost}
 use Rattle.roster.specs.Verdict.{Test, Verdict, verdictBy, verdict, valueBy}
 use Rattle.roster.specs.declared.Reply.{Reply}
 use Rattle.tokens.specs.Answers.{Answer}
@@ -29,7 +30,7 @@ use Rattle.branches.specs.Ends.{endsFrom, countIn}
 use Rattle.branches.proofs.Counts.{some-none}
 use Rattle.weights.specs.Count.{score}
 use Rattle.weights.specs.declared.Rooting.the-variants.{Rooted}
-use Rattle.writer.specs.Promise.{rosterTest}
+use Rattle.writer.specs.Promise.{rosterTest, Writes}
 use Rattle.lineages.specs.Promise.{Weighs}
 use Rattle.search.specs.Candidates.{BinarySpecies, SameAllowed, SameTable}
 use Rattle.search.specs.Promise.{Finds}
@@ -48,7 +49,10 @@ use Rattle.counts.proofs.Nearest.{yes-distance, yes-nearest, yes-tables}
 use Rattle.counts.proofs.PassedText.{passed-draws, passed-reads, passed-distances}
 use Rattle.counts.proofs.Yes.{says-yes}
 use Rattle.counts.proofs.Answered.{counts-zero}
-use Rattle.counts.proofs.CountedText.{write-counts-read}
+use Rattle.counts.specs.Without.{withoutCounts}
+use Rattle.counts.proofs.TreesJudging.{TreesInOrder}
+use Rattle.counts.proofs.CountedText.{room-enough, written-most, write-counts-read}
+use Rattle.counts.proofs.CountsLeftOut.{without-counts-written}
 use Rattle.counts.proofs.WrittenPasses.{always-passed}
 use Rattle.demands.specs.BranchCounts.{OverAllClusters, countsOf, CountsWeighed, CountsAsDistances, GoesWithYes, CountsWritable}
 use Rattle.demands.specs.CallFaults.{SpeciesRecordFault, WriteCountsFault}
@@ -321,6 +325,23 @@ module _ (line genes : List ℕ) (count : ℕ) (species out : List ℕ) {r : Rep
       → (r .value ≡ length (countsText (names line) genes count species))
       × (after ≡ countsText (names line) genes count species ++ drop (length (countsText (names line) genes count species)) out)
   counts-written-bytes z = let t = counts-zero w z .stands in (t .value, t .bytes)
+
+  -- the text has at most 744 bytes
+  pub counts-written-most : r .number ≡ 0 → r .value ≤ 744
+  counts-written-most z = written-most w z
+
+  -- so with 744 bytes lent every species tree that can be scored is written
+  pub valid-is-written-with-counts :
+      faulty speciesMost line ≡ false → Scorable Rooted (length (names line)) genes count species → 744 ≤ length out → r .number ≡ 0
+  valid-is-written-with-counts good h room =
+      let o : TreesInOrder (length (names line)) genes count species = record { trees = h .in-order; tree = h .species-valid; binary = h .species-binary } in
+      ap (λ (r : Reply). r .number) (room-enough line good o room w)
+
+  -- and what was written is, its counts left out, what the writer writes of that record
+  pub without-its-counts :
+      (out′ : List ℕ) (q : Reply) (after′ : List ℕ) → Writes line species out′ q after′ → r .number ≡ 0 → q .number ≡ 0
+      → withoutCounts (take (r .value) after) ≡ take (q .value) after′
+  without-its-counts out′ q after′ plain z z′ = without-counts-written w z plain z′
 
 -- "Our writer gets a form with these counts, always passed" (#114): what was written is passed, and with that yes goes the distance of the record that was written
 pub written-passes :

@@ -10,7 +10,6 @@ use sorting::wide::record_of;
 use tokens::Threshold;
 
 // What reading a tree on individuals answers: number and place, the offset just after the tree's `;`, and the tree's wide record.
-#[repr(C)]
 pub struct WideReading {
     pub number: u32,
     pub place: usize,

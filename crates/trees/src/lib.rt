@@ -7,7 +7,6 @@ pub struct Record {
 }
 
 // The record of a tree on individuals, of which there are up to 32: the same, twice as long.
-#[repr(C)]
 pub struct WideRecord {
     pub numbers: [u32; 64],
 }
