@@ -22,7 +22,7 @@ pub fn check(line: &[u8], text: &[u8], start: usize, genes: &[u16], count: usize
     }
     let genes = records(Rooting::Rooted, n, genes, count)?;
     let weight = |a| weight_of(Rooting::Rooted, &genes, a);
-    if let Some(wrong) = nodes.iter().find(|node| count_of(node) != Some(weight(node.cluster))) {
+    if let Some(wrong) = nodes.iter().find(|node| count_of(node) != Some(weight(node.cluster as u16))) {
         return Err((23, wrong.behind));
     }
     fill(n, &weights(Rooting::Rooted, n, &genes), &vec![1; 1 << n], scores, splits);

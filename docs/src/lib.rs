@@ -10,6 +10,8 @@ pub mod roster;
 pub mod search;
 pub mod seeded;
 pub mod sheet;
+pub mod shelf;
+pub mod stand;
 pub mod trees;
 pub mod writer;
 
@@ -23,3 +25,7 @@ pub const TEXT: usize = 65_536;
 pub const NAME: usize = 15;
 pub const NUMBER: usize = 12;
 pub const OPEN: usize = 15;
+
+/// The limits of a stand (02, #110).
+pub const INDIVIDUALS: usize = 32;
+pub const OPEN_ON_A_STAND: usize = 31;

@@ -1,6 +1,6 @@
 //! The slow engine (02, #108): every binary tree on the species is drawn, those over allowed clusters are scored, at most seven species.
 use crate::lineages::{records, shape, weight_of, Rooting};
-use crate::search::trees_over;
+use crate::search::{trees_over, zeros_and_ones};
 use crate::trees::{record, Record};
 use crate::{Refusal, SPECIES};
 
@@ -19,9 +19,7 @@ pub fn plain(rooting: Rooting, n: usize, genes: &[u16], count: usize, allowed: &
     }
     shape(n, genes, count, &[allowed.len()])?;
     let genes = records(rooting, n, genes, count)?;
-    if let Some(index) = allowed[..1 << n].iter().position(|&b| b > 1) {
-        return Err((13, index));
-    }
+    zeros_and_ones(n, allowed)?;
     let mut best: Option<(usize, Vec<usize>)> = None;
     for tree in trees_over(n, allowed, (1 << n) - 1) {
         let score = tree.iter().map(|&a| weight_of(rooting, &genes, a as u16)).sum();

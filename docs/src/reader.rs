@@ -1,6 +1,6 @@
 //! Tree text read from the left, to a record or the first fault met.
 use crate::roster::names;
-use crate::trees::{record, whole, Record};
+use crate::trees::{first, record, Record};
 use crate::{label, Refusal, NUMBER, OPEN, TEXT};
 
 /// What a text is read as (02, #104): a species tree has every species, a gene tree may lack some.
@@ -23,7 +23,7 @@ pub fn thousandths(number: &[u8]) -> Option<usize> {
 
 /// A node as it was drawn, at its end: its cluster, the offset behind its name (a leaf's) or its closing parenthesis, and what stands behind it.
 pub struct Node {
-    pub cluster: u16,
+    pub cluster: u32,
     pub behind: usize,
     pub numbers: Numbers,
 }
@@ -36,13 +36,27 @@ pub struct Numbers {
     support: Option<usize>,
 }
 
+/// What a text is read by: the names that leaves may have, how many parentheses may be open at once, the kind, and the threshold where one is given.
+pub struct Rules<'a> {
+    pub names: &'a [Vec<u8>],
+    pub open: usize,
+    pub kind: Kind,
+    pub threshold: Threshold,
+}
+
+/// A tree as it was drawn: its nodes in the order in which they end, the clusters that it keeps of them, and the offset behind its `;`.
+pub struct Drawn {
+    pub nodes: Vec<Node>,
+    pub clusters: Vec<u32>,
+    pub next: usize,
+}
+
 struct Reader<'a> {
     text: &'a [u8],
     at: usize,
-    names: &'a [Vec<u8>],
-    threshold: Threshold,
+    rules: &'a Rules<'a>,
     seen: u32,
-    clusters: Vec<u16>,
+    clusters: Vec<u32>,
     nodes: Vec<Node>,
 }
 
@@ -127,14 +141,14 @@ impl Reader<'_> {
         self.next()?;
         let from = self.at;
         match self.number()? {
-            None if self.threshold.is_some() => Err((18, from)),
+            None if self.rules.threshold.is_some() => Err((18, from)),
             value => Ok(value),
         }
     }
 
     /// The support is strictly below the threshold.
     fn weak(&self, support: Option<usize>) -> bool {
-        matches!((support, self.threshold), (Some(b), Some(threshold)) if b < threshold)
+        matches!((support, self.rules.threshold), (Some(b), Some(threshold)) if b < threshold)
     }
 
     /// Takes a colon behind blanks, if one stands there.
@@ -149,10 +163,10 @@ impl Reader<'_> {
         false
     }
 
-    fn leaf(&mut self) -> Read<u16> {
+    fn leaf(&mut self) -> Read<u32> {
         let from = self.at;
         let name = self.label()?;
-        let Some(i) = self.names.iter().position(|known| *known == name) else {
+        let Some(i) = self.rules.names.iter().position(|known| *known == name) else {
             return Err((5, from));
         };
         if self.seen >> i & 1 == 1 {
@@ -162,12 +176,12 @@ impl Reader<'_> {
         Ok(1 << i)
     }
 
-    fn node(&mut self, open: usize) -> Read<u16> {
+    fn node(&mut self, open: usize) -> Read<u32> {
         let first = self.next()?;
         let (cluster, behind) = if label::begins(first) {
             (self.leaf()?, self.at)
         } else if first == b'(' {
-            if open == OPEN {
+            if open == self.rules.open {
                 return Err((8, self.at));
             }
             self.at += 1;
@@ -191,7 +205,7 @@ impl Reader<'_> {
     }
 
     /// The children, up to and with the `)`.
-    fn list(&mut self, open: usize) -> Read<u16> {
+    fn list(&mut self, open: usize) -> Read<u32> {
         let mut joined = self.node(open)?;
         let mut children = 1;
         loop {
@@ -220,19 +234,26 @@ pub fn read(kind: Kind, threshold: Threshold, line: &[u8], text: &[u8], start: u
 /// The same with the nodes as they were drawn, in the order in which they end.
 pub fn read_nodes(kind: Kind, threshold: Threshold, line: &[u8], text: &[u8], start: usize) -> Result<(Record, usize, Vec<Node>), Refusal> {
     let names = names(line)?;
+    let drawn = drawn(&Rules { names: &names, open: OPEN, kind, threshold }, text, start)?;
+    let clusters: Vec<u16> = drawn.clusters.iter().map(|&x| x as u16).collect();
+    Ok((record(&clusters), drawn.next, drawn.nodes))
+}
+
+/// The tree that begins at `start`, by rules whose roster is a good one.
+pub fn drawn(rules: &Rules, text: &[u8], start: usize) -> Result<Drawn, Refusal> {
     if text.len() > TEXT {
         return Err((2, TEXT));
     }
     if start > text.len() {
         return Err((10, text.len()));
     }
-    let mut reader = Reader { text, at: start, names: &names, threshold, seen: 0, clusters: Vec::new(), nodes: Vec::new() };
+    let mut reader = Reader { text, at: start, rules, seen: 0, clusters: Vec::new(), nodes: Vec::new() };
     let cluster = reader.node(0)?;
     if reader.next()? != b';' {
         return Err((3, reader.at));
     }
-    if kind == Kind::Species && cluster != whole(names.len()) {
+    if rules.kind == Kind::Species && cluster != first(rules.names.len()) {
         return Err((9, reader.at));
     }
-    Ok((record(&reader.clusters), reader.at + 1, reader.nodes))
+    Ok(Drawn { nodes: reader.nodes, clusters: reader.clusters, next: reader.at + 1 })
 }

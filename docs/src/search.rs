@@ -1,6 +1,6 @@
 //! The least species tree: brute force over all binary trees up to six species, and a plain dynamic program.
 use crate::lineages::{extra_by_pass, records, shape, weight_of, Rooting};
-use crate::trees::{record, Record};
+use crate::trees::{record, Mask, Record};
 use crate::Refusal;
 
 pub const NO_TREE: u32 = u32::MAX;
@@ -132,12 +132,18 @@ fn collect(splits: &[u16], a: usize, found: &mut Vec<u16>) {
 
 /// The weight of every cluster: by the definition up to six species, by passes over each gene tree above.
 pub fn weights(rooting: Rooting, n: usize, genes: &[Record]) -> Vec<u32> {
+    weights_on(rooting, n, genes, |a| a)
+}
+
+/// The same where the gene trees are on other things than species, of which each cluster has a set.
+pub fn weights_on<M: Mask, const LENGTH: usize>(rooting: Rooting, n: usize, genes: &[[M; LENGTH]], set_of: impl Fn(u16) -> M) -> Vec<u32> {
     let mut all = vec![0; 1 << n];
     for (a, w) in all.iter_mut().enumerate().skip(1) {
+        let set = set_of(a as u16);
         *w = if n <= 6 {
-            weight_of(rooting, genes, a as u16) as u32
+            weight_of(rooting, genes, set) as u32
         } else {
-            genes.iter().map(|gene| extra_by_pass(rooting, gene, a as u16) as u32).sum()
+            genes.iter().map(|gene| extra_by_pass(rooting, gene, set) as u32).sum()
         };
     }
     all
@@ -167,10 +173,16 @@ pub fn search_ties(
 fn checked(rooting: Rooting, n: usize, genes: &[u16], count: usize, allowed: &[u8], lent: &[usize]) -> Result<Vec<u32>, Refusal> {
     shape(n, genes, count, lent)?;
     let genes = records(rooting, n, genes, count)?;
-    if let Some(index) = allowed[..1 << n].iter().position(|&b| b > 1) {
-        return Err((13, index));
-    }
+    zeros_and_ones(n, allowed)?;
     Ok(weights(rooting, n, &genes))
+}
+
+/// 13 at the first allowed byte that is neither 0 nor 1.
+pub fn zeros_and_ones(n: usize, allowed: &[u8]) -> Result<(), Refusal> {
+    match allowed[..1 << n].iter().position(|&b| b > 1) {
+        Some(index) => Err((13, index)),
+        None => Ok(()),
+    }
 }
 
 pub fn fill(n: usize, weights: &[u32], allowed: &[u8], scores: &mut [u32], splits: &mut [u16]) {

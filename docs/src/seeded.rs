@@ -1,7 +1,8 @@
 //! Names, trees and texts from a seed: good ones, and damaged ones.
 use crate::label::{in_quotes, written};
-use crate::trees::{record, Record};
+use crate::trees::{first, record, wide_record, Mask, Record, WideRecord};
 use crate::NAME;
+use std::ops::BitXor;
 
 /// A drawn tree: a species, or children.
 #[derive(Clone)]
@@ -11,14 +12,14 @@ pub enum Tree {
 }
 
 impl Tree {
-    fn cluster(&self) -> u16 {
+    fn cluster(&self) -> u32 {
         match self {
             Tree::Leaf(i) => 1 << i,
             Tree::Node(children) => children.iter().fold(0, |a, t| a | t.cluster()),
         }
     }
 
-    fn clusters(&self, found: &mut Vec<u16>) {
+    fn clusters(&self, found: &mut Vec<u32>) {
         found.push(self.cluster());
         if let Tree::Node(children) = self {
             children.iter().for_each(|t| t.clusters(found));
@@ -28,7 +29,14 @@ impl Tree {
     pub fn record(&self) -> Record {
         let mut found = Vec::new();
         self.clusters(&mut found);
-        record(&found)
+        record(&found.into_iter().map(|x| x as u16).collect::<Vec<u16>>())
+    }
+
+    /// The record of a tree on individuals (#110).
+    pub fn wide_record(&self) -> WideRecord {
+        let mut found = Vec::new();
+        self.clusters(&mut found);
+        wide_record(&found)
     }
 }
 
@@ -68,6 +76,20 @@ const BARE: Style = Style { inner: BARE_INNER, behind: SOME_NUMBERS, numbers: &[
 const LABELLED: Style = Style { inner: INNER, behind: SOME_NUMBERS, numbers: &[] };
 const SUPPORTED: Style = Style { inner: SUPPORT_INNER, behind: MANY_SUPPORTS, numbers: SUPPORTS };
 const LONG_SUPPORTED: Style = Style { inner: SUPPORT_INNER, behind: MANY_SUPPORTS, numbers: LONG_SUPPORTS };
+
+/// The labels, colons, commas and line feeds of a mapping (#110), one after the other.
+pub fn mapping(species: &[Vec<u8>], individuals: &[Vec<u8>], groups: &[Vec<usize>]) -> Vec<Vec<u8>> {
+    let mut tokens = Vec::new();
+    for (label, group) in species.iter().zip(groups) {
+        tokens.push(label.clone());
+        for (k, &i) in group.iter().enumerate() {
+            tokens.push(if k == 0 { b":" } else { b"," }.to_vec());
+            tokens.push(individuals[i].clone());
+        }
+        tokens.push(b"\n".to_vec());
+    }
+    tokens
+}
 
 /// A source of numbers that a seed fixes.
 pub struct Seeded {
@@ -262,10 +284,21 @@ impl Seeded {
     }
 
     fn drawn_with(&mut self, species: Vec<usize>, labels: &[Vec<u8>], style: &Style) -> (Record, Vec<u8>) {
+        let (tree, text) = self.drawn_tree(species, labels, style);
+        (tree.record(), text)
+    }
+
+    /// The record of a tree on individuals (#110), and a text that draws it with labels of both forms.
+    pub fn drawn_wide(&mut self, individuals: Vec<usize>, labels: &[Vec<u8>]) -> (WideRecord, Vec<u8>) {
+        let (tree, text) = self.drawn_tree(individuals, labels, &LABELLED);
+        (tree.wide_record(), text)
+    }
+
+    fn drawn_tree(&mut self, species: Vec<usize>, labels: &[Vec<u8>], style: &Style) -> (Tree, Vec<u8>) {
         let binary = self.one_in(2);
         let tree = self.tree(species, binary);
         let text = self.text_with(&tree, labels, style);
-        (tree.record(), text)
+        (tree, text)
     }
 
     fn text_with(&mut self, tree: &Tree, labels: &[Vec<u8>], style: &Style) -> Vec<u8> {
@@ -325,13 +358,41 @@ impl Seeded {
         self.tree(kept, binary).record()
     }
 
-    pub fn spoiled(&mut self, mut r: Record) -> Record {
-        let (i, j) = (self.below(32), self.below(32));
+    /// The record of a tree on some of m individuals (#110).
+    pub fn wide_gene_on_kept(&mut self, m: usize, binary: bool) -> WideRecord {
+        let kept = self.kept(m);
+        self.tree(kept, binary).wide_record()
+    }
+
+    /// Which of m individuals each of n species has (#110), at least one each.
+    pub fn groups(&mut self, n: usize, m: usize) -> Vec<Vec<usize>> {
+        let mut order: Vec<usize> = (0..m).collect();
+        self.shuffle(&mut order);
+        let mut groups: Vec<Vec<usize>> = order[..n].iter().map(|&i| vec![i]).collect();
+        for &i in &order[n..] {
+            let species = self.below(n);
+            groups[species].push(i);
+        }
+        groups
+    }
+
+    pub fn spoiled(&mut self, r: Record) -> Record {
+        self.with_one_number_changed(r)
+    }
+
+    pub fn spoiled_wide(&mut self, r: WideRecord) -> WideRecord {
+        self.with_one_number_changed(r)
+    }
+
+    fn with_one_number_changed<M: Mask + BitXor<Output = M> + TryFrom<usize>, const LENGTH: usize>(&mut self, mut r: [M; LENGTH]) -> [M; LENGTH] {
+        let bits = LENGTH / 2;
+        let fitting = |x| M::try_from(x).ok().unwrap();
+        let (i, j) = (self.below(LENGTH), self.below(LENGTH));
         match self.below(5) {
             0 => r.swap(i, j),
-            1 => r[i] = self.below(65536) as u16,
-            2 => r[i] ^= 1 << self.below(16),
-            3 => r[0] = [0, 1, 31, 32, 65535][self.below(5)],
+            1 => r[i] = fitting(self.below(1 << bits)),
+            2 => r[i] = r[i] ^ M::from(1) << self.below(bits),
+            3 => r[0] = [fitting(0), fitting(1), fitting(LENGTH - 1), fitting(LENGTH), first(bits)][self.below(5)],
             _ => r[i] = r[j],
         }
         r

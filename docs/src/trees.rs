@@ -1,48 +1,77 @@
-//! Records of trees.
+//! Records of trees, of either width.
+use std::fmt::Debug;
+use std::ops::{BitAnd, BitOr, Not, Shl, Sub};
+
+/// A set of species as the ones of a number: sixteen bits, or the thirty-two that individuals take (02, #110).
+pub trait Mask:
+    Copy + Debug + Ord + From<u8> + Into<u32> + BitAnd<Output = Self> + BitOr<Output = Self> + Not<Output = Self> + Shl<usize, Output = Self> + Sub<Output = Self>
+{
+}
+
+impl Mask for u16 {}
+impl Mask for u32 {}
 
 pub type Record = [u16; 32];
 
+/// The record of a tree on individuals (02, #110).
+pub type WideRecord = [u32; 64];
+
 /// The record of a set of clusters.
 pub fn record(clusters: &[u16]) -> Record {
+    counted_and_sorted(clusters)
+}
+
+pub fn wide_record(clusters: &[u32]) -> WideRecord {
+    counted_and_sorted(clusters)
+}
+
+fn counted_and_sorted<M: Mask, const LENGTH: usize>(clusters: &[M]) -> [M; LENGTH] {
     let mut sorted = clusters.to_vec();
     sorted.sort();
-    let mut r = [0; 32];
-    r[0] = sorted.len() as u16;
+    let mut r = [M::from(0); LENGTH];
+    r[0] = M::from(sorted.len() as u8);
     r[1..=sorted.len()].copy_from_slice(&sorted);
     r
 }
 
-pub fn clusters(r: &Record) -> &[u16] {
-    &r[1..=r[0] as usize]
+/// The count that a record begins with, whether it has so many clusters or not.
+fn count<M: Mask>(r: &[M]) -> usize {
+    let m: u32 = r[0].into();
+    m as usize
+}
+
+pub fn clusters<M: Mask>(r: &[M]) -> &[M] {
+    &r[1..=count(r)]
+}
+
+/// The set of the first n.
+pub fn first<M: Mask>(n: usize) -> M {
+    (0..n).fold(M::from(0), |set, i| set | M::from(1) << i)
 }
 
 /// The whole set of n species.
 pub fn whole(n: usize) -> u16 {
-    ((1u32 << n) - 1) as u16
+    first(n)
 }
 
 /// The largest cluster: the set of the tree's species. 0 where the count is 0 or no count of clusters.
-pub fn largest(r: &Record) -> u16 {
-    let m = r[0] as usize;
-    if m > 31 {
-        return 0;
-    }
-    r[1..=m].iter().copied().max().unwrap_or(0)
+pub fn largest<M: Mask>(r: &[M]) -> M {
+    let listed = r.get(1..=count(r)).unwrap_or_default();
+    listed.iter().copied().max().unwrap_or(M::from(0))
 }
 
 /// 01's sentence on a valid record, clause by clause, for the species of a set.
-fn valid_on(species: u16, r: &Record) -> bool {
-    let m = r[0] as usize;
-    if m > 31 {
+fn valid_on<M: Mask>(species: M, r: &[M]) -> bool {
+    let Some(list) = r.get(1..=count(r)) else {
         return false;
-    }
-    let list = &r[1..=m];
+    };
+    let none = M::from(0);
     list.windows(2).all(|w| w[0] < w[1])
-        && r[m + 1..].iter().all(|&x| x == 0)
-        && (0..16).filter(|i| species >> i & 1 == 1).all(|i| list.contains(&(1 << i)))
+        && r[1 + list.len()..].iter().all(|&x| x == none)
+        && (0..r.len() / 2).map(|i| M::from(1) << i).filter(|&single| single & species == single).all(|single| list.contains(&single))
         && list.contains(&species)
-        && list.iter().all(|&a| a >= 1 && a & species == a)
-        && list.iter().all(|&a| list.iter().all(|&b| a & b == 0 || a & b == a || a & b == b))
+        && list.iter().all(|&a| a != none && a & species == a)
+        && list.iter().all(|&a| list.iter().all(|&b| a & b == none || a & b == a || a & b == b))
 }
 
 /// A species record has every species.
@@ -51,8 +80,8 @@ pub fn valid(n: usize, r: &Record) -> bool {
 }
 
 /// A gene record may lack species (02, #104): it is a valid record on its largest cluster, which lies in 1 to 2^n - 1.
-pub fn valid_gene(n: usize, r: &Record) -> bool {
-    (1..=whole(n)).contains(&largest(r)) && valid_on(largest(r), r)
+pub fn valid_gene<M: Mask>(n: usize, r: &[M]) -> bool {
+    (M::from(1)..=first(n)).contains(&largest(r)) && valid_on(largest(r), r)
 }
 
 pub fn binary(n: usize, r: &Record) -> bool {
@@ -60,13 +89,13 @@ pub fn binary(n: usize, r: &Record) -> bool {
 }
 
 /// The clusters that are maximal among those that pass the test.
-pub fn maximal(all: &[u16], test: impl Fn(u16) -> bool) -> Vec<u16> {
-    let passed: Vec<u16> = all.iter().copied().filter(|&x| test(x)).collect();
+pub fn maximal<M: Mask>(all: &[M], test: impl Fn(M) -> bool) -> Vec<M> {
+    let passed: Vec<M> = all.iter().copied().filter(|&x| test(x)).collect();
     passed.iter().copied().filter(|&x| !passed.iter().any(|&y| y != x && x & y == x)).collect()
 }
 
 /// The children of a cluster of a tree: maximal among the tree's clusters properly within it.
-pub fn children(all: &[u16], p: u16) -> Vec<u16> {
+pub fn children<M: Mask>(all: &[M], p: M) -> Vec<M> {
     maximal(all, |x| x != p && x & p == x)
 }
 

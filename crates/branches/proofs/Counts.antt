@@ -1,9 +1,10 @@
 -- The count behind a node: a number of digits alone, and its value; "zeros in front change nothing" (#114).
-use Prim.Native.Nat.{ℕ, zero, suc, _+_, _-_, _≤_, _<_, min, compare·suc-suc}
+use Prim.Native.Nat.{ℕ, zero, suc, _+_, _-_, _*_, _≤_, _<_, min, compare·suc-suc}
 use native.Mathlib.Omega.{arith}
-use mathlib.Core.Path.{_≡_, refl, ap, _∙_, subst}
+use mathlib.Core.Path.{_≡_, refl, sym, ap, _∙_, subst}
 use mathlib.Core.Bool.{Bool, true, false, _&&_, false≢true}
 use mathlib.Core.List.{List, [], _∷_, _++_}
+use mathlib.Core.Option.{Option, some, none}
 use lib.ListN.{length, take, drop, length-take, length-drop, length-append, replicate}
 use lib.Seq.{take-length}
 use lib.Dec.{isEq, eqb, ltb}
@@ -11,9 +12,11 @@ use borrow.Author.Tests.{eqb-true, eq-eqb, ne-eqb, ltb-true, ltb-false, lt-ltb, 
 use Rattle.labels.specs.Bytes.{isDigit, oneMore, run}
 use Rattle.labels.proofs.Bytewise.{All}
 use Rattle.labels.proofs.RunRules.{run-bytes, run-take}
+use Rattle.trees.specs.Tree.{Behind}
 use Rattle.tokens.specs.Says.{between, Valued}
 use Rattle.tokens.specs.Values.{written, writtenBehind, thousandths}
 use Rattle.tokens.specs.declared.answer.Figure.{Figure}
+use Rattle.tokens.specs.declared.answer.Value.the-variants.{Thousandths}
 use Rattle.tokens.proofs.Values.{whole-value}
 use Rattle.branches.specs.Ends.{isCount, countBy, countIn}
 use Rattle.branches.specs.Work.{wholeOf}
@@ -61,7 +64,7 @@ is-both false b e = absurd (false≢true e)
 
 -- a count is written, in digits alone
 pub record Digits (d : List ℕ) : Type 0 where
-  pub some : 0 < length d
+  pub some-byte : 0 < length d
   pub all : All isDigit d
 
 pub count-digits : (d : List ℕ) → isCount d ≡ true → Digits d
@@ -70,13 +73,33 @@ count-digits d is =
     let h = is-both (ltb 0 (length d)) (eqb (run isDigit d) (length d)) is in
     let whole : run isDigit d ≡ length d = eqb-true (run isDigit d) (length d) (h .1) in
     let same : take (run isDigit d) d ≡ d = rw whole (take-length d) in
-    record { some = ltb-true 0 (length d) (h .0); all = subst (λ (l : List ℕ). All isDigit l) same (run-bytes isDigit d) }
+    record { some-byte = ltb-true 0 (length d) (h .0); all = subst (λ (l : List ℕ). All isDigit l) same (run-bytes isDigit d) }
 
 -- the whole part of its value is the number that it writes
 pub count-value : (d : List ℕ) → isCount d ≡ true → wholeOf (thousandths d) ≡ written d
 count-value d is =
     let c = count-digits d is in
-    rw (whole-value d (c .all) (c .some)) (omega arith)
+    rw (whole-value d (c .all) (c .some-byte)) (omega arith)
+
+-- a count is none, or there is one
+pub some-none : {a : ℕ} → _≡_ {A = Option ℕ} (some a) none → ⊥
+some-none e = let z : _≡_ {A = ℕ} 0 1 = cc in omega arith
+
+-- where a node has a count, it is written in digits, and no second number stands behind it
+pub counted-as : (t : Bool) (d b : List ℕ) {n : ℕ} → countBy t d b ≡ some n → (t ≡ true) × (b ≡ []) × (written d ≡ n)
+counted-as true d [] {n} e =
+    let same : written d ≡ n = cc in
+    (refl, refl, same)
+counted-as true d (x ∷ b) e = absurd (some-none (sym e))
+counted-as false d b e = absurd (some-none (sym e))
+
+-- a count is so many whole thousandths, as every number that is read (#113)
+pub counted-value : (b : Behind) (w : ℕ) → countIn b ≡ some w → thousandths (b .distance) ≡ Thousandths (1000 * w)
+unfolding countIn
+counted-value b w is =
+    let h = counted-as (isCount (b .distance)) (b .distance) (b .support) is in
+    let c = count-digits (b .distance) (h .0) in
+    whole-value (b .distance) (c .all) (c .some-byte) ∙ ap (λ (n : ℕ). Thousandths (1000 * n)) (h .2)
 
 -- ---- which numbers are counts
 

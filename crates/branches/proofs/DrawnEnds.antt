@@ -13,7 +13,7 @@ use Rattle.tokens.specs.Supports.{isGiven}
 use Rattle.tokens.specs.declared.answer.Threshold.{Threshold}
 use Rattle.nodes.specs.Grammar.{strict, Node, Text}
 use Rattle.nodes.specs.Grammar.Text.{text as ended-text}
-use Rattle.nodes.specs.Reading.{openMost, readTree}
+use Rattle.nodes.specs.Reading.{readTree}
 use Rattle.nodes.specs.Worth.{behindOf}
 use Rattle.nodes.proofs.Exact.{Follows, semicolon-follows}
 use Rattle.nodes.proofs.Sound.{read-sound}
@@ -56,9 +56,9 @@ module _ (given : Bool) (names : List (List ℕ)) where
 
   -- so they are where a tree is read
   pub read-ends :
-      (needed : ℕ) (s : List ℕ) (p : ℕ) {t : Tree} {rest : List ℕ} {q : ℕ} → readTree given names needed s p ≡ parsed t rest q
-      → (d : Text (strict given names) openMost s t rest) × EndsOf (p + length s) (allNodes t) (behindsOf d) (endsFrom (length (allNodes t)) s p)
-  read-ends needed s p h = let d = read-sound given names needed s p h .derives in (d, text-ends d p)
+      (most needed : ℕ) (s : List ℕ) (p : ℕ) {t : Tree} {rest : List ℕ} {q : ℕ} → readTree given names most needed s p ≡ parsed t rest q
+      → (d : Text (strict given names) most s t rest) × EndsOf (p + length s) (allNodes t) (behindsOf d) (endsFrom (length (allNodes t)) s p)
+  read-ends most needed s p h = let d = read-sound given names most needed s p h .derives in (d, text-ends d p)
 
 -- of a text that draws a tree from start on
 pub draws-ends :

@@ -1,6 +1,6 @@
 // Sets of at most 32 species as numbers: the operations that the layers above need, each by one machine operation.
 ghost use mathlib.Core.Path.{_≡_};
-ghost use Prim.Native.Nat.{_<_};
+ghost use Prim.Native.Nat.{_<_, _≤_};
 ghost use Rattle.clusters.specs.Sets.{whole, single, union, within, apart, size, lowest};
 
 // The set of the one species i. Other crates call it, with a species that they have counted.
@@ -13,10 +13,11 @@ pub fn single(i: usize) -> u32
 
 // The set of all n species. Other crates call it, with an n that they have judged.
 pub fn whole(n: usize) -> u32
-    requires { ⌜ n < 32 ⌝ }
+    requires { ⌜ n ≤ 32 ⌝ }
     ensures { λ r. ⌜ r ≡ whole n ⌝ }
 {
-    single(n) - 1
+    // 32 digits cannot be shifted by 32
+    ((1u64 << n) - 1) as u32
 }
 
 // The species of a and those of b together.

@@ -8,19 +8,22 @@ use lib.ListN.{length, take, drop}
 use lib.Seq.{take-append-seam}
 use Rattle.roster.specs.Roster.{names, faulty, firstFault}
 use Rattle.roster.specs.Judged.{speciesMost, refusal}
-use Rattle.roster.specs.Verdict.{Test, Verdict, verdict, lengthTest}
+use Rattle.roster.specs.Verdict.{Test, Verdict, verdict, lengthTest, replyOf}
 use Rattle.roster.specs.declared.Reply.{Reply}
+use Rattle.lineages.specs.Checks.{speciesRecordTest}
 use Rattle.lineages.specs.Work.{said}
+use Rattle.lineages.proofs.Calls.{refused-reply}
 use Rattle.lineages.proofs.Verdicts.{verdict-first}
 use Rattle.texts.specs.Writing.{countNote}
-use Rattle.writer.specs.Promise.{rosterTest}
+use Rattle.writer.specs.Promise.{rosterTest, outBy}
 use Rattle.writer.specs.Work.{Given, fits, Puts, PutsTree}
 use Rattle.writer.proofs.RosterNames.{good-names}
 use Rattle.writer.proofs.Outcomes.{Stands, puts-zero}
 use Rattle.counts.specs.Promise.{weightIn, countsText, writeCountsTests, WritesCounts}
-use Rattle.counts.specs.WrittenWork.{Weighed, treeTests, TreesJudged}
+use Rattle.counts.specs.Work.{callTests, CallJudged, Weighed}
 use Rattle.counts.proofs.Weighing.{weighed-notes}
-use Rattle.counts.proofs.TreesJudging.{TreesInOrder, trees-in-order, trees-passed}
+use Rattle.counts.proofs.CallFaults.{front-none, tests-behind}
+use Rattle.counts.proofs.TreesJudging.{TreesInOrder, isTree, treeTests, TreesJudged, trees-in-order, in-order-passed}
 
 -- a good roster has a name
 pub given-some : {line : List ℕ} {n : ℕ} {tb : List ℕ} → Given line n tb → 1 ≤ n
@@ -62,7 +65,7 @@ module _ (line genes : List ℕ) (count : ℕ) (species out : List ℕ) where
   good-verdict :
       faulty speciesMost line ≡ false
       → verdict (writeCountsTests line genes count species out) ≡ verdict (treeTests n genes count species ++ (textTest ∷ []))
-  unfolding verdict writeCountsTests rosterTest treeTests
+  unfolding verdict writeCountsTests rosterTest lengthTest speciesRecordTest callTests
   good-verdict f = rw f
 
   -- behind the trees it is whether the text fits
@@ -71,30 +74,35 @@ module _ (line genes : List ℕ) (count : ℕ) (species out : List ℕ) where
   unfolding fits
   checked-verdict f o =
       let named = good-names line f in
-      good-verdict f ∙ trees-passed (named .some) (named .few) genes count species (textTest ∷ []) o
+      good-verdict f ∙ tests-behind n genes count 0 [] [] (isTree n species) (in-order-passed (named .some) (named .few) genes count species o) (textTest ∷ [])
 
   -- ---- the ways
 
+  kept : (k : ℕ) → (k ≡ 0 → ⊥) → out ≡ outBy k text out
+  kept zero f = absurd (f refl)
+  kept (suc k) f = refl
+
   module _ {p : Reply} {after : List ℕ} where
     refused-by :
-        (k : ℕ) {q : ℕ} → verdict (writeCountsTests line genes count species out) ≡ said k q → (k ≡ 0 → ⊥) → p ≡ refusal k q → after ≡ out
+        (v : Verdict) → verdict (writeCountsTests line genes count species out) ≡ v → (v .number ≡ 0 → ⊥) → p ≡ replyOf v 0 → after ≡ out
         → WritesCounts line genes count species out p after
-    refused-by zero e f a b = absurd (f refl)
-    refused-by (suc k) e f a b = record { answer = a ∙ rw e; bytes = b ∙ rw e }
+    refused-by v e f is same = record {
+      answer = is ∙ sym (refused-reply 0 (v .number) refl f) ∙ refused-reply _ (v .number) e f;
+      bytes = same ∙ rw e (kept (v .number) f);
+    }
 
     pub counts-faulty :
         faulty speciesMost line ≡ true → p ≡ refusal 1 (firstFault speciesMost line) → after ≡ out → WritesCounts line genes count species out p after
-    counts-faulty f = refused-by 1 (faulty-verdict f) (λ z. omega arith)
+    counts-faulty f = refused-by (said 1 (firstFault speciesMost line)) (faulty-verdict f) (λ z. omega arith)
 
     pub counts-judged :
         faulty speciesMost line ≡ false → TreesJudged n genes count species p → (p .number ≡ 0 → ⊥) → after ≡ out
         → WritesCounts line genes count species out p after
+    unfolding CallJudged
     counts-judged f told not-zero same =
-        let v : verdict (treeTests n genes count species) ≡ said (p .number) (p .place) =
-        ap (λ (r : Reply). said (r .number) (r .place)) (sym told)
-        in
-        refused-by (p .number) (good-verdict f ∙ verdict-first (treeTests n genes count species) (textTest ∷ []) v not-zero) not-zero
-        (told ∙ ap (λ (v : Verdict). refusal (v .number) (v .place)) v) same
+        let v = verdict (treeTests n genes count species) in
+        let some : v .number ≡ 0 → ⊥ = λ z. not-zero (ap (λ (r : Reply). r .number) told ∙ z) in
+        refused-by v (good-verdict f ∙ verdict-first (treeTests n genes count species) (textTest ∷ []) refl some) some told same
 
     module _ (f : faulty speciesMost line ≡ false) (o : TreesInOrder n genes count species) where
       pub counts-put : Puts text out p after → WritesCounts line genes count species out p after
@@ -125,11 +133,11 @@ counts-zero {line} {genes} {count} {species} {out} {p} {after} w z = judged (fau
     judged false f =
         let named = good-names line f in
         let behind = ap (λ (v : Verdict). v .number) (good-verdict line genes count species out f) in
-        let o = trees-in-order (named .some) (named .few) genes count species _ (sym behind ∙ none) in
+        let o = trees-in-order (named .some) (named .few) genes count species (front-none _ _ (sym behind ∙ none)) in
         record {
           good = f;
-          in-order = o .0;
-          stands = puts-zero (countsText (names line) genes count species) out (put-counts line genes count species out f (o .0) w) z;
+          in-order = o;
+          stands = puts-zero (countsText (names line) genes count species) out (put-counts line genes count species out f o w) z;
         }
 
 module _ {line genes : List ℕ} {count : ℕ} {species out : List ℕ} {p : Reply} {after : List ℕ} (o : WroteCounts line genes count species out p after) where

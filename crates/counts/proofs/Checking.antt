@@ -1,16 +1,18 @@
 -- The promise of `check`, one law for each way: the text is not read, the call or a count is refused, or all is right.
-use Prim.Native.Nat.{ℕ}
+use Prim.Native.Nat.{ℕ, _^_}
 use native.Mathlib.Omega.{arith}
 use mathlib.Core.Path.{_≡_, refl, sym, ap, _∙_, subst}
-use mathlib.Core.Bool.{false}
+use mathlib.Core.Bool.{Bool, false}
 use mathlib.Core.Option.{Option, some, none}
 use mathlib.Core.List.{List, [], _∷_, _++_}
 use lib.ListN.{length, drop, length-map}
+use Rattle.clusters.specs.Sets.{whole}
 use Rattle.trees.specs.Tree.{Tree, cluster, clusters}
 use Rattle.trees.specs.Thinned.{allNodes}
 use Rattle.trees.specs.Records.{recordsIn, recordOf, count as clusterCount}
 use Rattle.trees.proofs.LostNodes.{nodes-clusters}
 use Rattle.trees.proofs.Recorded.{count-record}
+use Rattle.trees.proofs.ValidTest.{binary-decides}
 use Rattle.roster.specs.Roster.{names, faulty}
 use Rattle.roster.specs.Judged.{speciesMost, Judged, refusal, done}
 use Rattle.roster.specs.Verdict.{Verdict, verdict, replyOf}
@@ -36,8 +38,8 @@ use Rattle.solver.specs.Work.{Checked}
 use Rattle.search.specs.Candidates.{BinarySpecies}
 use Rattle.search.proofs.Finding.{refused-kept}
 use Rattle.counts.specs.Promise.{weightIn, distance, firstWrong, drawnTest, countsTest, checkTests, checkVerdict, distanceOf, Checks}
-use Rattle.counts.specs.Work.{AllEnd, CountsJudged, binaryTest, callTests, CallJudged, Distances}
-use Rattle.counts.proofs.CallFaults.{Passed, passed-of, passed-on}
+use Rattle.counts.specs.Work.{AllEnd, CountsJudged, callTests, CallJudged, DrawnJudged, Distances}
+use Rattle.counts.proofs.CallFaults.{Passed, passed-of, passed-on, drawnTests, DrawnPassed}
 
 -- a good roster is judged with the number of its names
 pub judged-names : (line : List ℕ) (q : Reply) → faulty speciesMost line ≡ false → Judged line q → q .value ≡ length (names line)
@@ -60,7 +62,7 @@ counts-none is = rw is
 
 -- ---- what was judged
 
-module _ {n : ℕ} {genes : List ℕ} {count : ℕ} {numbers scores splits : List ℕ} (p : Passed n genes count numbers scores splits) where
+module _ {n : ℕ} {genes : List ℕ} {count : ℕ} {scores splits : List ℕ} {two : Bool} (p : Passed n genes count (2 ^ n) scores splits two) where
   pub countable : AllCountable (recordsIn count genes)
   countable = valid-countable (p .in-order .shaped .few-species) (p .in-order .valid)
 
@@ -84,7 +86,7 @@ module _ {n : ℕ} {genes : List ℕ} {count : ℕ} {numbers scores splits : Lis
 module _ {line text : List ℕ} {start : ℕ} {q : Reading} (w : WasRead Species NoThreshold line text start q) where
   -- its record counts its clusters
   record-counts : clusterCount (q .numbers) ≡ length (clusters (w .tree))
-  record-counts = ap clusterCount (w .recorded) ∙ count-record (clusters (w .tree))
+  record-counts = ap clusterCount (w .recorded) ∙ count-record 16 (clusters (w .tree))
 
   -- each of its nodes ends
   pub all-end : AllEnd (clusterCount (q .numbers)) text start
@@ -106,8 +108,8 @@ module _ (line text : List ℕ) (start : ℕ) (genes : List ℕ) (count : ℕ) (
 
   -- what is said of a text that is read: the tests of the call, then those of the counts
   pub said-as : {t : Tree} {rest : List ℕ} {next : ℕ} → answerTo Species NoThreshold line text start ≡ parsed t rest next
-      → saidOf ≡ verdict (callTests (length (names line)) genes count (recordOf (clusters t)) scores splits ++ (countsTest (wrongIn text start genes count t) ∷ []))
-  unfolding checkVerdict checkTests drawnTest callTests binaryTest
+      → saidOf ≡ verdict (drawnTests (length (names line)) genes count (recordOf (clusters t)) scores splits ++ (countsTest (wrongIn text start genes count t) ∷ []))
+  unfolding checkVerdict checkTests drawnTest callTests
   said-as answered = rw answered
 
   -- a refusal: both tables as they were lent
@@ -132,28 +134,31 @@ module _ (line text : List ℕ) (start : ℕ) (genes : List ℕ) (count : ℕ) (
           refuses (said (q .number) (q .place)) (rw e (sym told)) f (is ∙ refused-reply 0 (q .number) refl f) same same′
 
   module _ {q : Reading} (w : WasRead Species NoThreshold line text start q) where
-    told : saidOf ≡ verdict (callTests (length (names line)) genes count (q .numbers) scores splits ++ (countsTest (wrongIn text start genes count (w .tree)) ∷ []))
+    told : saidOf ≡ verdict (drawnTests (length (names line)) genes count (q .numbers) scores splits ++ (countsTest (wrongIn text start genes count (w .tree)) ∷ []))
     told = rw (w .recorded) (said-as (w .answered))
 
-    pub call-wrong : {judged r : Reply} {s p : List ℕ} → CallJudged (length (names line)) genes count (q .numbers) scores splits judged → (judged .number ≡ 0 → ⊥)
+    pub call-wrong : {judged r : Reply} {s p : List ℕ} → DrawnJudged (length (names line)) genes count (q .numbers) scores splits judged → (judged .number ≡ 0 → ⊥)
         → r ≡ judged → s ≡ scores → p ≡ splits → Checks line text start genes count scores splits r s p
     unfolding CallJudged
     call-wrong call f is same same′ =
-        let v = verdict (callTests (length (names line)) genes count (q .numbers) scores splits) in
+        let v = verdict (drawnTests (length (names line)) genes count (q .numbers) scores splits) in
         let some : v .number ≡ 0 → ⊥ = λ z. f (ap (λ (r : Reply). r .number) call ∙ z) in
-        refuses v (told ∙ verdict-first (callTests (length (names line)) genes count (q .numbers) scores splits) _ refl some) some (is ∙ call) same same′
+        refuses v (told ∙ verdict-first (drawnTests (length (names line)) genes count (q .numbers) scores splits) _ refl some) some (is ∙ call) same same′
 
-    pub call-right : (judged : Reply) → CallJudged (length (names line)) genes count (q .numbers) scores splits judged → judged .number ≡ 0
-        → Passed (length (names line)) genes count (q .numbers) scores splits
+    pub call-right : (judged : Reply) → DrawnJudged (length (names line)) genes count (q .numbers) scores splits judged → judged .number ≡ 0
+        → DrawnPassed (length (names line)) genes count (q .numbers) scores splits
     unfolding CallJudged
     call-right judged call z =
         let few = names-count speciesMost line (w .good) in
         passed-of (length (names line)) genes count (q .numbers) scores splits (few .0) (few .1) (sym (ap (λ (r : Reply). r .number) call) ∙ z)
 
-    module _ (passed : Passed (length (names line)) genes count (q .numbers) scores splits) where
+    module _ (passed : DrawnPassed (length (names line)) genes count (q .numbers) scores splits) where
       -- the tree is one of the binary species trees
       pub drawn-binary : Reads Species NoThreshold line text start q → q .number ≡ 0 → BinarySpecies (length (names line)) (q .numbers)
-      drawn-binary reads z = record { valid = read-species-valid NoThreshold line text start q reads z; binary = passed .binary-on }
+      drawn-binary reads z = record {
+        valid = read-species-valid NoThreshold line text start q reads z;
+        binary = binary-decides (whole (length (names line))) (q .numbers) .holds (passed .is-binary);
+      }
 
       counts-told : saidOf ≡ verdict (countsTest (wrongIn text start genes count (w .tree)) ∷ [])
       counts-told = told ∙ passed-on (length (names line)) genes count (q .numbers) scores splits passed (countsTest (wrongIn text start genes count (w .tree)) ∷ [])

@@ -2,10 +2,11 @@
 use Prim.Native.Nat.{ℕ, zero, suc, _+_, _-_, _≤_, _<_}
 use native.Mathlib.Omega.{arith}
 use mathlib.Core.Path.{_≡_, refl, sym, ap, ap₂, _∙_}
-use mathlib.Core.Bool.{true, false}
+use mathlib.Core.Bool.{Bool, true, false}
 use mathlib.Core.Option.{Option, some, none}
 use mathlib.Core.List.{List, [], _∷_}
 use lib.ListN.{length, getD, take, drop}
+use lib.Dec.{eqb}
 use lib.Seq.{drop-cons}
 use Rattle.roster.specs.declared.Reply.{Reply}
 use Rattle.roster.specs.Judged.{refusal, done}
@@ -14,7 +15,19 @@ use Rattle.branches.specs.Ends.{End, nextEnd, endsFrom, countIn, countedAs, end
 use Rattle.branches.specs.declared.Ended.{Ended}
 use Rattle.branches.proofs.Onward.{steps, place-is}
 use Rattle.counts.specs.Promise.{weightIn, isRight, firstWrong}
-use Rattle.counts.specs.Work.{given, AllEnd, CountsJudged}
+use Rattle.counts.specs.Work.{given, CountIs, AllEnd, CountsJudged}
+
+-- ---- one count
+
+-- a node that has a count is right where that is the weight
+pub counted-right : {counted : Bool} (count w : ℕ) {r : Bool} → counted ≡ true → r ≡ eqb count w → CountIs counted count w r
+counted-right count w is r-is = r-is ∙ rw is
+
+-- and one that has none is not
+pub uncounted-wrong : {counted : Bool} (count w : ℕ) {r : Bool} → counted ≡ false → r ≡ false → CountIs counted count w r
+uncounted-wrong count w is r-is = r-is ∙ rw is
+
+-- ---- all of them
 
 -- the nodes before the last ones, of which so many are left, have their counts, and those end from at on
 pub record ComparedTo (w : ℕ → ℕ) (text : List ℕ) (start : ℕ) (found : List ℕ) (m at left : ℕ) : Type 0 where

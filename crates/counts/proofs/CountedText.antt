@@ -1,4 +1,4 @@
--- The text that `write_counts` writes: how long it is, that it reads back, and that without the counts it is the writer's.
+-- The text that `write_counts` writes: how long it is, and that it reads back.
 use Prim.Native.Nat.{ℕ, _≤_}
 use mathlib.Core.Path.{_≡_, refl, sym, ap, _∙_}
 use mathlib.Core.Bool.{false}
@@ -18,7 +18,7 @@ use Rattle.tokens.specs.declared.answer.Threshold.the-variants.{NoThreshold}
 use Rattle.reader.specs.Promise.{answerTo, Reads}
 use Rattle.reader.specs.declared.Kind.the-variants.{Species}
 use Rattle.reader.specs.declared.Reading.{Reading}
-use Rattle.texts.specs.Writing.{note, countNote, writtenWith, written, counted}
+use Rattle.texts.specs.Writing.{counted}
 use Rattle.texts.proofs.Lengths.{counted-most}
 use Rattle.weights.specs.declared.Rooting.the-variants.{Rooted}
 use Rattle.weights.proofs.Sums.{valid-countable}
@@ -30,13 +30,6 @@ use Rattle.counts.specs.Promise.{weightIn, countsText, WritesCounts}
 use Rattle.counts.proofs.Weighing.{weight-small}
 use Rattle.counts.proofs.TreesJudging.{TreesInOrder}
 use Rattle.counts.proofs.Answered.{writes-counts-once, counts-put, WroteCounts, counts-zero, counts-there}
-
--- "Our writer gets a form with these counts" (#114): both texts are the one form of the record, with the counts behind the nodes and with nothing there
-pub two-forms :
-    (ns : List (List ℕ)) (genes : List ℕ) (count : ℕ) (species : List ℕ)
-    → (countsText ns genes count species ≡ writtenWith (countNote (weightIn genes count)) ns species) × (written ns species ≡ writtenWith note ns species)
-unfolding countsText written
-two-forms ns genes count species = (refl, refl)
 
 -- ---- gene trees and a species record that are in order
 

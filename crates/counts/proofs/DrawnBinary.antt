@@ -14,6 +14,7 @@ use Rattle.trees.proofs.Counts.{clusters-of-binary, binary-of-clusters}
 use Rattle.trees.proofs.LostNodes.{nodes-clusters}
 use Rattle.trees.proofs.Recorded.{count-record, valid-of-drawn}
 use Rattle.trees.proofs.Bounds.{whole-below-sixteen}
+use Rattle.trees.proofs.ValidTest.{binary-decides}
 use Rattle.roster.specs.Roster.{names}
 use Rattle.roster.specs.Judged.{speciesMost}
 use Rattle.roster.specs.Verdict.{Test, Verdict, verdict, lengthTest}
@@ -23,7 +24,8 @@ use Rattle.tokens.specs.Answers.Answer.{parsed, refused}
 use Rattle.tokens.specs.declared.answer.Threshold.the-variants.{NoThreshold}
 use Rattle.nodes.proofs.RefusedBy.{tree-numbered}
 use Rattle.reader.specs.Accepted.{Draws}
-use Rattle.reader.specs.Promise.{answerTo, needed}
+use Rattle.nodes.specs.Reading.{openMost}
+use Rattle.reader.specs.Promise.{narrow, answerTo, needed}
 use Rattle.reader.specs.declared.Kind.the-variants.{Species}
 use Rattle.reader.proofs.Accepts.{accepted-derives, derives-accepted}
 use Rattle.reader.proofs.Replies.{refusal-is, refusal-some}
@@ -34,31 +36,31 @@ use Rattle.lineages.proofs.Verdicts.{verdict-first}
 use Rattle.search.specs.Candidates.{BinarySpecies}
 use Rattle.lineages.proofs.Verdicts.{NoneGives, verdict-never}
 use Rattle.counts.specs.Promise.{weightIn, firstWrong, countsTest, checkVerdict}
-use Rattle.counts.specs.Work.{binaryTest, callTests}
+use Rattle.counts.specs.Work.{callTests}
 use Rattle.counts.specs.Passes.{CallInOrder, DrawsBinary}
-use Rattle.counts.proofs.CallFaults.{Passed, passed-of, passed-on}
+use Rattle.counts.proofs.CallFaults.{passed-of, passed-on, drawnTests, DrawnPassed}
 use Rattle.counts.proofs.Checking.{nodes-many, saidOf, wrongIn, said-as}
 use Rattle.counts.proofs.FirstWrong.{Beside, ends-beside}
 
 -- species text is refused by 1 to 10
 pub text-refused : (line text : List ℕ) (start : ℕ) {n p : ℕ} → answerTo Species NoThreshold line text start ≡ refused n p → (1 ≤ n) × (n ≤ 10)
 text-refused line text start {n} e = (
-  refusal-some Species NoThreshold line text start e,
-  refusal-is (λ k. k ≤ 10) (omega arith) (omega arith) (omega arith) Species NoThreshold line text start
+  refusal-some narrow Species NoThreshold line text start e,
+  refusal-is (λ k. k ≤ 10) (omega arith) (omega arith) (omega arith) narrow Species NoThreshold line text start
       (λ r.
-      let of = tree-numbered false (names line) (needed Species (length (names line))) (drop start text) start r in
+      let of = tree-numbered false (names line) openMost (needed Species (length (names line))) (drop start text) start r in
       of .1 (λ z. false≢true (of .2 z))) e,
 )
 
 -- a record of a binary tree, told by the tree
 binary-record : {s : ℕ} {t : Tree} → On s t → BinaryOn s (recordOf (clusters t)) → length (clusters t) + 1 ≡ 2 * size s
-binary-record {t = t} on is = rw (count-record (clusters t)) at is
+binary-record {t = t} on is = rw (count-record 16 (clusters t)) at is
 
 -- no test of the call has the number 23
-call-never : (n : ℕ) (genes : List ℕ) (count : ℕ) (numbers scores splits : List ℕ) → verdict (callTests n genes count numbers scores splits) .number ≡ 23 → ⊥
-unfolding callTests countTest lengthTest binaryTest recordsTest NoneGives
+call-never : (n : ℕ) (genes : List ℕ) (count : ℕ) (numbers scores splits : List ℕ) → verdict (drawnTests n genes count numbers scores splits) .number ≡ 23 → ⊥
+unfolding callTests countTest lengthTest recordsTest NoneGives
 call-never n genes count numbers scores splits e =
-    verdict-never 23 (callTests n genes count numbers scores splits) (λ z. omega arith)
+    verdict-never 23 (drawnTests n genes count numbers scores splits) (λ z. omega arith)
     (λ z. omega arith, (λ z. omega arith, (λ z. omega arith, (λ z. omega arith, (λ z. omega arith, (λ z. omega arith, tt)))))) e
 
 module _ (line text : List ℕ) (start : ℕ) where
@@ -78,7 +80,7 @@ module _ (line text : List ℕ) (start : ℕ) where
     pub drawn-species : BinarySpecies species (recordOf (clusters (d .tree)))
     drawn-species = record {
       valid = valid-of-drawn (d .on) (whole-below-sixteen species (names-count speciesMost line (d .good) .1));
-      binary = rw (count-record (clusters (d .tree))) (clusters-of-binary (d .on) (d .binary));
+      binary = rw (count-record 16 (clusters (d .tree))) (clusters-of-binary (d .on) (d .binary));
     }
 
     -- its nodes, the texts behind them and their ends go side by side
@@ -90,12 +92,12 @@ module _ (line text : List ℕ) (start : ℕ) where
         (subst (λ (m : ℕ). EndsOf (length text) (allNodes (d .tree)) (behindsOf (d .derives)) (endsFrom m (drop start text) start)) (nodes-many (d .tree)) ends)
 
     module _ (genes : List ℕ) (count : ℕ) (scores splits : List ℕ) (order : CallInOrder line genes count scores splits) where
-      call-passed : Passed species genes count (recordOf (clusters (d .tree))) scores splits
+      call-passed : DrawnPassed species genes count (recordOf (clusters (d .tree))) scores splits
       call-passed = record {
         in-order = order .genes-in-order;
         scores-fit = order .scores-fit;
         splits-fit = order .splits-fit;
-        binary-on = drawn-species .binary;
+        is-binary = binary-decides (whole species) (recordOf (clusters (d .tree))) .told (drawn-species .binary);
       }
 
       -- what is said of it is what is said of its counts
@@ -123,11 +125,11 @@ module _ (line text : List ℕ) (start : ℕ) where
     -- and none of the call
     late-passed :
         {t : Tree} {rest : List ℕ} {next : ℕ} → answerTo Species NoThreshold line text start ≡ parsed t rest next → Late
-        → verdict (callTests species genes count (recordOf (clusters t)) scores splits) .number ≡ 0
+        → verdict (drawnTests species genes count (recordOf (clusters t)) scores splits) .number ≡ 0
     late-passed {t} e late = go (verdict calls .number) refl late
       where
         calls : List Test
-        calls = callTests species genes count (recordOf (clusters t)) scores splits
+        calls = drawnTests species genes count (recordOf (clusters t)) scores splits
 
         same : (verdict calls .number ≡ 0 → ⊥) → saidOf line text start genes count scores splits .number ≡ verdict calls .number
         same f =
@@ -160,7 +162,7 @@ module _ (line text : List ℕ) (start : ℕ) where
                 rest = rest;
                 derives = d .derives;
                 on = on;
-                binary = binary-of-clusters on (binary-record on (p .binary-on));
+                binary = binary-of-clusters on (binary-record on (binary-decides (whole species) (recordOf (clusters t)) .holds (p .is-binary)));
               },
               record { genes-in-order = p .in-order; scores-fit = p .scores-fit; splits-fit = p .splits-fit },
             )

@@ -11,6 +11,7 @@ use borrow.Author.Tests.{eqb-true, eq-eqb}
 use Rattle.trees.specs.Tree.{Tree, cluster}
 use Rattle.nodes.specs.Worth.{behindOf}
 use Rattle.branches.specs.Ends.{End, countIn}
+use Rattle.branches.proofs.Counts.{some-none}
 use Rattle.branches.proofs.DrawnEnds.{EndsOf}
 use Rattle.counts.specs.Promise.{isRight, placeUnless, firstWrong}
 use Rattle.counts.proofs.Comparing.{first-wrong, first-right}
@@ -76,9 +77,6 @@ pub record FirstAt (w : ℕ → ℕ) (n : ℕ) (us : List Tree) (xs : List (List
 
 pub some-is : {a b : ℕ} → some a ≡ some b → a ≡ b
 some-is e = cc
-
-pub some-none : {a : ℕ} → _≡_ {A = Option ℕ} (some a) none → ⊥
-some-none e = let z : _≡_ {A = ℕ} 0 1 = cc in omega arith
 
 -- ---- the first wrong one is the first whose count is not right
 

@@ -29,7 +29,7 @@ answer-score genes (some t) z = refl
 answer-score genes none z = absurd (omega arith)
 
 module _
-    {n : ℕ} {genes : List (List ℕ)} {scores splits : List ℕ} {r : Found} {s p : List ℕ} (one : 1 ≤ n) (few : n ≤ 16)
+    {n : ℕ} (genes : List (List ℕ)) {scores splits : List ℕ} {r : Found} {s p : List ℕ} (one : 1 ≤ n) (few : n ≤ 16)
     (solved : Solves Rooted n genes (allowedFor Every n []) scores splits r s p)
   where
     pub solved-least : r .score ≡ leastScore n genes
@@ -53,7 +53,7 @@ pub distances :
 unfolding bestFor
 distances {n} {genes} {count} {scores = scores} {splits = splits} total one few solved is =
     record {
-      value = rw (is, solved-least one few solved);
+      value = rw (is, solved-least (recordsIn count genes) one few solved);
       scoreTable = solved .scoreTable ∙ every-scores Rooted n (recordsIn count genes) [] scores;
       splitTable = solved .splitTable ∙ every-splits Rooted n (recordsIn count genes) [] splits;
     }
@@ -76,10 +76,10 @@ module _ (n : ℕ) (genes : List (List ℕ)) where
   module _ (one : 1 ≤ n) (few : n ≤ 16) where
     -- no binary species tree scores less
     pub least-under : (c : List ℕ) → BinarySpecies n c → leastScore n genes ≤ score Rooted genes c
-    least-under c tree = let under = solved-under one few (least-solves [] []) c tree in omega (arith, solved-least one few (least-solves [] []))
+    least-under c tree = let under = solved-under genes one few (least-solves [] []) c tree in omega (arith, solved-least genes one few (least-solves [] []))
 
     -- and one has it
     pub least-there : (c : List ℕ) × BinarySpecies n c × (score Rooted genes c ≡ leastScore n genes)
     least-there =
         let answer = every-answered [] one few (least-solves [] []) in
-        (leastFound .numbers, answer .species, answer .counted ∙ solved-least one few (least-solves [] []))
+        (leastFound .numbers, answer .species, answer .counted ∙ solved-least genes one few (least-solves [] []))

@@ -3,6 +3,7 @@ pub mod TreesJudging
 pub mod Answered
 pub mod CountsBehind
 pub mod CountedText
+pub mod CountsLeftOut
 pub mod WrittenPasses
 pub mod Comparing
 pub mod CallFaults
@@ -14,5 +15,6 @@ pub mod BehindTexts
 pub mod DrawnBinary
 pub mod Yes
 pub mod Nearest
+pub mod PassedText
 pub mod Outcomes
 pub mod Cases

@@ -21,7 +21,8 @@ use Rattle.search.specs.Promise.{Finds}
 use Rattle.search.proofs.Demand.{finds-once}
 use Rattle.search.proofs.EveryCluster.{every-finds}
 use Rattle.search.proofs.Finding.{refused-kept}
-use Rattle.counts.specs.Promise.{everyCluster, leastScore, distance, Checks}
+use Rattle.terms.specs.Allowed.{everyCluster}
+use Rattle.counts.specs.Promise.{leastScore, distance, Checks}
 use Rattle.counts.specs.Passes.{DrawsBinary}
 use Rattle.counts.proofs.Checking.{saidOf}
 use Rattle.counts.proofs.DrawnBinary.{read-as, drawn-species}
@@ -83,7 +84,7 @@ module _ (line text : List ℕ) (start : ℕ) (genes : List ℕ) (count : ℕ) (
         let far = distances {numbers = []} _ one most solved refl in (
           c .scoreTable ∙ rw said-nothing (sym (far .scoreTable) ∙ same .1),
           c .splitTable ∙ rw said-nothing (sym (far .splitTable) ∙ same .2),
-          sym (ap (λ (f : Found). f .score) (same .0)) ∙ solved-least one most solved,
+          sym (ap (λ (f : Found). f .score) (same .0)) ∙ solved-least (recordsIn count genes) one most solved,
         )
 
   -- ---- a refusal

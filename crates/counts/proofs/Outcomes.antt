@@ -20,7 +20,8 @@ use Rattle.reader.specs.declared.Kind.the-variants.{Species}
 use Rattle.lineages.specs.Checks.{countTest, recordsTest}
 use Rattle.lineages.proofs.Verdicts.{NoneGives, verdict-never}
 use Rattle.counts.specs.Promise.{countsTest, checkVerdict, Checks}
-use Rattle.counts.specs.Work.{binaryTest, callTests}
+use Rattle.counts.specs.Work.{callTests}
+use Rattle.counts.proofs.CallFaults.{drawnTests}
 use Rattle.counts.proofs.Checking.{saidOf, wrongIn, said-as}
 use Rattle.counts.proofs.DrawnBinary.{text-refused}
 use Rattle.counts.proofs.Yes.{number-said}
@@ -40,10 +41,10 @@ counts-number none = refl
 -- a number over 12 that no test of a text that is read has
 read-never :
     (n : ℕ) (genes : List ℕ) (count : ℕ) (numbers scores splits : List ℕ) (o : Option ℕ) (m : ℕ)
-    → 12 < m → (m ≡ 15 → ⊥) → (m ≡ 16 → ⊥) → (m ≡ 23 → ⊥) → verdict (callTests n genes count numbers scores splits ++ (countsTest o ∷ [])) .number ≡ m → ⊥
-unfolding callTests countTest lengthTest binaryTest recordsTest NoneGives
+    → 12 < m → (m ≡ 15 → ⊥) → (m ≡ 16 → ⊥) → (m ≡ 23 → ⊥) → verdict (drawnTests n genes count numbers scores splits ++ (countsTest o ∷ [])) .number ≡ m → ⊥
+unfolding callTests countTest lengthTest recordsTest NoneGives
 read-never n genes count numbers scores splits o m over no-15 no-16 no-23 e =
-    verdict-never m (callTests n genes count numbers scores splits ++ (countsTest o ∷ [])) (λ z. omega arith) (
+    verdict-never m (drawnTests n genes count numbers scores splits ++ (countsTest o ∷ [])) (λ z. omega arith) (
       λ z. omega arith,
       (
         λ z. omega arith,

@@ -17,7 +17,7 @@ use Rattle.weights.specs.Work.{AllCountable}
 use Rattle.weights.specs.declared.Rooting.{Rooting}
 use Rattle.weights.proofs.Sums.{weight-bound}
 use Rattle.counts.specs.Promise.{weightIn}
-use Rattle.counts.specs.WrittenWork.{Weighed}
+use Rattle.counts.specs.Work.{Weighed}
 
 -- a gene tree adds at most 15, so over 4,096 of them no weight has more than five digits
 pub weight-small :

@@ -1,4 +1,4 @@
 pub mod Promise
-pub mod WrittenWork
 pub mod Work
 pub mod Passes
+pub mod Without

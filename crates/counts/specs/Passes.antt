@@ -2,7 +2,7 @@
 -- when it says yes, and which count is at fault first.
 use Prim.Native.Nat.{ℕ, _+_, _^_, _≤_, _<_}
 use mathlib.Core.Path.{_≡_}
-use mathlib.Core.Bool.{false}
+use mathlib.Core.Bool.{true, false}
 use mathlib.Core.Option.{some}
 use mathlib.Core.List.{List, [], _∷_, _++_, List·Memᴰ}
 use lib.ListN.{length, drop}
@@ -15,7 +15,7 @@ use Rattle.nodes.specs.Grammar.{strict, Text}
 use Rattle.nodes.specs.Reading.{openMost}
 use Rattle.nodes.specs.Worth.{behindOf}
 use Rattle.reader.specs.Promise.{textMost}
-use Rattle.branches.specs.Ends.{behindsOf, countIn}
+use Rattle.branches.specs.Ends.{behindsOf, isCount, countIn}
 use Rattle.weights.specs.declared.Rooting.the-variants.{Rooted}
 use Rattle.lineages.specs.InOrder.{GenesInOrder}
 use Rattle.counts.specs.Promise.{weightIn}
@@ -47,11 +47,12 @@ pub record Passes (line text : List ℕ) (start : ℕ) (genes : List ℕ) (count
   pub draws : DrawsBinary line text start
   pub counts : (u : Tree) → List·Memᴰ u (allNodes (draws .tree)) → CountRight genes count u
 
--- "a missing, fractional or wrong count or a second number" (#114), behind a node whose cluster has the weight w
+-- "a missing, fractional or wrong count or a second number" (#114), behind a node whose cluster has the weight w; no two of them are found behind one node:
+-- a second number stands behind a count, and where the first is missing or fractional it is that which is at fault
 pub data Fault (w : ℕ) (b : Behind) : Type 0 where
   missing : b .distance ≡ [] → Fault w b
   fractional : (v d : List ℕ) → b .distance ≡ v ++ 46 ∷ d → Fault w b
-  second : 0 < length (b .support) → Fault w b
+  second : isCount (b .distance) ≡ true → 0 < length (b .support) → Fault w b
   wrong : {other : ℕ} → countIn b ≡ some other → (other ≡ w → ⊥) → Fault w b
 
 -- "23 .. of the first such node to end, place the byte just after its closing parenthesis or, for a leaf, its name" (#114):

@@ -4,7 +4,7 @@ use mathlib.Core.Path.{_≡_}
 use mathlib.Core.Bool.{Bool, true, false, not}
 use mathlib.Core.Option.{Option, some, none}
 use mathlib.Core.List.{List, [], _∷_}
-use lib.ListN.{length, drop, replicate}
+use lib.ListN.{length, drop}
 use lib.Dec.{eqb}
 use Rattle.clusters.specs.Sets.{whole}
 use Rattle.trees.specs.Tree.{Tree, clusters}
@@ -24,6 +24,7 @@ use Rattle.writer.specs.Promise.{rosterTest, outBy}
 use Rattle.weights.specs.Count.{weight, score}
 use Rattle.weights.specs.declared.Rooting.the-variants.{Rooted}
 use Rattle.lineages.specs.Checks.{countTest, recordsTest, speciesRecordTest}
+use Rattle.terms.specs.Allowed.{everyCluster}
 use Rattle.splits.specs.Least.{scoreEntry, splitEntry}
 use Rattle.splits.specs.Best.{bestFor}
 use Rattle.search.specs.Promise.{filledBy}
@@ -33,10 +34,6 @@ use Rattle.search.specs.Promise.{filledBy}
 -- what a count has to be: the weight of a cluster over the gene trees, which "are rooted"
 abbrev pub weightIn : List ℕ → ℕ → ℕ → ℕ
 weightIn genes count a = weight Rooted (recordsIn count genes) a
-
--- an allowed set with every cluster: "over all clusters" (#114)
-abbrev pub everyCluster : ℕ → List ℕ
-everyCluster n = replicate (2 ^ n) 1
 
 -- "the least one over all clusters" (#114)
 unfoldable pub leastScore : ℕ → List (List ℕ) → ℕ
@@ -66,9 +63,13 @@ firstWrong w (a ∷ l) (e ∷ ends) = placeUnless (isRight (w a) (countIn (e .be
 
 -- ---- check
 
+-- 16, of a tree that is binary or not
+abbrev pub treeTest : Bool → Test
+treeTest two = record { fault = not two; number = 16; place = 0 }
+
 -- "16 (the tree drawn is not binary)"
 unfoldable pub drawnTest : ℕ → Tree → Test
-drawnTest n t = record { fault = not (binary (whole n) (recordOf (clusters t))); number = 16; place = 0 }
+drawnTest n t = treeTest (binary (whole n) (recordOf (clusters t)))
 
 -- "23 for a missing, fractional or wrong count or a second number" (#114)
 abbrev pub countsTest : Option ℕ → Test

@@ -1,7 +1,6 @@
 // A species text that came with branch counts, checked: each number behind a node against the weight of its cluster, and the tree's score against the least.
+use crate::judged::judge;
 use branches::next_end;
-use lineages::checks::judge_genes;
-use lineages::checks::shape;
 use reader::Kind;
 use reader::Threshold;
 use reader::read_into;
@@ -24,7 +23,7 @@ ghost use Rattle.terms.specs.declared.allowing.Allowance.the-variants.{Every};
 ghost use Rattle.solver.specs.Work.{Checked};
 ghost use Rattle.search.specs.Candidates.{BinarySpecies};
 ghost use Rattle.counts.specs.Promise.{Checks};
-ghost use Rattle.counts.specs.Work.{CountIs, AllEnd, CallJudged, CountsJudged, Distances};
+ghost use Rattle.counts.specs.Work.{CountIs, AllEnd, CountsJudged, DrawnJudged, Distances};
 
 // Whether a node has a count, and it is the weight.
 fn is_right(counted: bool, count: usize, weight: usize) -> bool
@@ -60,8 +59,8 @@ fn compare(text: &[u8], start: usize, genes: &[u16], count: usize, found: &[u32]
     done(0)
 }
 
-// 11, 12, 16 or 15 where the gene trees, the tables or the tree's record are at fault, and else no refusal. `check` calls it, with the record of a tree on n species.
-fn judge(
+// 11, 12, 16 or 15 where the gene trees, the tables or the tree are at fault, and else no refusal. `check` calls it, with the record of the tree that was read on n species.
+fn judge_drawn(
     n: usize,
     genes: &[u16],
     count: usize,
@@ -72,23 +71,11 @@ fn judge(
     requires { ⌜ 1 ≤ n ⌝ }
     requires { ⌜ n ≤ 16 ⌝ }
     requires { ⌜ length (now numbers) ≡ 32 ⌝ }
-    ensures { λ r. ⌜ CallJudged n (now (genes .entry)) count (now (numbers .entry)) (now (scores .entry)) (now (splits .entry)) r ⌝ }
+    ensures { λ r. ⌜ DrawnJudged n (now (genes .entry)) count (now (numbers .entry)) (now (scores .entry)) (now (splits .entry)) r ⌝ }
 {
-    let number = shape(n, genes, count);
-    if number != 0 {
-        return refused(number, 0);
-    }
     let entries = clusters::single(n) as usize;
-    if scores.len() < entries {
-        return refused(12, 0);
-    }
-    if splits.len() < entries {
-        return refused(12, 0);
-    }
-    if !records::binary(numbers, clusters::whole(n)) {
-        return refused(16, 0);
-    }
-    judge_genes(Rooting::Rooted, n, genes, count)
+    let binary = records::binary(numbers, clusters::whole(n));
+    judge(n, genes, count, entries, scores, splits, binary)
 }
 
 // The score of the tree less the least one; both tables are filled. `check` calls it, behind all its checks.
@@ -146,7 +133,7 @@ pub fn check(
     }
     let n = roster::judge(line).value;
     let numbers = reading.numbers;
-    let judged = judge(n, genes, count, &numbers, scores, splits);
+    let judged = judge_drawn(n, genes, count, &numbers, scores, splits);
     if judged.number != 0 {
         return judged;
     }

@@ -1,5 +1,6 @@
 // Trees that come with branch counts (#114): checked, and written.
 mod checked;
+mod judged;
 mod written;
 
 pub use checked::check;

@@ -1,7 +1,6 @@
 // The text of a species tree with the weight of its cluster behind each node.
+use crate::judged::judge;
 use lineages::checks::is_species_tree;
-use lineages::checks::judge_genes;
-use lineages::checks::shape;
 use roster::Reply;
 use roster::refused;
 use trees::Record;
@@ -13,7 +12,7 @@ ghost use lib.ListN.{length};
 ghost use Rattle.trees.specs.Records.{Form, recordsIn};
 ghost use Rattle.weights.specs.Work.{AllCountable};
 ghost use Rattle.counts.specs.Promise.{WritesCounts};
-ghost use Rattle.counts.specs.WrittenWork.{Weighed, TreesJudged};
+ghost use Rattle.counts.specs.Work.{Weighed};
 
 // The weight of each cluster of the record, at the cluster's own index. `write_counts` calls it, with what `judge` has passed.
 fn weigh_all(genes: &[u16], count: usize, numbers: &[u16], counts: &mut [u32])
@@ -30,23 +29,6 @@ fn weigh_all(genes: &[u16], count: usize, numbers: &[u16], counts: &mut [u32])
         counts[i] = weigh(Rooting::Rooted, genes, count, numbers[i] as u32) as u32;
         i += 1;
     }
-}
-
-// 11, 12, 16 or 15 where the gene trees or the species record are at fault. `write_counts` calls it, behind a good roster, which has 1 to 16 names.
-fn judge(n: usize, genes: &[u16], count: usize, numbers: &[u16]) -> Reply
-    requires { ⌜ 1 ≤ n ⌝ }
-    requires { ⌜ n ≤ 16 ⌝ }
-    requires { ⌜ length (now numbers) ≡ 32 ⌝ }
-    ensures { λ r. ⌜ TreesJudged n (now (genes .entry)) count (now (numbers .entry)) r ⌝ }
-{
-    let number = shape(n, genes, count);
-    if number != 0 {
-        return refused(number, 0);
-    }
-    if !is_species_tree(n, numbers) {
-        return refused(16, 0);
-    }
-    judge_genes(Rooting::Rooted, n, genes, count)
 }
 
 // Writes the text of the species tree, behind each node `:` and the weight of its cluster, into out, and answers its length.
@@ -67,7 +49,8 @@ pub fn write_counts(
     let n = roster.count;
     let table = roster.table;
     let numbers = species.numbers;
-    let judged = judge(n, genes, count, &numbers);
+    let binary = is_species_tree(n, &numbers);
+    let judged = judge(n, genes, count, 0, &[], &[], binary);
     if judged.number != 0 {
         return judged;
     }

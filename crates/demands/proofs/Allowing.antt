@@ -32,7 +32,7 @@ use Rattle.demands.specs.Input.Allows.{every, lone, entire, shown}
 
 -- a gene tree shows what its record does
 shows-exactly : (rooting : Rooting) (t : Tree) (a : ℕ) → Among a (shownBy rooting (recordOf (clusters t))) ↔ Among a (clustersShown rooting t)
-shows-exactly Rooted t a = (among-record (clusters t), record-among (clusters t))
+shows-exactly Rooted t a = (among-record 16 (clusters t), record-among 16 (clusters t))
 shows-exactly Unrooted t a = (λ m. m, λ m. m)
 
 module _ (rooting : Rooting) where

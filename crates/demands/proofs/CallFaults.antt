@@ -39,11 +39,13 @@ use Rattle.search.specs.declared.tied.Tied.{Tied}
 use Rattle.search.proofs.Accepted.{none-gives}
 use Rattle.search.proofs.Tying.{none-gives-ties}
 use Rattle.search.proofs.Demand.{found-answers, none-competes}
+use Rattle.counts.specs.Promise.{countsText, writeCountsTests, WritesCounts}
 use Rattle.demands.specs.CallFaults.{RosterFault, RootingFault, NoTreeFault}
-use Rattle.demands.specs.CallFaults.{WriteFault, WeightFault, ScoreFault, MarkFault, BehindLengths, SearchRest, SearchFault, TiesFault, PlainFault, SheetFault}
+use Rattle.demands.specs.CallFaults.{WriteFault, WriteCountsFault, WeightFault, ScoreFault, MarkFault, BehindLengths, SearchRest, SearchFault, TiesFault, PlainFault, SheetFault}
 use Rattle.demands.specs.CallFaults.NoTreeFault.{no-tree}
 use Rattle.demands.proofs.FirstFaults.{Exact, Meets, exact-last, exact-next, refused-at, one-fault, behind-passed}
-use Rattle.demands.proofs.TestFaults.{species-met, over-seven-met, count-met, length-met, species-record-met, records-met, records-passed, rooting-met, record-met, cluster-met, allowed-met, roster-met}
+use Rattle.demands.proofs.TestFaults.{roster-met, species-met, over-seven-met, count-met, length-met, species-record-met}
+use Rattle.demands.proofs.TestFaults.{records-met, records-passed, rooting-met, record-met, cluster-met, allowed-met}
 
 -- ---- judging a roster
 
@@ -86,6 +88,29 @@ module _ (line tree out : List ℕ) where
   -- "both fixed in advance": one number and place at the most
   pub one-write-fault : {k p k′ p′ : ℕ} → WriteFault line tree out k p → WriteFault line tree out k′ p′ → (k ≡ k′) × (p ≡ p′)
   one-write-fault = one-fault write-exact
+
+-- ---- writing a tree with branch counts
+
+module _ (line genes : List ℕ) (count : ℕ) (species out : List ℕ) where
+  pub write-counts-exact : Exact (verdict (writeCountsTests line genes count species out)) (WriteCountsFault line genes count species out)
+  unfolding writeCountsTests
+  write-counts-exact =
+      exact-next _ (roster-met line) (λ good.
+      exact-next _ (count-met count) (λ c.
+      exact-next _ (length-met genes (32 * count)) (λ l.
+      exact-next _ (species-record-met (length (names line)) species (good-few line good)) (λ t.
+      exact-next _ (records-met (length (names line)) (good-few line good) (recordsIn count genes)) (λ v.
+      exact-last (length-met out (length (countsText (names line) genes count species))))))))
+
+  -- "1, 11, 12 (genes), 16, 15, 12 (the text)" (#114): refused with a number at a place exactly where that fault stands
+  pub write-counts-refused-at :
+      (r : Reply) (after : List ℕ) → WritesCounts line genes count species out r after → (number place : ℕ)
+      → ((r .number ≡ number) × (r .place ≡ place) × (number ≡ 0 → ⊥)) ↔ WriteCountsFault line genes count species out number place
+  write-counts-refused-at r after w = refused-at write-counts-exact (ap (λ (r : Reply). r .number) (w .answer)) (ap (λ (r : Reply). r .place) (w .answer))
+
+  pub one-write-counts-fault :
+      {k p k′ p′ : ℕ} → WriteCountsFault line genes count species out k p → WriteCountsFault line genes count species out k′ p′ → (k ≡ k′) × (p ≡ p′)
+  one-write-counts-fault = one-fault write-counts-exact
 
 -- ---- the calls that take gene records and do not search
 

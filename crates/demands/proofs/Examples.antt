@@ -18,7 +18,7 @@ use Rattle.tokens.specs.Supports.{supported}
 use Rattle.tokens.specs.Values.{leading, decimals, writtenBehind, written as writes, filled, tooFine, thousandths}
 use Rattle.tokens.specs.declared.answer.Value.the-variants.{Thousandths, NoValue}
 use Rattle.tokens.specs.Tokens.{blanks, skip, number, numberBehind, numbers, name, innerName}
-use Rattle.reader.specs.Promise.{answerTo}
+use Rattle.reader.specs.Promise.{answerWithin}
 use Rattle.nodes.specs.Reading.{leafBy, closingBy, readTreeToBy, readTreeBy, readNodeBy}
 use Rattle.labels.specs.Bytes.{run, nextIs, nextLabel}
 use Rattle.labels.specs.Labels.{bareLetters, letters, lettersFrom, doubled, rawTo, told, padded}
@@ -31,7 +31,7 @@ use Rattle.terms.specs.Allowed.{allowedIn}
 use Rattle.splits.specs.Best.{bestFor}
 use Rattle.trees.specs.Drawn.{properly, maximal, placed, byLowest, children, drawnTo, drawn}
 use Rattle.trees.specs.Lists.{upTo, keep, some, insert, sorted, pieces, total}
-use Rattle.trees.specs.Records.{recordOf}
+use Rattle.trees.specs.Records.{recordFor}
 use Rattle.trees.specs.Tree.{cluster, clusters}
 use Rattle.trees.specs.Thinned.{leftBelow, clustersLeft}
 use Rattle.trees.specs.Valid.{every as every-trees, among, rising, singlesFrom}
@@ -158,10 +158,10 @@ examples =
 pub examples-hold : allHold examples ≡ true
 unfolding examples ones onesIn trailingZeros whole single union has within apart size lowest recordIn foundIn tiesIn readingBelow holds allHold unrootedHas
     unrootedClusters maximalWithin kDrawn kOf extra total weight
-    score pieces shown marks answerTo leafBy closingBy readTreeToBy readTreeBy readNodeBy nextIs nextLabel blanks skip number numberBehind numbers supported
+    score pieces shown marks answerWithin leafBy closingBy readTreeToBy readTreeBy readNodeBy nextIs nextLabel blanks skip number numberBehind numbers supported
     name innerName run bareLetters letters lettersFrom doubled rawTo told padded upTo same position inQuotes begins beginnings nameAt names strayAt
     longAt manyAt againAt openAt faultAt least firstFault faulty clustersIn isLow lows each forks treesTo treesOn those all scoreOf treesOver
-    leastTrees best allowedIn bestFor properly maximal placed byLowest children drawnTo drawn keep some insert sorted recordOf cluster clusters
+    leastTrees best allowedIn bestFor properly maximal placed byLowest children drawnTo drawn keep some insert sorted recordFor cluster clusters
     every-trees among rising singlesFrom treeText written nodeText labelOf mayBeBare
     tooFine decimals leading thousandths writtenBehind writes filled clustersLeft leftBelow tieEntry tiesFor
     lineLength firstLine behindLine endsInFeed modePlace treesPlace modeOf gatherTo walk gather rootingTest outcome program digitsTo decimal output

@@ -1,37 +1,42 @@
 -- The first demand: "Every text, roster, table and number handed over gets a reply", and what a call that turns something away leaves behind.
 use Prim.Native.Nat.{ℕ, _-_, _^_, _≤_}
 use mathlib.Core.Path.{_≡_, refl, ap, ap₂, _∙_}
-use mathlib.Core.Logic.{inl, inr}
+use mathlib.Core.Logic.{_⊎_, inl, inr}
 use mathlib.Core.Bool.{Bool, true, false}
-use mathlib.Core.Option.{Option}
-use mathlib.Core.List.{List, [], _∷_, _++_, map, List·Memᴰ·head as here, List·Memᴰ·tail as there, Memᴰ·append-left}
+use mathlib.Core.Option.{Option, some, none}
+use mathlib.Core.List.{List, [], _∷_, _++_, map, List·Memᴰ·head as here, List·Memᴰ·tail as there, List·Memᴰ·cases-cons, Memᴰ·append-left, Memᴰ·append-right}
 use native.Mathlib.Omega.{arith}
 use lib.ListN.{length, drop, replicate}
 use Rattle.clusters.specs.Sets.{whole}
 use Rattle.trees.specs.Lists.{Among, upTo}
-use Rattle.trees.specs.Tree.{Tree}
+use Rattle.trees.specs.Tree.{Tree, clusters}
+use Rattle.trees.proofs.UpTo.{upTo-among}
 use Rattle.roster.specs.Roster.{names, faulty, firstFault}
 use Rattle.roster.specs.Judged.{Judged, judgedBy, speciesMost}
 use Rattle.roster.specs.Verdict.{Test, Verdict, verdict, lengthTest, valueBy, replyOf}
 use Rattle.roster.specs.declared.Reply.{Reply}
 use Rattle.tokens.specs.declared.answer.Threshold.{Threshold}
+use Rattle.tokens.specs.declared.answer.Threshold.the-variants.{NoThreshold}
 use Rattle.tokens.specs.Answers.{Answer}
 use Rattle.tokens.specs.Answers.Answer.{parsed, refused}
 use Rattle.reader.specs.Promise.{readingOf, answerTo, Reads}
 use Rattle.reader.specs.declared.Kind.{Kind}
+use Rattle.reader.specs.declared.Kind.the-variants.{Species}
 use Rattle.reader.specs.declared.Reading.{Reading}
 use Rattle.printing.specs.Texts.{reportBytes}
+use Rattle.branches.specs.Ends.{endsFrom}
 use Rattle.texts.specs.Writing.{written}
 use Rattle.writer.specs.Promise.{rosterTest, recordTest, writeTests, outBy, Writes}
 use Rattle.weights.specs.Count.{weight, score}
 use Rattle.trees.specs.Records.{recordsIn}
 use Rattle.weights.specs.declared.Rooting.{Rooting}
+use Rattle.weights.specs.declared.Rooting.the-variants.{Rooted}
 use Rattle.lineages.specs.Checks.{speciesTest, countTest, speciesRecordTest, recordsTest, rootingTest, clusterTest, weightTests, scoreTests, markTests}
 use Rattle.lineages.specs.Promise.{Weighs, Scores, Marks, markedBy}
 use Rattle.lineages.proofs.Verdicts.{NoneGives}
 use Rattle.splits.specs.BinaryTrees.{Binary}
 use Rattle.splits.specs.Least.{scoreEntry, splitEntry}
-use Rattle.terms.specs.Allowed.{allowedTest}
+use Rattle.terms.specs.Allowed.{allowedTest, everyCluster}
 use Rattle.sheet.specs.Promise.{sheetTests, entryFor, entriesBy, Sheets}
 use Rattle.sheet.specs.declared.Entry.{Entry}
 use Rattle.sheet.proofs.Entries.{none-altered}
@@ -45,13 +50,17 @@ use Rattle.search.specs.declared.tied.Tied.{Tied}
 use Rattle.search.proofs.Accepted.{none-gives}
 use Rattle.search.proofs.Tying.{tests-passed}
 use Rattle.search.proofs.Ties.{is-a-search, some-tie-exactly}
+use Rattle.counts.specs.Promise.{distance, drawnTest, countsTest, checkTests, checkVerdict, distanceOf, Checks, countsText, writeCountsTests, WritesCounts}
+use Rattle.counts.proofs.Checking.{saidOf, wrongIn}
+use Rattle.counts.proofs.Nearest.{refusal-keeps}
 use Rattle.report.specs.Promise.{output, Reports}
 use Rattle.demands.specs.Outcomes.{Replies, TurnedAway, NotFound, NotTied}
 use Rattle.demands.specs.TextFaults.{TextFault}
 use Rattle.demands.proofs.Refusals.{among-once, among-behind, replyOf-refused, outBy-refused, markedBy-refused, filledBy-refused, filled, replyOf-done}
 use Rattle.demands.proofs.Refusals.{Refused, refused-ways, refused-not-found, refused-by-test, refused-by-none, found-done}
-use Rattle.demands.proofs.TextFaults.{fault-of-refusal, fault-numbers}
-use Rattle.demands.proofs.OneOutcome.{judge-once, read-once, write-once, weigh-once, score-once, mark-once, find-once, tie-once, plain-once, sheet-once, report-once}
+use Rattle.demands.proofs.TextFaults.{fault-of-refusal, fault-numbers, plain-fault-numbers}
+use Rattle.demands.proofs.OneOutcome.{judge-once, read-once, write-once, weigh-once, score-once, mark-once, find-once, tie-once, plain-once, sheet-once}
+use Rattle.demands.proofs.OneOutcome.{check-once, write-counts-once, report-once}
 
 -- ---- "Every text, roster, table and number handed over gets a reply. .. No caller has to check first."
 
@@ -173,6 +182,41 @@ replies-sheet rooting n genes count records entries =
       meets = meets;
       only = λ o p.
           let e = sheet-once rooting n genes count records entries (o .0) reply (o .1) after p meets in ap₂ (λ (r : Reply) (l : List Entry). (r, l)) (e .0) (e .1);
+    }
+
+-- any text with any gene trees, and any two tables lent (#114)
+pub replies-check :
+    (line text : List ℕ) (start : ℕ) (genes : List ℕ) (count : ℕ) (scores splits : List ℕ)
+    → Replies (λ (o : Reply × List ℕ × List ℕ). Checks line text start genes count scores splits (o .0) (o .1) (o .2))
+replies-check line text start genes count scores splits =
+    let said : Verdict = saidOf line text start genes count scores splits in
+    let n : ℕ = length (names line) in
+    let trees : ℕ → Option Binary = bestFor Rooted n (recordsIn count genes) (everyCluster n) in
+    let reply : Reply = replyOf said (distanceOf n (recordsIn count genes) (answerTo Species NoThreshold line text start)) in
+    let s : List ℕ = filledBy (said .number) n (λ a. scoreEntry (weight Rooted (recordsIn count genes)) (trees a)) scores in
+    let p : List ℕ = filledBy (said .number) n (λ a. splitEntry (trees a)) splits in
+    let meets : Checks line text start genes count scores splits reply s p = record { reply = refl; scoreTable = refl; splitTable = refl } in
+    record {
+      outcome = (reply, s, p);
+      meets = meets;
+      only = λ o c.
+          let e = check-once line text start genes count scores splits (o .0) reply (o .1) s (o .2) p c meets in
+          ap (λ (r : Reply). (r, o .1, o .2)) (e .0) ∙ ap₂ (λ (l k : List ℕ). (reply, l, k)) (e .1) (e .2);
+    }
+
+-- any roster, gene trees and species record, and any bytes lent (#114)
+pub replies-write-counts :
+    (line genes : List ℕ) (count : ℕ) (species out : List ℕ) → Replies (λ (o : Reply × List ℕ). WritesCounts line genes count species out (o .0) (o .1))
+replies-write-counts line genes count species out =
+    let said : Verdict = verdict (writeCountsTests line genes count species out) in
+    let reply : Reply = replyOf said (length (countsText (names line) genes count species)) in
+    let after : List ℕ = outBy (said .number) (countsText (names line) genes count species) out in
+    let meets : WritesCounts line genes count species out reply after = record { answer = refl; bytes = refl } in
+    record {
+      outcome = (reply, after);
+      meets = meets;
+      only = λ o w.
+          let e = write-counts-once line genes count species out (o .0) reply (o .1) after w meets in ap₂ (λ (r : Reply) (l : List ℕ). (r, l)) (e .0) (e .1);
     }
 
 -- "Every text": any input of the program
@@ -352,6 +396,57 @@ unfolding sheetTests speciesTest countTest lengthTest recordsTest rootingTest
 sheet-refused rooting n genes count records entries r after p f =
     (replyOf-refused (sheetTests rooting n genes count) 0 r (p .reply) f, none-altered p f)
 
+-- the number of the last test of `check`
+counts-number : (o : Option ℕ) → countsTest o .number ≡ 23
+counts-number (some place) = refl
+counts-number none = refl
+
+-- the numbers of the reader for species text
+read-listed : {k : ℕ} (l : List ℕ) → 1 ≤ k → k ≤ 10 → Among k ((1 ∷ 2 ∷ 3 ∷ 4 ∷ 5 ∷ 6 ∷ 7 ∷ 8 ∷ 9 ∷ 10 ∷ []) ++ l)
+unfolding upTo
+read-listed {k} l one most = Memᴰ·append-left l (positive (List·Memᴰ·cases-cons (upTo-among 11 (omega arith))))
+  where
+    positive : {m : List ℕ} → (k ≡ 0) ⊎ Among k m → Among k m
+    positive (inl z) = absurd (omega arith)
+    positive (inr m) = m
+
+-- "the reader's own, 11, 12, 16 and 15" and 23 (#114): "0 for any other value", and "Lent slices keep every byte"
+pub check-refused :
+    (line text : List ℕ) (start : ℕ) (genes : List ℕ) (count : ℕ) (scores splits : List ℕ) (r : Reply) (s p : List ℕ)
+    → Checks line text start genes count scores splits r s p → (r .number ≡ 0 → ⊥)
+    → TurnedAway (1 ∷ 2 ∷ 3 ∷ 4 ∷ 5 ∷ 6 ∷ 7 ∷ 8 ∷ 9 ∷ 10 ∷ 11 ∷ 12 ∷ 16 ∷ 15 ∷ 23 ∷ []) r × (s ≡ scores) × (p ≡ splits)
+unfolding checkVerdict checkTests countTest lengthTest drawnTest recordsTest
+check-refused line text start genes count scores splits r s p c f =
+    let kept = refusal-keeps line text start genes count scores splits c f in
+    (record { listed = go (answerTo Species NoThreshold line text start) refl; value = kept .0 }, kept .1, kept .2)
+  where
+    own : List ℕ
+    own = 1 ∷ 2 ∷ 3 ∷ 4 ∷ 5 ∷ 6 ∷ 7 ∷ 8 ∷ 9 ∷ 10 ∷ []
+
+    go : (a : Answer Tree) → answerTo Species NoThreshold line text start ≡ a
+        → Among (r .number) (1 ∷ 2 ∷ 3 ∷ 4 ∷ 5 ∷ 6 ∷ 7 ∷ 8 ∷ 9 ∷ 10 ∷ 11 ∷ 12 ∷ 16 ∷ 15 ∷ 23 ∷ [])
+    go (refused k q) e =
+        let few = plain-fault-numbers (fault-of-refusal Species NoThreshold line text start k q e) in
+        rw (c .reply, e) (read-listed (11 ∷ 12 ∷ 16 ∷ 15 ∷ 23 ∷ []) (few .0) (few .1))
+    go (parsed t rest q) e =
+        let n = length (names line) in
+        let o = wrongIn text start genes count t in
+        let l : List Test = checkTests n genes count scores splits t (endsFrom (length (clusters t)) (drop start text) start) in
+        let told : r ≡ replyOf (verdict l) (distance n (recordsIn count genes) t) = c .reply ∙ rw e in
+        let listed = rw (counts-number o) at (replyOf-refused l (distance n (recordsIn count genes) t) r told f .listed) in
+        Memᴰ·append-right own (among-behind (λ m. among-once (among-once m)) listed)
+
+-- "12 for its text comes last" (#114)
+pub write-counts-refused :
+    (line genes : List ℕ) (count : ℕ) (species out : List ℕ) (r : Reply) (after : List ℕ) → WritesCounts line genes count species out r after
+    → (r .number ≡ 0 → ⊥)
+    → TurnedAway (1 ∷ 11 ∷ 12 ∷ 16 ∷ 15 ∷ 12 ∷ []) r × (after ≡ out)
+unfolding writeCountsTests rosterTest countTest lengthTest speciesRecordTest recordsTest
+write-counts-refused line genes count species out r after w f =
+    let l : List Test = writeCountsTests line genes count species out in
+    let text : List ℕ = countsText (names line) genes count species in
+    (replyOf-refused l (length text) r (w .answer) f, w .bytes ∙ outBy-refused (verdict l .number) text out (λ z. f (ap (λ (r : Reply). r .number) (w .answer) ∙ z)))
+
 -- ---- "0 | done | 0": no call that is not refused has another place
 
 -- "done | 0": judging a roster
@@ -439,3 +534,37 @@ pub sheet-done :
 unfolding sheetTests speciesTest countTest lengthTest recordsTest rootingTest NoneGives
 sheet-done rooting n genes count records entries r after p =
     replyOf-done (sheetTests rooting n genes count) 0 r (p .reply) (λ z. omega arith, (λ z. omega arith, (λ z. omega arith, (λ z. omega arith, (λ z. omega arith, tt)))))
+
+-- "done | 0": checking a tree that came with branch counts (#114)
+pub check-done :
+    (line text : List ℕ) (start : ℕ) (genes : List ℕ) (count : ℕ) (scores splits : List ℕ) (r : Reply) (s p : List ℕ)
+    → Checks line text start genes count scores splits r s p → r .number ≡ 0 → r .place ≡ 0
+unfolding checkVerdict checkTests countTest lengthTest drawnTest recordsTest NoneGives
+check-done line text start genes count scores splits r s p c z = go (answerTo Species NoThreshold line text start) refl
+  where
+    go : (a : Answer Tree) → answerTo Species NoThreshold line text start ≡ a → r .place ≡ 0
+    go (refused k q) e =
+        let few = plain-fault-numbers (fault-of-refusal Species NoThreshold line text start k q e) in
+        let is : r .number ≡ k = ap (λ (r : Reply). r .number) (c .reply) ∙ rw e in
+        absurd (omega (arith, few .0))
+    go (parsed t rest q) e =
+        let n = length (names line) in
+        let l : List Test = checkTests n genes count scores splits t (endsFrom (length (clusters t)) (drop start text) start) in
+        let told : r ≡ replyOf (verdict l) (distance n (recordsIn count genes) t) = c .reply ∙ rw e in
+        replyOf-done l (distance n (recordsIn count genes) t) r told (
+          λ y. omega arith,
+          (
+            λ y. omega arith,
+            (λ y. omega arith, (λ y. omega arith, (λ y. omega arith, (λ y. omega arith, (λ y. omega (arith, y, counts-number (wrongIn text start genes count t)), tt))))),
+          ),
+        )
+        z
+
+-- "done | 0": writing one (#114)
+pub write-counts-done :
+    (line genes : List ℕ) (count : ℕ) (species out : List ℕ) (r : Reply) (after : List ℕ) → WritesCounts line genes count species out r after
+    → r .number ≡ 0 → r .place ≡ 0
+unfolding writeCountsTests rosterTest countTest lengthTest speciesRecordTest recordsTest NoneGives
+write-counts-done line genes count species out r after w =
+    replyOf-done (writeCountsTests line genes count species out) (length (countsText (names line) genes count species)) r (w .answer)
+    (λ z. omega arith, (λ z. omega arith, (λ z. omega arith, (λ z. omega arith, (λ z. omega arith, (λ z. omega arith, tt))))))

@@ -59,6 +59,14 @@ pub record SaidBy (said : Verdict) (k p : ℕ) : Type 0 where
 abbrev pub Exact : Verdict → (ℕ → ℕ → Type 0) → Type 0
 Exact said F = Names (SaidBy said) F
 
+-- a number that is not 0 is said at a place, and that is F's one fault
+pub exact-one : {F : ℕ → ℕ → Type 0} {k p : ℕ} → (k ≡ 0 → ⊥) → F k p → ((j q : ℕ) → F j q → (j ≡ k) × (q ≡ p)) → Exact (record { number = k; place = p }) F
+exact-one some f one = names-one (record { numbered = refl; placed = refl; some = some }) (λ j q s. (s .numbered, s .placed)) f one
+
+-- nothing is said, and F has no fault
+pub exact-none : {F : ℕ → ℕ → Type 0} {p : ℕ} → NoFault F → Exact (record { number = 0; place = p }) F
+exact-none none = record { found = λ s. absurd (s .some (s .numbered)); only = λ {k} {p} f. absurd (none k p f) }
+
 -- the test finds a fault exactly where F has one, and that is its only one
 pub record Meets (t : Test) (F : ℕ → ℕ → Type 0) : Type 0 where
   pub numbered : t .number ≡ 0 → ⊥
@@ -75,7 +83,7 @@ module _ {t : Test} {F : ℕ → ℕ → Type 0} (m : Meets t F) where
 
   -- where it does not, it says its fault
   met : t .fault ≡ true → Exact (record { number = t .number; place = t .place }) F
-  met e = names-one (record { numbered = refl; placed = refl; some = m .numbered }) (λ j q s. (s .numbered, s .placed)) (m .found e) (λ j q f. let h = m .only f in (h .1, h .2))
+  met e = exact-one (m .numbered) (m .found e) (λ j q f. let h = m .only f in (h .1, h .2))
 
 -- the last test
 pub exact-last : {t : Test} {F : ℕ → ℕ → Type 0} → Meets t F → Exact (verdict (t ∷ [])) F
@@ -84,7 +92,7 @@ exact-last {t} {F} m = go (t .fault) refl
   where
     go : (b : Bool) → t .fault ≡ b → Exact (verdictBy b t (verdict [])) F
     go true e = met m e
-    go false e = record { found = λ s. absurd (s .some (s .numbered)); only = λ {k} {p} f. absurd (passed-none m e k p f) }
+    go false e = exact-none (passed-none m e)
 
 -- a test, and those behind it
 pub exact-next :

@@ -20,7 +20,7 @@ use Rattle.nodes.specs.Grammar.{Rules, Blanks, Text}
 use Rattle.nodes.specs.Grammar.Blanks.{none, blank}
 use Rattle.nodes.specs.Grammar.Node.{a-leaf, an-inner, a-single}
 use Rattle.nodes.specs.Grammar.Text.{text}
-use Rattle.reader.specs.Promise.{readingOf, answerTo, Reads}
+use Rattle.reader.specs.Promise.{narrow, readingOf, answerTo, Reads}
 use Rattle.reader.specs.Accepted.{Draws, JustBehind}
 use Rattle.reader.specs.declared.Kind.the-variants.{Gene}
 use Rattle.reader.proofs.Accepts.{accepted-derives, derives-accepted}
@@ -151,7 +151,7 @@ turns line txt shift = record { begins = record { trees = []; trees-to = no-tree
         {genes : List (List ℕ)} {at number place : ℕ} → ReadTo line txt genes at → length genes < genesMost → begun txt at < length txt
         → answerTo Gene NoThreshold line txt (begun txt at) ≡ refused number place → TreesFault line txt shift number (shift + place)
     refuses {at = at} {number} {place} now room inside e =
-        let some = refusal-some Gene NoThreshold line txt (begun txt at) e in
+        let some = refusal-some narrow Gene NoThreshold line txt (begun txt at) e in
         refused-tree (readingOf NoThreshold (begun txt at) (refused number place)) (more-behind line txt at (now .trees-to) inside) (omega (arith, as-many now))
         (ap (readingOf NoThreshold (begun txt at)) (sym e)) (λ z. omega arith)
 

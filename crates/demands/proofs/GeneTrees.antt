@@ -71,7 +71,7 @@ cluster-small few c = let b = c .1 in omega (arith, pow-mono {j = 16} few)
 -- the record of a gene tree is valid
 drawn-valid : {n : ℕ} {t : Tree} → n ≤ 16 → OnSome n t → GeneValid n (recordOf (clusters t))
 drawn-valid {n} {t} few o =
-    let v = valid-of-drawn (on-own o) (cluster-small few (o .species)) in
+    let v = valid-of-drawn {b = 16} (on-own o) (cluster-small few (o .species)) in
     let e = largest-of-valid v in
     record {
       of-roster = subst (λ (s : ℕ). ClusterOf n s) (sym e) (o .species);
@@ -93,11 +93,11 @@ enters-exactly {n} {t} few o = (λ e. go (may-unroot-exactly few .0 (drawn-valid
     go : (u : Tree) × On (whole n) u × RootedAnyhow u × (recordOf (clusters u) ≡ recordOf (clusters t)) → Enters n t
     go (u, on, rooted, same) =
         let all : cluster t ≡ whole n =
-        sym (largest-of-valid (valid-of-drawn (on-own o) (cluster-small few (o .species)))) ∙ ap largest (sym same)
-        ∙ largest-of-valid (valid-of-drawn on (whole-below-sixteen n few))
+        sym (largest-of-valid (valid-of-drawn {b = 16} (on-own o) (cluster-small few (o .species)))) ∙ ap largest (sym same)
+        ∙ largest-of-valid (valid-of-drawn {b = 16} on (whole-below-sixteen n few))
         in
         let complete : On (whole n) t = record { once = o .once; all = all } in
-        record { complete = complete; resolved = alike-rooted (alike-of-record on complete same) rooted }
+        record { complete = complete; resolved = alike-rooted (alike-of-record 16 on complete same) rooted }
 
 -- the records may all be counted without a root exactly when all trees may
 pub trees-enter :
@@ -125,7 +125,7 @@ may-enter-exactly few = (
 -- what a gene tree adds to a weight
 extra-drawn : (rooting : Rooting) {n : ℕ} {t : Tree} (a : ℕ) → OnSome n t → extra rooting (recordOf (clusters t)) a ≡ kIn rooting t a - 1
 unfolding extra
-extra-drawn Rooted a o = ap (λ (k : ℕ). k - 1) (k-of-record a (on-own o) ∙ sym (k-counted-down a (on-own o)))
+extra-drawn Rooted a o = ap (λ (k : ℕ). k - 1) (k-of-record 16 a (on-own o) ∙ sym (k-counted-down a (on-own o)))
 extra-drawn Unrooted a o = refl
 
 module _ {n : ℕ} {genes : List (List ℕ)} {trees : List Tree} (r : RecordsOf n genes trees) where

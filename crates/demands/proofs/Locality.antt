@@ -22,14 +22,14 @@ use Rattle.nodes.specs.Deciding.{border}
 use Rattle.nodes.proofs.Fronts.{strict-placeless, text-elsewhere}
 use Rattle.nodes.proofs.Locality.{locality}
 use Rattle.meanings.proofs.Refusals.{refusal-before, refusal-inside, refusal-numbers}
-use Rattle.reader.specs.Promise.{textMost, needed, readingOf, fromStart, inLimit, onRoster, answerTo, Reads}
-use Rattle.reader.specs.Accepted.{Draws}
+use Rattle.reader.specs.Promise.{narrow, textMost, needed, readingOf, fromStart, inLimit, onRoster, answerWithin, answerTo, Reads}
+use Rattle.reader.specs.Accepted.{Draws, JustBehind}
 use Rattle.reader.specs.declared.Kind.{Kind}
 use Rattle.reader.specs.declared.Reading.{Reading}
 use Rattle.reader.proofs.Accepts.{accepted-derives, derives-accepted}
 use Rattle.demands.specs.Deciding.{SameBytes, SameBefore, Agree}
 use Rattle.demands.specs.TextFaults.{TextFault}
-use Rattle.demands.specs.TextFaults.TextFault.{of-roster, too-long, beyond, as-met}
+use Rattle.demands.specs.TextFaults.TextFaultWithin.{of-roster, too-long, beyond, as-met}
 use Rattle.demands.proofs.TextFaults.{fault-of-refusal, refusal-of-fault}
 
 -- a refusal met while reading (3 to 9, and 18) is decided by the bytes from start up to its border, and as far as it asks, by whether a label or a number goes on there:
@@ -39,29 +39,44 @@ pub answer-is-local :
     → answerTo kind threshold line text start ≡ refused number (start + d) → 3 ≤ number → (number ≡ 10 → ⊥) → length text′ ≤ textMost → start ≤ length text′
     → SameBefore text text′ start number d
     → answerTo kind threshold line text′ start ≡ refused number (start + d)
-unfolding answerTo
+unfolding answerWithin
 answer-is-local kind threshold line text text′ start d number h low byte short inside agree = judged (faulty speciesMost line) h
   where
     started :
-        (b : Bool) → fromStart kind threshold b (names line) text start ≡ refused number (start + d)
-        → readTree (isGiven threshold) (names line) (needed kind (length (names line))) (drop start text′) start ≡ refused number (start + d)
+        (b : Bool) → fromStart narrow kind threshold b (names line) text start ≡ refused number (start + d)
+        → readTree (isGiven threshold) (names line) openMost (needed kind (length (names line))) (drop start text′) start ≡ refused number (start + d)
     started true e =
-        locality (isGiven threshold) (names line) (needed kind (length (names line))) (drop start text) (drop start text′) start
+        locality (isGiven threshold) (names line) openMost (needed kind (length (names line))) (drop start text) (drop start text′) start
         d number e low byte (agree .bytes) (agree .alike)
     started false e = absurd (let z : number ≡ 10 = cc in byte z)
 
     limited :
-        (b : Bool) → inLimit kind threshold b (names line) text start ≡ refused number (start + d)
-        → readTree (isGiven threshold) (names line) (needed kind (length (names line))) (drop start text′) start ≡ refused number (start + d)
+        (b : Bool) → inLimit narrow kind threshold b (names line) text start ≡ refused number (start + d)
+        → readTree (isGiven threshold) (names line) openMost (needed kind (length (names line))) (drop start text′) start ≡ refused number (start + d)
     limited true e = started (leb start (length text)) e
     limited false e = absurd (let z : number ≡ 2 = cc in omega arith)
 
     judged :
-        (b : Bool) → onRoster kind threshold b line text start ≡ refused number (start + d)
-        → onRoster kind threshold b line text′ start ≡ refused number (start + d)
+        (b : Bool) → onRoster narrow kind threshold b line text start ≡ refused number (start + d)
+        → onRoster narrow kind threshold b line text′ start ≡ refused number (start + d)
     judged true e = absurd (let z : number ≡ 1 = cc in omega arith)
     judged false e =
         rw (le-leb (length text′) textMost short, le-leb start (length text′) inside) (limited (leb (length text) textMost) e)
+
+-- the bytes of a tree, from start up to the offset just after its `;`, stand before what is left of its text, and before what follows them in a text that has them too
+pub before-the-rests :
+    (text text′ : List ℕ) (start : ℕ) {rest : List ℕ} {next : ℕ} → JustBehind text start rest next → SameBytes text text′ start (next - start)
+    → (drop start text ≡ take (next - start) (drop start text) ++ rest)
+    × (drop start text′ ≡ take (next - start) (drop start text) ++ drop (next - start) (drop start text′))
+before-the-rests text text′ start {rest} {next} place agree =
+    let n = next - start in
+    let s = drop start text in
+    let s′ = drop start text′ in
+    let at : next ≡ start + n = omega (arith, place .after) in
+    let left : rest ≡ drop n s = place .left ∙ (ap (λ (k : ℕ). drop k text) at ∙ sym (drop-drop n start text)) in (
+      sym (take-append-drop n s) ∙ ap (λ (l : List ℕ). take n s ++ l) (sym left),
+      sym (take-append-drop n s′) ∙ ap (λ (l : List ℕ). l ++ drop n s′) agree,
+    )
 
 -- a tree is decided by the bytes from start up to the offset just after its `;`
 pub tree-is-local :
@@ -74,21 +89,18 @@ tree-is-local kind threshold line text text′ start {t} {rest} {next} h short a
     let s = drop start text in
     let s′ = drop start text′ in
     let rest′ = drop n s′ in
-    let at : next ≡ start + n = omega (arith, a .place .after) in
-    let left : rest ≡ drop n s = a .place .left ∙ (ap (λ (k : ℕ). drop k text) at ∙ sym (drop-drop n start text)) in
-    let split : s ≡ take n s ++ rest = sym (take-append-drop n s) ∙ ap (λ (l : List ℕ). take n s ++ l) (sym left) in
-    let split′ : s′ ≡ take n s ++ rest′ = sym (take-append-drop n s′) ∙ ap (λ (l : List ℕ). l ++ rest′) agree in
+    let before = before-the-rests text text′ start (a .place) agree in
     let bytes : length (take n s) ≡ n = length-take-le n s (omega (arith, length-drop start text, a .place .within, a .draws .inside)) in
-    let all : length s′ ≡ n + length rest′ = ap length split′ ∙ (length-append (take n s) rest′ ∙ ap (λ (k : ℕ). k + length rest′) bytes) in
+    let all : length s′ ≡ n + length rest′ = ap length (before .1) ∙ (length-append (take n s) rest′ ∙ ap (λ (k : ℕ). k + length rest′) bytes) in
     let inside : start ≤ length text′ = omega (arith, length-drop start text′, all, a .place .after) in
     let Drawn : List ℕ → List ℕ → Type 0 = λ l left. Text (strict (isGiven threshold) (names line)) openMost l t left in
-    let derives : Drawn (take n s ++ rest) rest = subst (λ (l : List ℕ). Drawn l rest) split (a .draws .derives) in
+    let derives : Drawn (take n s ++ rest) rest = subst (λ (l : List ℕ). Drawn l rest) (before .0) (a .draws .derives) in
     let drawn : Draws kind threshold line text′ start t rest′ =
     record {
       good = a .draws .good;
       short = short;
       inside = inside;
-      derives = subst (λ (l : List ℕ). Drawn l rest′) (sym split′)
+      derives = subst (λ (l : List ℕ). Drawn l rest′) (sym (before .1))
           (text-elsewhere (strict (isGiven threshold) (names line)) (strict-placeless (isGiven threshold) (names line)) (take n s) rest rest′ derives);
       once = a .draws .once;
       species = a .draws .species;
@@ -110,17 +122,17 @@ module _ (kind : Kind) (threshold : Threshold) (line text text′ : List ℕ) (s
 
   ends-again : faulty speciesMost line ≡ false → drop start text′ ≡ drop start text → length text′ ≡ length text
       → answerTo kind threshold line text start ≡ answerTo kind threshold line text′ start
-  unfolding answerTo
+  unfolding answerWithin
   ends-again good same-end same-length =
       rw (good, same-length, le-leb (length text) textMost short, same-length) (started (leb start (length text)))
     where
-      started : (b : Bool) → fromStart kind threshold b (names line) text start ≡ fromStart kind threshold b (names line) text′ start
+      started : (b : Bool) → fromStart narrow kind threshold b (names line) text start ≡ fromStart narrow kind threshold b (names line) text′ start
       started true = rw same-end refl
       started false = rw same-length refl
 
   fault-again : {number place : ℕ} → answerTo kind threshold line text start ≡ refused number place → TextFault kind threshold line text start number place
       → Agree text text′ start (readingOf threshold start (refused number place)) → Again (refused number place)
-  unfolding answerTo
+  unfolding answerWithin
   fault-again h (of-roster f) agree = ap (readingOf threshold start) (sym (refusal-of-fault (of-roster f)))
   fault-again h (too-long good l) agree = absurd (omega arith)
   fault-again h (beyond good l b) agree =

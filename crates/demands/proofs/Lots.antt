@@ -17,7 +17,7 @@ use Rattle.splits.specs.BinaryTrees.{each}
 use Rattle.splits.proofs.Membership.{among-each, each-among}
 use Rattle.search.specs.Candidates.{Accepted, Candidate, SameAllowed}
 use Rattle.search.proofs.Demand.{Replied, replied, accepted-of, zero-exactly, fourteen-exactly}
-use Rattle.search.proofs.Demand.Replied.{answered, nothing as none-there}
+use Rattle.search.proofs.AnyWeights.RepliedBy.{answered, nothing as none-there}
 use Rattle.search.proofs.Lots.{AddedUp, least-exactly, sum-le-whole, sum-reached-exactly, least-shared-exactly, score-of-lots, reply-is-least}
 use Rattle.search.proofs.HowMany.{some-member}
 use Rattle.search.proofs.Lots.{competes-too, zeros-and-ones-too}

@@ -9,8 +9,8 @@ use lib.Seq.{take-at, drop-at, take-all}
 use Rattle.clusters.specs.Sets.{whole, single, union, has, within, apart, size, lowest}
 use Rattle.trees.specs.Drawn.{properly, maximal, placed, byLowest, children}
 use Rattle.trees.specs.Lists.{keep, some, insert, sorted, pieces, total, upTo}
-use Rattle.trees.specs.Records.{recordOf, recordsIn}
-use Rattle.trees.specs.Valid.{every, among, rising, singlesFrom, nested, valid, validGene, binary}
+use Rattle.trees.specs.Records.{recordOf, recordFor, recordsIn}
+use Rattle.trees.specs.Valid.{every, among, rising, singlesFrom, nested, validFor, validGeneFor, binary}
 use Rattle.roster.specs.Roster.{least}
 use Rattle.roster.specs.Verdict.{verdict, lengthTest}
 use Rattle.weights.specs.Count.{kOf, extra, weight, score}
@@ -57,7 +57,7 @@ replies :
     × (replyTo (ac-b ++ ab-c) 2 only-bc ≡ tree 2 (recordOf (1 ∷ 2 ∷ 4 ∷ 6 ∷ 7 ∷ [])))
 unfolding ab-c ac-b every-cluster no-cluster only-bc lent replyTo rootingTest firstFailing ones onesIn trailingZeros whole single union has within
     apart size lowest keep some insert sorted
-    recordOf properly maximal placed byLowest children every among rising singlesFrom nested valid validGene binary verdict lengthTest kOf extra total weight score
+    recordFor properly maximal placed byLowest children every among rising singlesFrom nested validFor validGeneFor binary verdict lengthTest kOf extra total weight score
     pieces speciesTest countTest recordsTest upTo least clustersIn isLow lows each forks treesTo treesOn those all scoreOf treesOver leastTrees
     best allowedIn firstStrange allowedTest searchTests bestFor
 replies = (refl, refl, refl, refl, refl, refl, refl, refl, refl, refl)
@@ -122,7 +122,7 @@ parted g h allowed first second both e k b = record {
 }
 
 sizes : (length ab-c ≡ 32) × (length ac-b ≡ 32) × (length every-cluster ≡ 8) × (length only-bc ≡ 8)
-unfolding ab-c ac-b every-cluster only-bc recordOf sorted insert
+unfolding ab-c ac-b every-cluster only-bc recordFor sorted insert
 sizes = (refl, refl, refl, refl)
 
 -- ---- the examples

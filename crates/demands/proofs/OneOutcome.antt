@@ -24,6 +24,9 @@ use Rattle.search.proofs.Demand.{finds-once}
 use Rattle.search.specs.TiesPromise.{FindsTies}
 use Rattle.search.specs.declared.tied.Tied.{Tied}
 use Rattle.search.proofs.Ties.{ties-once}
+use Rattle.counts.specs.Promise.{Checks, WritesCounts}
+use Rattle.counts.proofs.Answered.{writes-counts-once}
+use Rattle.counts.proofs.Outcomes.{checks-once}
 use Rattle.report.specs.Promise.{Reports}
 
 -- "it is proved that the promise admits a single outcome": for a roster line
@@ -85,6 +88,18 @@ pub sheet-once :
     (rooting : Rooting) (n : ℕ) (genes : List ℕ) (count : ℕ) (records : List ℕ) (entries : List Entry) (r r′ : Reply) (after after′ : List Entry)
     → Sheets rooting n genes count records entries r after → Sheets rooting n genes count records entries r′ after′ → (r ≡ r′) × (after ≡ after′)
 sheet-once rooting n genes count records entries r r′ after after′ p q = sheets-once p q
+
+-- for a tree that came with branch counts (#114): the reply and both tables
+pub check-once :
+    (line text : List ℕ) (start : ℕ) (genes : List ℕ) (count : ℕ) (scores splits : List ℕ) (r r′ : Reply) (s s′ p p′ : List ℕ)
+    → Checks line text start genes count scores splits r s p → Checks line text start genes count scores splits r′ s′ p′ → (r ≡ r′) × (s ≡ s′) × (p ≡ p′)
+check-once line text start genes count scores splits r r′ s s′ p p′ c c′ = checks-once c c′
+
+-- for one written (#114): the reply and the lent bytes
+pub write-counts-once :
+    (line genes : List ℕ) (count : ℕ) (species out : List ℕ) (r r′ : Reply) (after after′ : List ℕ)
+    → WritesCounts line genes count species out r after → WritesCounts line genes count species out r′ after′ → (r ≡ r′) × (after ≡ after′)
+write-counts-once line genes count species out r r′ after after′ w w′ = writes-counts-once w w′
 
 -- for the program's report
 pub report-once : (input : List ℕ) (r r′ : _) → Reports input r → Reports input r′ → r ≡ r′

@@ -42,7 +42,7 @@ use Rattle.outcomes.specs.Outcome.{Outcome, programMost, outcomeOf, searched, a
 use Rattle.outcomes.specs.Outcome.Outcome.{refused, solved}
 use Rattle.demands.specs.CallFaults.{_before_, RosterFault}
 use Rattle.demands.specs.TextFaults.{TextFault}
-use Rattle.demands.specs.CallFaults.RosterFault.{roster-faulty}
+use Rattle.demands.specs.CallFaults.RosterFaultOf.{roster-faulty}
 use Rattle.demands.specs.CallFaults._before_.{first, later}
 use Rattle.demands.specs.Input.{TreesTo, TreesStand}
 use Rattle.demands.specs.Input.TreesTo.{no-tree-yet, one-more}

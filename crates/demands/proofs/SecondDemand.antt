@@ -60,7 +60,7 @@ use Rattle.demands.proofs.TextFaults.{fault-of-refusal, fault-numbers}
 
 -- the record of a tree's clusters has them
 record-clusters : (cs : List ℕ) → SameClusters (listed (recordOf cs)) cs
-record-clusters cs x = (λ m. among-record cs m, λ m. record-among cs m)
+record-clusters cs x = (λ m. among-record 16 cs m, λ m. record-among 16 cs m)
 
 -- "read to the set of clusters it draws": what was read is what the grammar draws; with a threshold, what that leaves of it (#113)
 pub read-to-its-clusters :
@@ -183,8 +183,8 @@ same-record :
     → Draws kind threshold line text start t rest → Draws kind′ threshold′ line text′ start′ t′ rest′
     → SameClusters (clustersRead threshold t) (clustersRead threshold′ t′) → recordOf (clustersRead threshold t) ≡ recordOf (clustersRead threshold′ t′)
 same-record kind kind′ threshold threshold′ line text text′ start start′ t t′ rest rest′ d d′ same =
-    record-same (clustersRead threshold t) (recordOf (clustersRead threshold′ t′)) (draws-gene d′ .0 .valid .form) (clusters-read-once threshold t (d .once))
-    (λ x m. record-among (clustersRead threshold′ t′) (same x .0 m)) (λ x m. same x .1 (among-record (clustersRead threshold′ t′) m))
+    record-same (clustersRead threshold t) (draws-gene d′ .0 .valid) (clusters-read-once threshold t (d .once))
+    (λ x m. record-among 16 (clustersRead threshold′ t′) (same x .0 m)) (λ x m. same x .1 (among-record 16 (clustersRead threshold′ t′) m))
 
 -- "written back in one form": two texts of either kind that are read to the same clusters are written alike, byte for byte, into the same lent bytes
 pub one-form :

@@ -3,23 +3,20 @@ use Prim.Native.Nat.{ℕ, _+_, _-_, _^_, _≤_, _<_}
 use mathlib.Core.Path.{_≡_, refl, sym, ap, _∙_}
 use mathlib.Core.List.{List, [], _∷_, _++_, List·Memᴰ, List·Memᴰ·cases-cons, List·Memᴰ·eq-of-singleton}
 use mathlib.Core.Logic.{_⊎_, inl, inr}
-use mathlib.Core.Bool.{true}
 use native.Mathlib.Omega.{arith}
 use lib.Count.{ones, onesIn, trailingZeros}
-use lib.Dec.{ltb}
 use lib.ListN.{length, take, drop, getD, replicate}
-use borrow.Author.Tests.{ltb-true}
 use Rattle.clusters.specs.Sets.{whole, single, union, has, within, apart, size, lowest}
 use Rattle.labels.specs.Bytes.{run, nextIs, nextLabel}
 use Rattle.labels.specs.Labels.{bareLetters, letters, lettersFrom, doubled, rawTo, told, padded}
 use Rattle.labels.specs.Writing.{labelOf, mayBeBare}
 use Rattle.trees.specs.Drawn.{properly, maximal, placed, byLowest, children, drawnTo, drawn}
 use Rattle.trees.specs.Lists.{keep, some, insert, sorted, pieces, total, upTo}
-use Rattle.trees.specs.Records.{recordOf, recordsIn}
+use Rattle.trees.specs.Records.{recordOf, recordFor, recordsIn}
 use Rattle.trees.specs.Tree.{cluster, clusters}
 use Rattle.trees.specs.Unrooted.{resolved, mayUnroot}
 use Rattle.trees.specs.Thinned.{leftBelow, clustersLeft}
-use Rattle.trees.specs.Valid.{every, among, rising, singlesFrom, nested, valid, validGene, binary}
+use Rattle.trees.specs.Valid.{every, among, rising, singlesFrom, nested, validFor, validGeneFor, binary}
 use Rattle.roster.specs.Roster.{same, position, inQuotes, begins, beginnings, nameAt, names, strayAt, longAt, manyAt, againAt, openAt, faultAt, least, firstFault, faulty}
 use Rattle.roster.specs.Judged.{Judged}
 use Rattle.roster.specs.Verdict.{verdict, lengthTest}
@@ -29,7 +26,7 @@ use Rattle.tokens.specs.declared.answer.Threshold.the-variants.{NoThreshold, Be
 use Rattle.tokens.specs.Supports.{supported}
 use Rattle.tokens.specs.Values.{leading, decimals, writtenBehind, written as writes, filled, tooFine, thousandths}
 use Rattle.tokens.specs.Tokens.{blanks, skip, number, numberBehind, numbers, name, innerName}
-use Rattle.reader.specs.Promise.{answerTo, Reads}
+use Rattle.reader.specs.Promise.{answerWithin, Reads}
 use Rattle.nodes.specs.Reading.{leafBy, closingBy, readTreeToBy, readTreeBy, readNodeBy}
 use Rattle.reader.specs.declared.Kind.{Kind}
 use Rattle.reader.specs.declared.Kind.the-variants.{Species, Gene}
@@ -47,7 +44,6 @@ use Rattle.sheet.specs.Promise.{Sheets}
 use Rattle.splits.specs.BinaryTrees.{clustersIn, isLow, lows, each, forks, treesTo, treesOn}
 use Rattle.splits.specs.Least.{those, all, scoreOf, treesOver, leastTrees, best, noTree}
 use Rattle.terms.specs.Allowed.{allowedIn}
-use Rattle.search.proofs.BestTrees.{every-among}
 use Rattle.terms.specs.Allowed.{firstStrange, allowedTest}
 use Rattle.plain.specs.Promise.{FindsPlainly}
 use Rattle.search.specs.Promise.{searchTests, Finds}
@@ -65,8 +61,8 @@ use Rattle.report.specs.Input.{lineLength, firstLine, behindLine, endsInFeed, m
 use Rattle.report.specs.Program.{modeOf, program}
 use Rattle.outcomes.specs.Outcome.{searched}
 use Rattle.report.specs.Promise.{output, Reports}
-use Rattle.demands.specs.Handed.{Slice, Bytes, AnyRecord, ToRead, ToWrite, GeneTrees, ToWeigh, ToScore, ToMark, ToSearch, ToTie, ToPlain, AnyEntry, ToSheet}
-use Rattle.demands.proofs.SmallInputs.{ab-cd, ac-bd, every-of-four, lent-of-four}
+use Rattle.demands.specs.Handed.{Bytes, AnyRecord, ToRead, ToWrite, GeneTrees, ToWeigh, ToScore, ToMark, ToSearch, ToTie, ToPlain, AnyEntry, ToSheet}
+use Rattle.demands.proofs.SmallInputs.{slice-told, abc-line, ab-cd, ac-bd, every-of-four, lent-of-four}
 use Rattle.demands.proofs.FirstDemand.{replies-score, replies-find}
 use Rattle.demands.proofs.Scorable.{scored-exactly}
 use Rattle.demands.proofs.Sheets.{sheet-exactly, as-single-call, twelve-and-zero}
@@ -97,10 +93,10 @@ judge-a r p = p
 read-a :
     (kind : Kind) (threshold : Threshold) (r : Reading) → Reads kind threshold a-line a-text 0 r
     → r ≡ record { number = 0; place = 0; next = 2; numbers = a-record }
-unfolding a-line a-text a-record Reads ones onesIn trailingZeros whole single union has within apart size lowest answerTo leafBy closingBy
+unfolding a-line a-text a-record Reads ones onesIn trailingZeros whole single union has within apart size lowest answerWithin leafBy closingBy
     readTreeToBy readTreeBy readNodeBy nextIs nextLabel blanks skip number numberBehind numbers supported name innerName run bareLetters letters lettersFrom
     doubled rawTo told padded upTo same position inQuotes begins beginnings nameAt names strayAt longAt manyAt againAt openAt faultAt least firstFault
-    faulty keep some insert sorted recordOf cluster clusters clustersLeft tooFine decimals leading
+    faulty keep some insert sorted recordFor cluster clusters clustersLeft tooFine decimals leading
 read-a Species NoThreshold r p = p
 read-a Species (Below amount) r p = p
 read-a Gene NoThreshold r p = p
@@ -111,38 +107,35 @@ ab-line : List ℕ
 ab-line = 97 ∷ 32 ∷ 98 ∷ []
 
 read-a-of-two : (r : Reading) → Reads Species NoThreshold ab-line a-text 0 r → Reads Gene NoThreshold ab-line a-text 0 r → ⊥
-unfolding ab-line a-text Reads ones onesIn trailingZeros whole single union has within apart size lowest answerTo leafBy closingBy readTreeToBy
+unfolding ab-line a-text Reads ones onesIn trailingZeros whole single union has within apart size lowest answerWithin leafBy closingBy readTreeToBy
     readTreeBy readNodeBy nextIs nextLabel blanks skip number numberBehind numbers supported name innerName run bareLetters letters lettersFrom doubled rawTo
     told padded upTo same position inQuotes begins beginnings nameAt names strayAt longAt manyAt againAt openAt faultAt least firstFault faulty keep
-    some insert sorted recordOf cluster clusters
+    some insert sorted recordFor cluster clusters
 read-a-of-two r p q = omega (arith, ap (λ (r : Reading). r .number) (sym p ∙ q))
 
--- roster `a b c`, and `((a,b)::0.5,c);`, which loses a cluster at 501 thousandths and not at 500
-abc-line : List ℕ
-abc-line = 97 ∷ 32 ∷ 98 ∷ 32 ∷ 99 ∷ []
-
+-- `((a,b)::0.5,c);`, which loses a cluster at 501 thousandths and not at 500
 half-text : List ℕ
 half-text = 40 ∷ 40 ∷ 97 ∷ 44 ∷ 98 ∷ 41 ∷ 58 ∷ 58 ∷ 48 ∷ 46 ∷ 53 ∷ 44 ∷ 99 ∷ 41 ∷ 59 ∷ []
 
 read-half : (kind : Kind) (r : Reading) → Reads kind (Below 500) abc-line half-text 0 r → Reads kind (Below 501) abc-line half-text 0 r → ⊥
-unfolding abc-line half-text Reads ones onesIn trailingZeros whole single union has within apart size lowest answerTo leafBy closingBy readTreeToBy
+unfolding abc-line half-text Reads ones onesIn trailingZeros whole single union has within apart size lowest answerWithin leafBy closingBy readTreeToBy
     readTreeBy readNodeBy nextIs nextLabel blanks skip number numberBehind numbers supported name innerName run bareLetters letters lettersFrom doubled rawTo
     told padded upTo same position inQuotes begins beginnings nameAt names strayAt longAt manyAt againAt openAt faultAt least firstFault faulty keep
-    some insert sorted recordOf cluster clusters clustersLeft leftBelow tooFine decimals leading thousandths writtenBehind writes filled
+    some insert sorted recordFor cluster clusters clustersLeft leftBelow tooFine decimals leading thousandths writtenBehind writes filled
 read-half Species r p q = omega (arith, ap (λ (r : Reading). getD (r .numbers) 0 0) (sym p ∙ q))
 read-half Gene r p q = omega (arith, ap (λ (r : Reading). getD (r .numbers) 0 0) (sym p ∙ q))
 
 write-a : (r : Reply) (after : List ℕ) → Writes a-line a-record room r after → (r ≡ record { number = 0; place = 0; value = 2 }) × (after ≡ a-text)
 unfolding a-line a-text a-record room ones onesIn trailingZeros whole single union has within apart size lowest run bareLetters letters lettersFrom
     doubled rawTo told upTo same position inQuotes begins beginnings nameAt names strayAt longAt manyAt againAt openAt faultAt least firstFault faulty
-    keep some insert sorted recordOf cluster every among rising singlesFrom nested valid validGene properly maximal placed byLowest children drawnTo
+    keep some insert sorted recordFor cluster every among rising singlesFrom nested validFor validGeneFor properly maximal placed byLowest children drawnTo
     drawn treeText written nodeText verdict lengthTest rosterTest recordTest writeTests labelOf mayBeBare nextIs
 write-a r after w = (w .answer, w .bytes)
 
 -- cluster 3, `a` with `b`, weighs nothing in two trees that have it, and 1 where the second does not
 weigh-alike : (rooting : Rooting) (r : Reply) → Weighs rooting 4 (ab-cd ++ ab-cd) 2 3 r → r ≡ record { number = 0; place = 0; value = 0 }
 unfolding ab-cd Weighs weightTests clusterTest ones onesIn trailingZeros whole single union has within apart size lowest keep some insert sorted
-    recordOf properly maximal every among rising singlesFrom nested valid validGene binary verdict lengthTest unrootedHas unrootedClusters
+    recordFor properly maximal every among rising singlesFrom nested validFor validGeneFor binary verdict lengthTest unrootedHas unrootedClusters
     maximalWithin kDrawn kOf
     placed byLowest children extra total weight score pieces upTo speciesTest countTest firstFailing recordsTest resolved mayUnroot rootingTest
 weigh-alike Rooted r p = p
@@ -150,7 +143,7 @@ weigh-alike Unrooted r p = p
 
 weigh-unlike : (rooting : Rooting) (r : Reply) → Weighs rooting 4 (ab-cd ++ ac-bd) 2 3 r → r ≡ record { number = 0; place = 0; value = 1 }
 unfolding ab-cd ac-bd Weighs weightTests clusterTest ones onesIn trailingZeros whole single union has within apart size lowest keep some insert sorted
-    recordOf properly maximal every among rising singlesFrom nested valid validGene binary verdict lengthTest unrootedHas unrootedClusters
+    recordFor properly maximal every among rising singlesFrom nested validFor validGeneFor binary verdict lengthTest unrootedHas unrootedClusters
     maximalWithin kDrawn kOf
     placed byLowest children extra total weight score pieces upTo speciesTest countTest firstFailing recordsTest resolved mayUnroot rootingTest
 weigh-unlike Rooted r p = p
@@ -159,7 +152,7 @@ weigh-unlike Unrooted r p = p
 -- and so for the score of `((a,b),(c,d));`
 score-alike : (rooting : Rooting) (r : Reply) → Scores rooting 4 (ab-cd ++ ab-cd) 2 ab-cd r → r ≡ record { number = 0; place = 0; value = 0 }
 unfolding ab-cd Scores scoreTests speciesRecordTest ones onesIn trailingZeros whole single union has within apart size lowest keep some insert sorted
-    recordOf properly maximal every among rising singlesFrom nested valid validGene binary verdict lengthTest unrootedHas unrootedClusters
+    recordFor properly maximal every among rising singlesFrom nested validFor validGeneFor binary verdict lengthTest unrootedHas unrootedClusters
     maximalWithin kDrawn kOf
     placed byLowest children extra total weight score pieces upTo speciesTest countTest firstFailing recordsTest resolved mayUnroot rootingTest
 score-alike Rooted r p = p
@@ -167,7 +160,7 @@ score-alike Unrooted r p = p
 
 score-unlike : (rooting : Rooting) (r : Reply) → Scores rooting 4 (ab-cd ++ ac-bd) 2 ab-cd r → r ≡ record { number = 0; place = 0; value = 2 }
 unfolding ab-cd ac-bd Scores scoreTests speciesRecordTest ones onesIn trailingZeros whole single union has within apart size lowest keep some insert
-    sorted recordOf properly maximal every among rising singlesFrom nested valid validGene binary verdict lengthTest unrootedHas unrootedClusters
+    sorted recordFor properly maximal every among rising singlesFrom nested validFor validGeneFor binary verdict lengthTest unrootedHas unrootedClusters
     maximalWithin kDrawn kOf
     placed byLowest children extra total weight score pieces upTo speciesTest countTest firstFailing recordsTest resolved mayUnroot rootingTest
 score-unlike Rooted r p = p
@@ -177,7 +170,7 @@ mark-one :
     (rooting : Rooting) (r : Reply) (after : List ℕ) → Marks rooting 1 a-record 1 room r after
     → (r ≡ record { number = 0; place = 0; value = 0 }) × (after ≡ 0 ∷ 1 ∷ [])
 unfolding a-record room markTests shown marks upTo ones onesIn trailingZeros whole single union has within apart size lowest keep some insert sorted
-    recordOf properly maximal every among rising singlesFrom nested valid validGene binary verdict lengthTest unrootedHas unrootedClusters
+    recordFor properly maximal every among rising singlesFrom nested validFor validGeneFor binary verdict lengthTest unrootedHas unrootedClusters
     placed byLowest children pieces speciesTest countTest firstFailing recordsTest resolved mayUnroot rootingTest
 mark-one Rooted r after p = (p .reply, p .bytes)
 mark-one Unrooted r after p = (p .reply, p .bytes)
@@ -196,7 +189,7 @@ score-of-both Rooted = 2
 score-of-both Unrooted = 1
 
 trees-differ : (rooting : Rooting) → first-tree rooting ≡ second-tree rooting → ⊥
-unfolding first-tree second-tree ab-cd ac-bd recordOf sorted insert
+unfolding first-tree second-tree ab-cd ac-bd recordFor sorted insert
 trees-differ Rooted e = omega (arith, ap (λ (l : List ℕ). getD l 3 0) e)
 trees-differ Unrooted e = omega (arith, ap (λ (l : List ℕ). getD l 5 0) e)
 
@@ -207,8 +200,8 @@ both-score-something Unrooted = omega arith
 find-ab-cd :
     (rooting : Rooting) (r : Found) (s p : List ℕ) → Finds rooting 4 ab-cd 1 every-of-four lent-of-four lent-of-four r s p
     → r ≡ record { number = 0; place = 0; score = 0; numbers = first-tree rooting }
-unfolding first-tree ab-cd every-of-four lent-of-four ones onesIn trailingZeros whole single union has within apart size lowest keep some insert sorted recordOf
-    properly maximal every among rising singlesFrom nested valid validGene binary verdict lengthTest unrootedHas unrootedClusters maximalWithin kDrawn
+unfolding first-tree ab-cd every-of-four lent-of-four ones onesIn trailingZeros whole single union has within apart size lowest keep some insert sorted recordFor
+    properly maximal every among rising singlesFrom nested validFor validGeneFor binary verdict lengthTest unrootedHas unrootedClusters maximalWithin kDrawn
     kOf placed byLowest
     children extra total weight score pieces speciesTest countTest firstFailing recordsTest resolved mayUnroot rootingTest shown marks upTo least
     clustersIn isLow lows
@@ -219,8 +212,8 @@ find-ab-cd Unrooted r s p f = f .reply
 find-ac-bd :
     (rooting : Rooting) (r : Found) (s p : List ℕ) → Finds rooting 4 ac-bd 1 every-of-four lent-of-four lent-of-four r s p
     → r ≡ record { number = 0; place = 0; score = 0; numbers = second-tree rooting }
-unfolding second-tree ac-bd every-of-four lent-of-four ones onesIn trailingZeros whole single union has within apart size lowest keep some insert sorted recordOf
-    properly maximal every among rising singlesFrom nested valid validGene binary verdict lengthTest unrootedHas unrootedClusters maximalWithin kDrawn
+unfolding second-tree ac-bd every-of-four lent-of-four ones onesIn trailingZeros whole single union has within apart size lowest keep some insert sorted recordFor
+    properly maximal every among rising singlesFrom nested validFor validGeneFor binary verdict lengthTest unrootedHas unrootedClusters maximalWithin kDrawn
     kOf placed byLowest
     children extra total weight score pieces speciesTest countTest firstFailing recordsTest resolved mayUnroot rootingTest shown marks upTo least
     clustersIn isLow lows
@@ -232,8 +225,8 @@ find-both :
     (rooting : Rooting) (r : Found) (s p : List ℕ) → Finds rooting 4 (ab-cd ++ ac-bd) 2 every-of-four lent-of-four lent-of-four r s p
     → r ≡ record { number = 0; place = 0; score = score-of-both rooting; numbers = first-tree rooting }
 unfolding first-tree ab-cd ac-bd every-of-four lent-of-four ones onesIn trailingZeros whole single union has within apart size lowest keep some insert
-    sorted recordOf
-    properly maximal every among rising singlesFrom nested valid validGene binary verdict lengthTest unrootedHas unrootedClusters maximalWithin kDrawn
+    sorted recordFor
+    properly maximal every among rising singlesFrom nested validFor validGeneFor binary verdict lengthTest unrootedHas unrootedClusters maximalWithin kDrawn
     kOf placed byLowest
     children extra total weight score pieces speciesTest countTest firstFailing recordsTest resolved mayUnroot rootingTest shown marks upTo least
     clustersIn isLow lows
@@ -268,8 +261,8 @@ module _ {rooting : Rooting} {first second both : Found} (h : FoundOnFour rootin
 find-tables :
     (rooting : Rooting) (r : Found) (s p : List ℕ) → Finds rooting 4 ab-cd 1 every-of-four lent-of-four lent-of-four r s p
     → (getD s 0 0 ≡ noTree) × (getD p 0 0 ≡ 0)
-unfolding ab-cd every-of-four lent-of-four ones onesIn trailingZeros whole single union has within apart size lowest keep some insert sorted recordOf
-    properly maximal every among rising singlesFrom nested valid validGene binary verdict lengthTest unrootedHas unrootedClusters maximalWithin kDrawn
+unfolding ab-cd every-of-four lent-of-four ones onesIn trailingZeros whole single union has within apart size lowest keep some insert sorted recordFor
+    properly maximal every among rising singlesFrom nested validFor validGeneFor binary verdict lengthTest unrootedHas unrootedClusters maximalWithin kDrawn
     kOf placed byLowest
     children extra total weight score pieces speciesTest countTest firstFailing recordsTest resolved mayUnroot rootingTest shown marks upTo least
     clustersIn isLow lows
@@ -290,8 +283,8 @@ count-ties :
     (rooting : Rooting) → (tiesFor rooting 4 (recordsIn 1 ab-cd) every-of-four (whole 4) ≡ ties-of-one rooting)
     × (tiesFor rooting 4 (recordsIn 2 (ab-cd ++ ac-bd)) every-of-four (whole 4) ≡ ties-of-both rooting)
 unfolding ab-cd ac-bd every-of-four ones onesIn trailingZeros whole single union has within apart size lowest keep some insert
-    sorted recordOf
-    properly maximal every among rising singlesFrom nested valid validGene binary unrootedHas unrootedClusters maximalWithin kDrawn
+    sorted recordFor
+    properly maximal every among rising singlesFrom nested validFor validGeneFor binary unrootedHas unrootedClusters maximalWithin kDrawn
     kOf placed byLowest
     children extra total weight score pieces upTo least clustersIn isLow lows
     each forks treesTo treesOn those all scoreOf treesOver leastTrees allowedIn tieEntry tiesFor
@@ -311,9 +304,9 @@ a-input = 97 ∷ 10 ∷ 97 ∷ 108 ∷ 108 ∷ 10 ∷ 97 ∷ 59 ∷ 10 ∷ []
 a-output : output a-input ≡ taxaText ++ 49 ∷ genesText ++ 49 ∷ 10 ∷ scoreText ++ 48 ∷ 10 ∷ tiesText ++ 49 ∷ 10 ∷ 97 ∷ 59 ∷ 10 ∷ []
 unfolding a-input lineLength firstLine behindLine endsInFeed modePlace treesPlace modeOf gatherTo walk gather rootingTest searched program digitsTo
     decimal output ones onesIn
-    trailingZeros whole single union has within apart size lowest keep some insert sorted recordOf properly maximal every among rising singlesFrom
-    nested valid validGene binary verdict lengthTest kOf extra total weight score pieces speciesTest countTest firstFailing recordsTest shown marks upTo
-    least clustersIn isLow lows each forks treesTo treesOn those all scoreOf treesOver leastTrees best allowedIn bestFor answerTo leafBy closingBy
+    trailingZeros whole single union has within apart size lowest keep some insert sorted recordFor properly maximal every among rising singlesFrom
+    nested validFor validGeneFor binary verdict lengthTest kOf extra total weight score pieces speciesTest countTest firstFailing recordsTest shown marks upTo
+    least clustersIn isLow lows each forks treesTo treesOn those all scoreOf treesOver leastTrees best allowedIn bestFor answerWithin leafBy closingBy
     readTreeToBy readTreeBy readNodeBy nextIs nextLabel blanks skip number numberBehind numbers supported name innerName run bareLetters letters lettersFrom
     doubled rawTo told padded same position inQuotes begins beginnings nameAt names strayAt longAt manyAt againAt openAt faultAt firstFault faulty
     cluster clusters placed byLowest children drawnTo drawn treeText written nodeText labelOf mayBeBare tieEntry tiesFor
@@ -321,17 +314,13 @@ a-output = refl
 
 no-output : output [] ≡ refusedText ++ 49 ∷ atText ++ 48 ∷ 10 ∷ []
 unfolding lineLength firstLine behindLine endsInFeed modePlace treesPlace modeOf gatherTo walk gather rootingTest searched program digitsTo decimal
-    output answerTo leafBy
+    output answerWithin leafBy
     closingBy readTreeToBy readTreeBy readNodeBy nextIs nextLabel blanks skip number numberBehind numbers supported name innerName run bareLetters letters
     lettersFrom doubled rawTo told padded same position inQuotes begins beginnings nameAt names strayAt longAt manyAt againAt openAt faultAt
     firstFault faulty cluster clusters upTo least keep some
 no-output = refl
 
 -- ---- these inputs can be handed over
-
--- seen by computing
-slice-told : (bound : ℕ) (l : List ℕ) → every (λ x. ltb x bound) l ≡ true → length l < 65536 → Slice bound l
-slice-told bound l e h = record { below = λ x m. ltb-true x bound (every-among (λ x. ltb x bound) l e x m); long = omega arith }
 
 a-line-handed : Bytes a-line
 unfolding a-line every
@@ -342,11 +331,11 @@ unfolding a-text every
 a-text-handed = slice-told (2 ^ 8) a-text refl (omega arith)
 
 a-record-handed : AnyRecord a-record
-unfolding a-record recordOf sorted insert every
+unfolding a-record recordFor sorted insert every
 a-record-handed = record { numbers = slice-told (2 ^ 16) a-record refl (omega arith); thirty-two = refl }
 
 ab-cd-handed : AnyRecord ab-cd
-unfolding ab-cd recordOf sorted insert every
+unfolding ab-cd recordFor sorted insert every
 ab-cd-handed = record { numbers = slice-told (2 ^ 16) ab-cd refl (omega arith); thirty-two = refl }
 
 to-read-a-of-two : ToRead ab-line a-text 0
@@ -372,7 +361,7 @@ to-write-a : ToWrite a-line a-record room
 to-write-a = record { line-bytes = a-line-handed; tree-record = a-record-handed; out-bytes = room-handed }
 
 alike-handed : GeneTrees 4 (ab-cd ++ ab-cd) 2
-unfolding ab-cd recordOf sorted insert every
+unfolding ab-cd recordFor sorted insert every
 alike-handed = record {
   species-size = omega arith;
   genes-numbers = slice-told (2 ^ 16) (ab-cd ++ ab-cd) refl (omega arith);
@@ -380,7 +369,7 @@ alike-handed = record {
 }
 
 unlike-handed : GeneTrees 4 (ab-cd ++ ac-bd) 2
-unfolding ab-cd ac-bd recordOf sorted insert every
+unfolding ab-cd ac-bd recordFor sorted insert every
 unlike-handed = record {
   species-size = omega arith;
   genes-numbers = slice-told (2 ^ 16) (ab-cd ++ ac-bd) refl (omega arith);
@@ -407,7 +396,7 @@ to-search-ab-cd : ToSearch 4 ab-cd 1 every-of-four lent-of-four lent-of-four
 to-search-ab-cd = to-search ab-cd 1 (record { species-size = omega arith; genes-numbers = ab-cd-handed .numbers; count-size = omega arith })
 
 to-search-ac-bd : ToSearch 4 ac-bd 1 every-of-four lent-of-four lent-of-four
-unfolding ac-bd recordOf sorted insert every
+unfolding ac-bd recordFor sorted insert every
 to-search-ac-bd =
     to-search ac-bd 1 (record { species-size = omega arith; genes-numbers = slice-told (2 ^ 16) ac-bd refl (omega arith); count-size = omega arith })
 
@@ -500,7 +489,7 @@ module _ (rooting : Rooting) (f : ℕ → List ℕ → ℕ → ℕ → Reply)
   pub weight-counts-every-gene-tree :
       ((n : ℕ) (genes genes′ : List ℕ) (count a : ℕ) → ToWeigh n genes count a → ToWeigh n genes′ count a → take 32 genes ≡ take 32 genes′
       → f n genes count a .number ≡ 0 → f n genes′ count a .number ≡ 0 → f n genes count a .value ≡ f n genes′ count a .value) → ⊥
-  unfolding ab-cd ac-bd recordOf sorted insert
+  unfolding ab-cd ac-bd recordFor sorted insert
   weight-counts-every-gene-tree first-only =
       let e = first-only 4 (ab-cd ++ ab-cd) (ab-cd ++ ac-bd) 2 3 to-weigh-alike to-weigh-unlike refl
       (ap (λ (r : Reply). r .number) weighed-alike) (ap (λ (r : Reply). r .number) weighed-unlike) in
@@ -544,7 +533,7 @@ module _
         ((n : ℕ) (genes genes′ : List ℕ) (count : ℕ) (species : List ℕ) → ToScore n genes count species → ToScore n genes′ count species
         → take 32 genes ≡ take 32 genes′ → f n genes count species .number ≡ 0 → f n genes′ count species .number ≡ 0
         → f n genes count species .value ≡ f n genes′ count species .value) → ⊥
-    unfolding ab-cd ac-bd recordOf sorted insert
+    unfolding ab-cd ac-bd recordFor sorted insert
     score-counts-every-gene-tree first-only =
         let e = first-only 4 (ab-cd ++ ab-cd) (ab-cd ++ ac-bd) 2 ab-cd to-score-alike to-score-unlike refl
         (ap (λ (r : Reply). r .number) scored-alike) (ap (λ (r : Reply). r .number) scored-unlike) in
@@ -641,7 +630,7 @@ module _ (rooting : Rooting) (f : ℕ → List ℕ → ℕ → List ℕ → List
       → ToSearch n genes count allowed scores splits → ToSearch n genes′ count′ allowed scores splits → take 32 genes ≡ take 32 genes′
       → f n genes count allowed scores splits .number ≡ 0 → f n genes′ count′ allowed scores splits .number ≡ 0
       → f n genes count allowed scores splits .score ≡ f n genes′ count′ allowed scores splits .score) → ⊥
-  unfolding ab-cd ac-bd recordOf sorted insert
+  unfolding ab-cd ac-bd recordFor sorted insert
   search-counts-every-gene-tree first-only =
       two-scores found-on-four
       (first-only 4 ab-cd (ab-cd ++ ac-bd) 1 2 every-of-four lent-of-four lent-of-four to-search-ab-cd to-search-both refl (first-done found-on-four)
@@ -707,7 +696,7 @@ module _ (rooting : Rooting) (f : ℕ → List ℕ → ℕ → List ℕ → Foun
       ((n : ℕ) (genes genes′ : List ℕ) (count count′ : ℕ) (allowed : List ℕ)
       → ToPlain n genes count allowed → ToPlain n genes′ count′ allowed → take 32 genes ≡ take 32 genes′
       → f n genes count allowed .number ≡ 0 → f n genes′ count′ allowed .number ≡ 0 → f n genes count allowed .score ≡ f n genes′ count′ allowed .score) → ⊥
-  unfolding ab-cd ac-bd recordOf sorted insert
+  unfolding ab-cd ac-bd recordFor sorted insert
   plain-counts-every-gene-tree first-only =
       two-scores visited-on-four
       (first-only 4 ab-cd (ab-cd ++ ac-bd) 1 2 every-of-four (to-plain to-search-ab-cd) (to-plain to-search-both) refl (first-done visited-on-four)
@@ -763,7 +752,7 @@ module _ (rooting : Rooting) (f : ℕ → List ℕ → ℕ → List ℕ → List
       (genes : List ℕ) (v : ℕ) → GeneTrees 4 genes 2
       → ((r : Reply) → Scores rooting 4 genes 2 ab-cd r → r ≡ record { number = 0; place = 0; value = v })
       → SheetSays v (f 4 genes 2 two-records three-entries) (after 4 genes 2 two-records three-entries)
-  unfolding ab-cd recordOf sorted insert
+  unfolding ab-cd recordFor sorted insert
   says genes v h scored =
       let single = replies-score rooting 4 genes 2 ab-cd in
       let is = scored (single .outcome) (single .meets) in
@@ -837,7 +826,7 @@ module _ (rooting : Rooting) (f : ℕ → List ℕ → ℕ → List ℕ → List
       → f n genes count records entries .number ≡ 0 → (i : ℕ) (d : Entry) → i < length entries → getD entries i d .position + 32 ≤ length records
       → (s : Reply) → Scores rooting n genes count (take 32 (drop (getD entries i d .position) records)) s
       → getD (after n genes count records entries) i d .number ≡ s .number) → ⊥
-  unfolding ab-cd recordOf sorted insert
+  unfolding ab-cd recordFor sorted insert
   sheet-does-not-count-numbers counts =
       let single = replies-score rooting 4 (ab-cd ++ ab-cd) 2 ab-cd in
       let is = score-alike rooting (single .outcome) (single .meets) in
@@ -851,7 +840,7 @@ module _ (rooting : Rooting) (f : ℕ → List ℕ → ℕ → List ℕ → List
       → ToSheet n genes′ count records entries → take 32 genes ≡ take 32 genes′
       → f n genes count records entries .number ≡ 0 → f n genes′ count records entries .number ≡ 0
       → after n genes count records entries ≡ after n genes′ count records entries) → ⊥
-  unfolding ab-cd ac-bd recordOf sorted insert
+  unfolding ab-cd ac-bd recordFor sorted insert
   sheet-counts-every-gene-tree first-only =
       let e = first-only 4 (ab-cd ++ ab-cd) (ab-cd ++ ac-bd) 2 two-records three-entries (to-sheet (ab-cd ++ ab-cd) alike-handed)
       (to-sheet (ab-cd ++ ac-bd) unlike-handed) refl (for-alike .fine) (for-unlike .fine) in
@@ -941,7 +930,7 @@ module _ (rooting : Rooting) (f : ℕ → List ℕ → ℕ → List ℕ → List
       → ToTie n genes count allowed scores splits ties → ToTie n genes′ count′ allowed scores splits ties → take 32 genes ≡ take 32 genes′
       → f n genes count allowed scores splits ties .number ≡ 0 → f n genes′ count′ allowed scores splits ties .number ≡ 0
       → f n genes count allowed scores splits ties .ties ≡ f n genes′ count′ allowed scores splits ties .ties) → ⊥
-  unfolding ab-cd ac-bd recordOf sorted insert
+  unfolding ab-cd ac-bd recordFor sorted insert
   tie-counts-every-gene-tree first-only =
       let z = ap (λ (r : Found). r .number) tied-ab-cd in
       let z′ = ap (λ (r : Found). r .number) tied-both in

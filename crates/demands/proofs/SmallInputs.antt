@@ -1,8 +1,24 @@
--- Small inputs that are computed on: two gene records on three species and two on four, allowed sets, lent tables.
-use Prim.Native.Nat.{ℕ}
+-- Small inputs that are computed on, and that a machine can hand them over: a roster, two gene records on three species and two on four, allowed sets, lent tables.
+use Prim.Native.Nat.{ℕ, _<_}
+use mathlib.Core.Path.{_≡_}
+use mathlib.Core.Bool.{true}
 use mathlib.Core.List.{List, [], _∷_}
-use lib.ListN.{replicate}
+use native.Mathlib.Omega.{arith}
+use lib.Dec.{ltb}
+use lib.ListN.{length, replicate}
+use borrow.Author.Tests.{ltb-true}
 use Rattle.trees.specs.Records.{recordOf}
+use Rattle.trees.specs.Valid.{every}
+use Rattle.search.proofs.BestTrees.{every-among}
+use Rattle.demands.specs.Handed.{Slice}
+
+-- that a slice can be handed over is seen by computing
+pub slice-told : (bound : ℕ) (l : List ℕ) → every (λ x. ltb x bound) l ≡ true → length l < 65536 → Slice bound l
+slice-told bound l e h = record { below = λ x m. ltb-true x bound (every-among (λ x. ltb x bound) l e x m); long = omega arith }
+
+-- the roster `a b c`
+unfoldable pub abc-line : List ℕ
+abc-line = 97 ∷ 32 ∷ 98 ∷ 32 ∷ 99 ∷ []
 
 -- the records of `((a,b),c);` and `((a,c),b);`
 unfoldable pub ab-c : List ℕ

@@ -29,8 +29,9 @@ use Rattle.lineages.specs.Checks.{speciesTest, countTest, speciesRecordTest, fi
 use Rattle.lineages.proofs.FirstBad.{failing-means, failing-is, none-bad}
 use Rattle.terms.specs.Allowed.{firstStrange, allowedTest}
 use Rattle.plain.specs.Promise.{plainTest}
+use Rattle.demands.specs.CallFaults.{RosterFaultOf}
 use Rattle.demands.specs.CallFaults.{RosterFault, SpeciesFault, OverSevenFault, CountFault, LengthFault, SpeciesRecordFault, RecordsFault, RootingFault, RecordFault, ClusterFault, AllowedFault}
-use Rattle.demands.specs.CallFaults.RosterFault.{roster-faulty}
+use Rattle.demands.specs.CallFaults.RosterFaultOf.{roster-faulty}
 use Rattle.demands.specs.CallFaults.SpeciesFault.{not-1-to-16}
 use Rattle.demands.specs.CallFaults.OverSevenFault.{over-seven}
 use Rattle.demands.specs.CallFaults.CountFault.{none-or-many}
@@ -247,17 +248,19 @@ allowed-met n allowed = record { numbered = λ z. omega arith; found = found; on
 
 -- ---- 1: the roster
 
+-- a roster that is faulty has the fault, whatever the most names are
+pub roster-found : (most : ℕ) (line : List ℕ) → faulty most line ≡ true → RosterFaultOf most line 1 (firstFault most line)
+roster-found most line e = let h = first-fault most line e in roster-faulty (fault-within most line e) (h .0) (h .1)
+
+-- and one that has it is faulty
+pub roster-only :
+    (most : ℕ) (line : List ℕ) {k p : ℕ} → RosterFaultOf most line k p → (faulty most line ≡ true) × (k ≡ 1) × (p ≡ firstFault most line)
+unfolding faulty firstFault
+roster-only most line (roster-faulty {place} inside stands earlier) =
+    let e = least-is (faultAt most line) (suc (length line)) 0 place (omega arith) (omega arith) stands (λ q z. earlier q) in
+    (le-leb (least (faultAt most line) 0 (suc (length line))) (length line) (omega arith), refl, sym e)
+
 -- "1 | roster faulty | first byte at fault"
 pub roster-met : (line : List ℕ) → Meets (rosterTest line) (RosterFault line)
-unfolding rosterTest faulty firstFault
-roster-met line =
-    record {
-      numbered = λ z. omega arith;
-      found = λ e. let h = first-fault speciesMost line e in roster-faulty (fault-within speciesMost line e) (h .0) (h .1);
-      only = only;
-    }
-  where
-    only : {k p : ℕ} → RosterFault line k p → (faulty speciesMost line ≡ true) × (k ≡ 1) × (p ≡ firstFault speciesMost line)
-    only (roster-faulty {place} inside stands earlier) =
-        let e = least-is (faultAt speciesMost line) (suc (length line)) 0 place (omega arith) (omega arith) stands (λ q z. earlier q) in
-        (le-leb (least (faultAt speciesMost line) 0 (suc (length line))) (length line) (omega arith), refl, sym e)
+unfolding rosterTest
+roster-met line = record { numbered = λ z. omega arith; found = roster-found speciesMost line; only = λ f. roster-only speciesMost line f }

@@ -6,8 +6,8 @@ use lib.Count.{ones, onesIn, trailingZeros}
 use Rattle.clusters.specs.Sets.{whole, single, union, has, within, apart, size, lowest}
 use Rattle.trees.specs.Drawn.{properly, maximal, placed, byLowest, children}
 use Rattle.trees.specs.Lists.{keep, some, insert, sorted, pieces, total, upTo}
-use Rattle.trees.specs.Records.{recordOf}
-use Rattle.trees.specs.Valid.{every, among, rising, singlesFrom, nested, valid, validGene, binary}
+use Rattle.trees.specs.Records.{recordOf, recordFor}
+use Rattle.trees.specs.Valid.{every, among, rising, singlesFrom, nested, validFor, validGeneFor, binary}
 use Rattle.roster.specs.Roster.{least}
 use Rattle.roster.specs.Verdict.{verdict, lengthTest}
 use Rattle.weights.specs.Count.{kOf, extra, weight, score}
@@ -44,7 +44,7 @@ pub ties-worked :
     × Says (a-b-c ++ ab-c) 2 0 1 ab-c (tableOf 1)
 unfolding ab-c ac-b a-b-c every-cluster lent rootingTest firstFailing ones onesIn trailingZeros whole single union has within
     apart size lowest keep some insert sorted
-    recordOf properly maximal placed byLowest children every among rising singlesFrom nested valid validGene binary verdict lengthTest kOf extra total weight score
+    recordFor properly maximal placed byLowest children every among rising singlesFrom nested validFor validGeneFor binary verdict lengthTest kOf extra total weight score
     pieces speciesTest countTest recordsTest upTo least clustersIn isLow lows each forks treesTo treesOn those all scoreOf treesOver leastTrees
     best allowedIn firstStrange allowedTest tiesTests bestFor tieEntry tiesFor
 ties-worked = (

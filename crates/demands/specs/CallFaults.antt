@@ -13,6 +13,7 @@ use Rattle.texts.specs.Writing.{written}
 use Rattle.weights.specs.declared.Rooting.{Rooting}
 use Rattle.weights.specs.declared.Rooting.the-variants.{Unrooted}
 use Rattle.search.specs.Candidates.{Candidate}
+use Rattle.counts.specs.Promise.{countsText}
 use Rattle.demands.specs.GeneTrees.{MayEnter}
 
 -- an order of faults: one of the first kind; or, where none of these stands, one of the second
@@ -23,11 +24,15 @@ pub data _before_ (A B : ℕ → ℕ → Type 0) : ℕ → ℕ → Type 0 where
 
 -- ---- the faults
 
--- "1 | roster faulty .. | first byte at fault": "of several such places the smallest is given"
-pub data RosterFault (line : List ℕ) : ℕ → ℕ → Type 0 where
+-- "1 | roster faulty .. | first byte at fault": "of several such places the smallest is given"; so many names may be on it
+pub data RosterFaultOf (most : ℕ) (line : List ℕ) : ℕ → ℕ → Type 0 where
   roster-faulty :
-      {place : ℕ} → place ≤ length line → faultAt speciesMost line place ≡ true
-      → ((p : ℕ) → p < place → faultAt speciesMost line p ≡ false) → RosterFault line 1 place
+      {place : ℕ} → place ≤ length line → faultAt most line place ≡ true
+      → ((p : ℕ) → p < place → faultAt most line p ≡ false) → RosterFaultOf most line 1 place
+
+-- by 01's limit
+abbrev pub RosterFault : List ℕ → ℕ → ℕ → Type 0
+RosterFault line = RosterFaultOf speciesMost line
 
 -- "1 | .. n not 1 to 16 | .. 0 for n"
 pub data SpeciesFault (n : ℕ) : ℕ → ℕ → Type 0 where
@@ -137,3 +142,10 @@ abbrev pub SheetFault : Rooting → ℕ → List ℕ → ℕ → ℕ → ℕ →
 SheetFault rooting n genes count =
     SpeciesFault n before CountFault count before LengthFault genes (32 * count)
     before RecordsFault n (recordsIn count genes) before RootingFault rooting n (recordsIn count genes)
+
+-- the same of the writer with branch counts (#114): "1, 11, 12 (genes), 16, 15", and "12 for its text comes last"
+abbrev pub WriteCountsFault : List ℕ → List ℕ → ℕ → List ℕ → List ℕ → ℕ → ℕ → Type 0
+WriteCountsFault line genes count species out =
+    RosterFault line before CountFault count before LengthFault genes (32 * count) before SpeciesRecordFault (length (names line)) species
+    before RecordsFault (length (names line)) (recordsIn count genes)
+    before LengthFault out (length (countsText (names line) genes count species))

@@ -86,6 +86,20 @@ pub record ToTie (n : ℕ) (genes : List ℕ) (count : ℕ) (allowed scores spli
   pub to-search : ToSearch n genes count allowed scores splits
   pub ties-numbers : WidestNumbers ties
 
+-- for checking a tree that came with branch counts (#114): a text and two tables, gene trees between them
+pub record ToCheck (line text : List ℕ) (start : ℕ) (genes : List ℕ) (count : ℕ) (scores splits : List ℕ) : Type 0 where
+  pub to-read : ToRead line text start
+  pub genes-numbers : Numbers genes
+  pub count-size : Size count
+  pub scores-numbers : WideNumbers scores
+  pub splits-numbers : Numbers splits
+
+-- for writing one (#114)
+pub record ToWriteCounts (line genes : List ℕ) (count : ℕ) (species out : List ℕ) : Type 0 where
+  pub to-write : ToWrite line species out
+  pub genes-numbers : Numbers genes
+  pub count-size : Size count
+
 -- an entry of a sheet (#107): any position, and whatever stands in its number and score
 pub record AnyEntry (e : Entry) : Type 0 where
   pub position-size : Size (e .position)

@@ -10,7 +10,7 @@ use Rattle.roster.specs.Letters.{baseNames, baseFirstFault, baseFaulty}
 use Rattle.roster.specs.declared.Reply.{Reply}
 use Rattle.tokens.specs.Answers.{Answer}
 use Rattle.tokens.specs.Answers.Answer.{refused}
-use Rattle.nodes.specs.Reading.{readTreeBy}
+use Rattle.nodes.specs.Reading.{openMost, readTreeBy}
 use Rattle.nodes.specs.Letters.{lettered}
 use Rattle.reader.specs.Promise.{textMost, needed}
 use Rattle.reader.specs.declared.Kind.{Kind}
@@ -26,7 +26,7 @@ baseJudged line = baseJudgedBy (baseFaulty speciesMost line) line
 
 -- "A start beyond the text gives 10"
 abbrev pub baseFromStart : Kind → Bool → List (List ℕ) → List ℕ → ℕ → Answer Tree
-baseFromStart kind true ns text start = readTreeBy lettered ns (needed kind (length ns)) (drop start text) start
+baseFromStart kind true ns text start = readTreeBy lettered ns openMost (needed kind (length ns)) (drop start text) start
 baseFromStart kind false ns text start = refused 10 (length text)
 
 -- "2 | text over 65,536 bytes | 65,536"

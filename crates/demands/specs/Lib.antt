@@ -2,12 +2,14 @@ pub mod Examples
 pub mod Handed
 pub mod Outcomes
 pub mod TextFaults
+pub mod StandTexts
 pub mod GeneTrees
 pub mod Input
 pub mod Signed
 pub mod ReadAs
 pub mod Scorable
 pub mod CallFaults
+pub mod CheckFaults
 pub mod InOrder
 pub mod ProgramFaults
 pub mod Deciding
@@ -15,6 +17,7 @@ pub mod Lots
 pub mod Ties
 pub mod Sceptic
 pub mod Sheets
+pub mod BranchCounts
 pub mod Letters
 pub mod Thresholds
 pub mod Redrawn

@@ -9,7 +9,7 @@ use native.Mathlib.Nat.{le-of-lt, le-of-eq}
 use native.Mathlib.Omega.{arith}
 use lib.ListN.{length, drop, length-append, length-drop}
 use lib.Dec.{leb}
-use borrow.Author.Tests.{leb-true, leb-false, le-leb}
+use borrow.Author.Tests.{leb-true, leb-false}
 use Rattle.trees.specs.Tree.{Tree, clusters}
 use Rattle.trees.specs.Records.{GeneValid, recordOf, AllValid}
 use Rattle.roster.specs.Roster.{names, faulty}
@@ -17,11 +17,11 @@ use Rattle.roster.specs.Judged.{speciesMost}
 use Rattle.tokens.specs.declared.answer.Threshold.the-variants.{NoThreshold}
 use Rattle.tokens.specs.Answers.{Answer}
 use Rattle.tokens.specs.Answers.Answer.{parsed, refused as refusedAt}
-use Rattle.nodes.specs.Reading.{readTree}
+use Rattle.nodes.specs.Reading.{openMost}
 use Rattle.meanings.specs.Meaning.{Means}
-use Rattle.reader.specs.Promise.{textMost, answerTo, readingOf}
+use Rattle.reader.specs.Promise.{narrow, textMost, answerTo, readingOf}
 use Rattle.reader.specs.declared.Kind.the-variants.{Gene}
-use Rattle.reader.proofs.Accepts.{accepted-derives}
+use Rattle.reader.proofs.Accepts.{answer-is-read, accepted-derives}
 use Rattle.reader.proofs.Replies.{refusal-some, draws-gene}
 use Rattle.reader.proofs.ByKind.{gene-never-nine}
 use Rattle.meanings.proofs.Meaning.{refusal-said}
@@ -64,7 +64,7 @@ module _ {line trees : List ℕ} {P : List (List ℕ) → ℕ → Type 0} {R : L
     answered inside room (parsed t rest q) e =
         let l = length-append genes (recordOf (clusters t) ∷ []) in
         later (genes ++ (recordOf (clusters t) ∷ [])) q (omega arith) (omega arith) (turns .reads now inside e)
-    answered inside room (refusedAt zero q) e = absurd (omega (arith, refusal-some Gene NoThreshold line trees (begun trees at) e))
+    answered inside room (refusedAt zero q) e = absurd (omega (arith, refusal-some narrow Gene NoThreshold line trees (begun trees at) e))
     answered inside room (refusedAt (suc number) q) e = turns .refuses now room inside e
 
     room : begun trees at < length trees → (b : Bool) → leb genesMost (length genes) ≡ b → Holds R Q (gatherAt b line trees genes (begun trees at) next .says)
@@ -92,8 +92,8 @@ module _ {line trees : List ℕ} {P : List (List ℕ) → ℕ → Type 0} {R : L
 
 -- ---- the place of a refusal, and one more valid record
 
-byte-within : {ns : List (List ℕ)} {needed : ℕ} {s : List ℕ} {d number : ℕ} → Means false ns needed s d number → Dec (number ≡ 10) → d ≤ length s
-byte-within {ns} {needed} {s} {d} m (yes ten) = le-of-eq (says-10 false (subst (Means false ns needed s d) ten m) .end)
+byte-within : {ns : List (List ℕ)} {most needed : ℕ} {s : List ℕ} {d number : ℕ} → Means false ns most needed s d number → Dec (number ≡ 10) → d ≤ length s
+byte-within {ns} {most} {needed} {s} {d} m (yes ten) = le-of-eq (says-10 false (subst (Means false ns most needed s d) ten m) .end)
 byte-within m (no other) = le-of-lt (refusal-inside false m other)
 
 among :
@@ -114,12 +114,9 @@ module _ (line trees : List ℕ) (good : faulty speciesMost line ≡ false) wher
   -- one that is refused has a number from 3 on, and its place lies in the text
   refused-inside :
       (p : ℕ) {number q : ℕ} → length trees ≤ textMost → p < length trees → answerTo Gene NoThreshold line trees p ≡ refusedAt number q → (3 ≤ number) × (q ≤ length trees)
-  unfolding answerTo
-  refused-inside p {number} {q} short inside e =
-      let read : readTree false (names line) 0 (drop p trees) p ≡ refusedAt number q =
-      rw (good, le-leb (length trees) textMost short, le-leb p (length trees) (omega arith)) at e
-      in
-      let r = refusal-said false (names line) 0 (drop p trees) p read in
+  refused-inside p {number} short inside e =
+      let read = sym (answer-is-read narrow Gene NoThreshold line trees p good short (omega arith)) ∙ e in
+      let r = refusal-said false (names line) openMost 0 (drop p trees) p read in
       let d = byte-within (r .means) (ℕ-discrete number 10) in
       (refusal-numbers false (r .means) .0, omega (arith, r .place, length-drop p trees))
 
@@ -157,5 +154,5 @@ stopped-never-nine line trees e = stopped-so turns e
       reads = λ now inside e. tt;
       ends = λ now few none. tt;
       many = λ now full inside nine. omega arith;
-      refuses = λ {genes} {at} {number} {place} now room inside e nine. gene-never-nine NoThreshold line trees (begun trees at) (e ∙ ap (λ (m : ℕ). refusedAt m place) nine);
+      refuses = λ {genes} {at} {number} {place} now room inside e nine. gene-never-nine narrow NoThreshold line trees (begun trees at) (e ∙ ap (λ (m : ℕ). refusedAt m place) nine);
     }

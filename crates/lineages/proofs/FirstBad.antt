@@ -8,8 +8,9 @@ use lib.ListN.{length, getD, take, drop}
 use lib.Dec.{ltb}
 use borrow.Author.Tests.{ltb-false, lt-ltb, le-ltb}
 use Rattle.labels.specs.Bytes.{oneMore}
-use Rattle.trees.specs.Records.{recordsIn, AllValid}
-use Rattle.trees.specs.Valid.{validGene}
+use Rattle.trees.specs.Records.{recordsIn, AllValid, AllValidFor}
+use Rattle.trees.specs.Lists.{pieces}
+use Rattle.trees.specs.Valid.{validGeneFor}
 use Rattle.trees.specs.Unrooted.{mayUnroot}
 use Rattle.trees.proofs.GeneRecords.{gene-decides, gene-cluster-below}
 use Rattle.trees.proofs.Places.{at-among, among-at}
@@ -23,7 +24,8 @@ use Rattle.weights.specs.Work.{AllCountable, AllMarkable}
 use Rattle.weights.specs.declared.Rooting.{Rooting}
 use Rattle.weights.specs.declared.Rooting.the-variants.{Rooted, Unrooted}
 use Rattle.weights.proofs.Sums.{valid-countable}
-use Rattle.trees.proofs.Lent.{length-recordsIn, recordsFrom, records-from-first, records-next, records-from-last}
+use Rattle.trees.proofs.Lent.{length-recordsIn}
+use Rattle.trees.proofs.EqualPieces.{piecesFrom, pieces-from-first, pieces-from-next, pieces-from-last}
 
 module _ (test : List ℕ → Bool) where
   failing-none : firstFailing test [] ≡ 0
@@ -40,29 +42,29 @@ module _ (test : List ℕ → Bool) where
 
 -- ---- found from the left
 
--- the records before the i-th pass
-pub record PassedTo (test : List ℕ → Bool) (genes : List ℕ) (count i : ℕ) : Type 0 where
+-- the records before the i-th pass, of those that are so long
+pub record PassedTo (size : ℕ) (test : List ℕ → Bool) (genes : List ℕ) (count i : ℕ) : Type 0 where
   pub place : i ≤ count
-  pub left : i + firstFailing test (recordsFrom i count genes) ≡ firstFailing test (recordsIn count genes)
+  pub left : i + firstFailing test (piecesFrom size i count genes) ≡ firstFailing test (pieces size count genes)
 
-pub passed-start : (test : List ℕ → Bool) (genes : List ℕ) (count : ℕ) → PassedTo test genes count 0
-passed-start test genes count = record { place = omega arith; left = rw records-from-first (omega arith) }
+pub passed-start : (size : ℕ) (test : List ℕ → Bool) (genes : List ℕ) (count : ℕ) → PassedTo size test genes count 0
+passed-start size test genes count = record { place = omega arith; left = rw pieces-from-first (omega arith) }
 
-module _ {test : List ℕ → Bool} {genes : List ℕ} {count i : ℕ} (now : PassedTo test genes count i) where
-  pub passed-next : i < count → test (take 32 (drop (32 * i) genes)) ≡ true → PassedTo test genes count (i + 1)
+module _ {size : ℕ} {test : List ℕ → Bool} {genes : List ℕ} {count i : ℕ} (now : PassedTo size test genes count i) where
+  pub passed-next : i < count → test (take size (drop (size * i) genes)) ≡ true → PassedTo size test genes count (i + 1)
   passed-next l e =
-      let next = rw (← records-next i count genes l) at (failing-later test (take 32 (drop (32 * i) genes)) (recordsFrom (i + 1) count genes) e) in
+      let next = rw (← pieces-from-next size i count genes l) at (failing-later test (take size (drop (size * i) genes)) (piecesFrom size (i + 1) count genes) e) in
       record { place = omega arith; left = omega (arith, now .left) }
 
-  pub passed-found : i < count → test (take 32 (drop (32 * i) genes)) ≡ false → i ≡ firstFailing test (recordsIn count genes)
+  pub passed-found : i < count → test (take size (drop (size * i) genes)) ≡ false → i ≡ firstFailing test (pieces size count genes)
   passed-found l e =
-      let here = rw (← records-next i count genes l) at (failing-here test (take 32 (drop (32 * i) genes)) (recordsFrom (i + 1) count genes) e) in
+      let here = rw (← pieces-from-next size i count genes l) at (failing-here test (take size (drop (size * i) genes)) (piecesFrom size (i + 1) count genes) e) in
       omega (arith, now .left)
 
-  pub passed-all : count ≤ i → i ≡ firstFailing test (recordsIn count genes)
+  pub passed-all : count ≤ i → i ≡ firstFailing test (pieces size count genes)
   passed-all l =
       let all : i ≡ count = omega (arith, now .place) in
-      let none : firstFailing test (recordsFrom i count genes) ≡ 0 = rw (all, records-from-last) (failing-none test) in
+      let none : firstFailing test (piecesFrom size i count genes) ≡ 0 = rw (all, pieces-from-last) (failing-none test) in
       omega (arith, now .left)
 
 -- ---- what the index says
@@ -122,13 +124,13 @@ module _ (test : List ℕ → Bool) where
 
 -- ---- none
 
-module _ (n : ℕ) (genes : List (List ℕ)) (small : n ≤ 16) where
+module _ {b : ℕ} (n : ℕ) (genes : List (List ℕ)) (small : n ≤ b) where
   -- where none is at fault for 15, all are valid
-  pub none-bad : length genes ≤ firstBad n genes → AllValid n genes
-  none-bad h g m = gene-decides g small .holds (none-failing (λ g. validGene n g) genes h g m)
+  pub none-bad : length genes ≤ firstFailing (λ g. validGeneFor b n g) genes → AllValidFor b n genes
+  none-bad h g m = gene-decides g small .holds (none-failing (λ g. validGeneFor b n g) genes h g m)
 
-  pub all-valid-none-bad : AllValid n genes → firstBad n genes ≡ length genes
-  all-valid-none-bad all = all-pass (λ g. validGene n g) genes (λ g m. gene-decides g small .told (all g m))
+  pub all-valid-none-bad : AllValidFor b n genes → firstFailing (λ g. validGeneFor b n g) genes ≡ length genes
+  all-valid-none-bad all = all-pass (λ g. validGeneFor b n g) genes (λ g m. gene-decides g small .told (all g m))
 
 pub found-valid :
     (n : ℕ) (genes : List ℕ) (count : ℕ) {bad : ℕ} → n ≤ 16 → bad ≡ firstBad n (recordsIn count genes) → count ≤ bad → AllValid n (recordsIn count genes)

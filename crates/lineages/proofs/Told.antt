@@ -9,8 +9,8 @@ use lib.Dec.{leb, ltb}
 use lib.Pow.{pow-mono}
 use borrow.Author.Tests.{ltb-true, lt-ltb, le-ltb, le-leb, lt-leb}
 use Rattle.clusters.specs.Sets.{whole}
-use Rattle.trees.specs.Records.{Form, ValidOn, GeneValid, BinaryOn}
-use Rattle.trees.specs.Valid.{valid, validGene, binary}
+use Rattle.trees.specs.Records.{Form, ValidOn, GeneValidFor, BinaryOn}
+use Rattle.trees.specs.Valid.{valid, validGeneFor, binary}
 use Rattle.trees.specs.Decides.{Decides}
 use Rattle.trees.proofs.Booleans.{both}
 use Rattle.trees.proofs.ValidTest.{valid-decides, reply-is-test, valid-reply, binary-reply}
@@ -19,9 +19,9 @@ use Rattle.trees.proofs.Bounds.{whole-below-sixteen}
 
 -- a reply that decides whether a record is valid is the test of it
 pub valid-told : (b : Bool) {n all : ℕ} (g : List ℕ) → n ≤ 16 → all ≡ whole n → Decides b (ValidOn all g) → b ≡ valid (whole n) g
-valid-told b {n} g small e d = valid-reply b g (whole-below-sixteen n small) (subst (λ (s : ℕ). Decides b (ValidOn s g)) e d)
+valid-told b {n} g small e d = valid-reply 16 b g (whole-below-sixteen n small) (subst (λ (s : ℕ). Decides b (ValidOn s g)) e d)
 
-pub gene-told : (b : Bool) {n : ℕ} (g : List ℕ) → n ≤ 16 → Decides b (GeneValid n g) → b ≡ validGene n g
+pub gene-told : (b : Bool) {breadth n : ℕ} (g : List ℕ) → n ≤ breadth → Decides b (GeneValidFor breadth n g) → b ≡ validGeneFor breadth n g
 gene-told b g few d = reply-is-test b (gene-decides g few) d
 
 pub binary-told : (b : Bool) (n : ℕ) {all : ℕ} (g : List ℕ) → all ≡ whole n → Decides b (BinaryOn all g) → b ≡ binary (whole n) g

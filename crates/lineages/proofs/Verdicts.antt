@@ -50,6 +50,28 @@ verdict-never m (t ∷ l) z n e = go (t .fault) e (λ k. verdict-never m l z (n 
     go true e ih = n .0 e
     go false e ih = ih e
 
+-- where the first tests find nothing, the others decide
+pub verdict-rest : (l k : List Test) → NoneGives 0 l → verdict l .number ≡ 0 → verdict (l ++ k) ≡ verdict k
+unfolding verdict NoneGives
+verdict-rest [] k n e = refl
+verdict-rest (t ∷ l) k n e = go (t .fault) e (λ h. verdict-rest l k (n .1) h)
+  where
+    go : (b : Bool) → verdictBy b t (verdict l) .number ≡ 0 → (verdict l .number ≡ 0 → verdict (l ++ k) ≡ verdict k) → verdictBy b t (verdict (l ++ k)) ≡ verdict k
+    go true e ih = absurd (n .0 e)
+    go false e ih = ih e
+
+-- two lists of tests pass together where each does
+pub verdict-both : (l k : List Test) → NoneGives 0 l → verdict (l ++ k) .number ≡ 0 → (verdict l .number ≡ 0) × (verdict k .number ≡ 0)
+unfolding verdict NoneGives
+verdict-both [] k n e = (refl, e)
+verdict-both (t ∷ l) k n e = go (t .fault) e (λ h. verdict-both l k (n .1) h)
+  where
+    go :
+        (b : Bool) → verdictBy b t (verdict (l ++ k)) .number ≡ 0 → (verdict (l ++ k) .number ≡ 0 → (verdict l .number ≡ 0) × (verdict k .number ≡ 0))
+        → (verdictBy b t (verdict l) .number ≡ 0) × (verdict k .number ≡ 0)
+    go true e ih = absurd (n .0 e)
+    go false e ih = ih e
+
 -- ---- 1, 11 and 12
 
 module _ (n : ℕ) (genes : List ℕ) (count : ℕ) where

@@ -76,7 +76,8 @@ fn first_unresolved(n: usize, genes: &[u16], count: usize) -> usize
     i
 }
 
-// 15 or 19 at the index of the first gene record at fault, and else no refusal. `search`, `plain` and `sheet` call it too, behind `shape`, which says that the entries are there.
+// 15 or 19 at the index of the first gene record at fault, and else no refusal. `search`, `plain`, `sheet` and `counts` call it too, behind `shape`,
+// which says that the entries are there.
 pub fn judge_genes(rooting: Rooting, n: usize, genes: &[u16], count: usize) -> Reply
     requires { ⌜ n ≤ 16 ⌝ }
     requires { ⌜ 32 * count ≤ length (now genes) ⌝ }
@@ -98,8 +99,8 @@ pub fn judge_genes(rooting: Rooting, n: usize, genes: &[u16], count: usize) -> R
     }
 }
 
-// Whether a is the number of a cluster of n species.
-pub(crate) fn is_cluster(n: usize, a: usize) -> bool
+// Whether a is the number of a cluster of n species. `stand` calls it too, with the species of a roster that was judged.
+pub fn is_cluster(n: usize, a: usize) -> bool
     requires { ⌜ n ≤ 16 ⌝ }
     ensures { λ r. ⌜ r ≡ (leb 1 a && ltb a (2 ^ n)) ⌝ }
 {
@@ -109,7 +110,8 @@ pub(crate) fn is_cluster(n: usize, a: usize) -> bool
     a <= clusters::whole(n) as usize
 }
 
-// Whether the species record is valid, with every species, and that of a binary tree. `sheet` calls it too, behind `shape`, which says that n is small.
+// Whether the species record is valid, with every species, and that of a binary tree. `sheet` calls it too, behind `shape`, and `counts` and `stand`,
+// behind a good roster; all say that n is small.
 pub fn is_species_tree(n: usize, species: &[u16]) -> bool
     requires { ⌜ n ≤ 16 ⌝ }
     requires { ⌜ length (now species) ≡ 32 ⌝ }

@@ -25,7 +25,7 @@ use Rattle.tokens.specs.Answers.{Answer, andThen, unexpected}
 use Rattle.tokens.specs.Answers.Answer.{parsed, refused}
 use Rattle.tokens.specs.Tokens.{blanks, skip, name}
 use Rattle.tokens.specs.Supports.{supported}
-use Rattle.nodes.specs.Reading.{openMost, leafNew, leafKnown, leafAt, closing, afterFirst, opened, nodeBy, afterChild, readNode, readForest, complete, ended as endedBy, readTreeTo, readTree}
+use Rattle.nodes.specs.Reading.{leafNew, leafKnown, leafAt, closing, afterFirst, opened, nodeBy, afterChild, readNode, readForest, complete, ended as endedBy, readTreeTo, readTree}
 use Rattle.nodes.specs.Reading.{leafBy, readForestBy, readNodeBy, readTreeBy, readTreeToBy}
 use Rattle.nodes.specs.Grammar.{Blanks}
 use Rattle.nodes.specs.Deciding.{border}
@@ -44,15 +44,15 @@ use Rattle.meanings.proofs.KeptPlaces.{NoneIn, open-leaf-kept, node-her
 use Rattle.meanings.proofs.KeptTill.{KeptTill, till-here, unexpected-till}
 use Rattle.meanings.proofs.KeptTokens.{ended-till, label-till, name-till, supported-till, closing-till}
 
-module _ (given : Bool) (names : List (List ℕ)) (s₀ : List ℕ) (p₀ : ℕ) where
+module _ (given : Bool) (names : List (List ℕ)) (most : ℕ) (s₀ : List ℕ) (p₀ : ℕ) where
   abbrev Till : ℕ → ℕ → Type 0
-  Till n q = KeptTill given names s₀ p₀ n q
+  Till n q = KeptTill given names most s₀ p₀ n q
 
   abbrev NodeMay : ℕ → ℕ → List ℕ → Type 0
-  NodeMay room seen u = MayFollow given names (NodeIn given names room seen) u
+  NodeMay room seen u = MayFollow given names most (NodeIn given names room seen) u
 
   abbrev ChildrenMay : ℕ → ℕ → List ℕ → Type 0
-  ChildrenMay room seen u = MayFollow given names (ChildrenIn given names room seen) u
+  ChildrenMay room seen u = MayFollow given names most (ChildrenIn given names room seen) u
 
   -- ---- leaves
 
@@ -61,7 +61,7 @@ module _ (given : Bool) (names : List (List ℕ)) (s₀ : List ℕ) (p₀ : ℕ)
       fresh-apart names seen (single i) (i ∷ []) (none-twice-one i) (λ j h. rw (List·Memᴰ·eq-of-singleton h) (single-has i)) (apart-true (single i) seen is)
 
   module _ {u s : List ℕ} {p : ℕ} (room seen : ℕ) (st : Stands s₀ p₀ u s p) (may : NodeMay room seen u) (is : nextLabel s ≡ true) where
-    opened-kept : (j : ℕ) → Open s j → Kept given names s₀ (length u + j)
+    opened-kept : (j : ℕ) → Open s j → Kept given names most s₀ (length u + j)
     opened-kept j o = open-leaf-kept given names (st .left) may o
 
     -- refused by 5 or 6
@@ -160,7 +160,7 @@ module _ (given : Bool) (names : List (List ℕ)) (s₀ : List ℕ) (p₀ : ℕ)
         gap-step : Step (Then First Blanks) s p (skip m) (r + blanks m)
         gap-step = step-then First Blanks first-step (step-skip m r)
 
-        first-here : MayFollow given names NoneIn (u ++ gap-step .front .bytes)
+        first-here : MayFollow given names most NoneIn (u ++ gap-step .front .bytes)
         first-here = first-child-here given names room seen t (child-fresh child) may (gap-step .front)
 
         module _ (comma : nextIs 44 (skip m) ≡ true) where
@@ -313,12 +313,12 @@ module _ (given : Bool) (names : List (List ℕ)) (s₀ : List ℕ) (p₀ : ℕ)
   start = record { left = record { whole = refl }; place = omega arith }
 
   -- behind the whole node t, which leaves m
-  module _ (needed k : ℕ) (t : Tree) (m : List ℕ) (r : ℕ) (first : readNode given k names openMost 0 s₀ p₀ ≡ parsed t m r) where
-    root-step : Step (Then (NodeOf given names openMost t) Blanks) s₀ p₀ (skip m) (r + blanks m)
-    root-step = step-then (NodeOf given names openMost t) Blanks (step-node given names k openMost 0 s₀ p₀ first) (step-skip m r)
+  module _ (needed k : ℕ) (t : Tree) (m : List ℕ) (r : ℕ) (first : readNode given k names most 0 s₀ p₀ ≡ parsed t m r) where
+    root-step : Step (Then (NodeOf given names most t) Blanks) s₀ p₀ (skip m) (r + blanks m)
+    root-step = step-then (NodeOf given names most t) Blanks (step-node given names k most 0 s₀ p₀ first) (step-skip m r)
 
-    root-may : MayFollow given names NoneIn (root-step .front .bytes)
-    root-may = root-here given names t (child-fresh (readNode-sound given k names openMost 0 s₀ p₀ t m r first) .once) (root-step .front)
+    root-may : MayFollow given names most NoneIn (root-step .front .bytes)
+    root-may = root-here given names t (child-fresh (readNode-sound given k names most 0 s₀ p₀ t m r first) .once) (root-step .front)
 
     ended-tree-till : {n q : ℕ} (b : Bool) → endedBy b needed t (skip m) (r + blanks m) ≡ refused n q → Till n q
     ended-tree-till {n} {q} true h = by (within needed (cluster t)) h
@@ -331,24 +331,24 @@ module _ (given : Bool) (names : List (List ℕ)) (s₀ : List ℕ) (p₀ : ℕ)
             rw number (till-here given (stands-on start root-step) at refl refl refl root-may)
     ended-tree-till false h = unexpected-till given (stands-on start root-step) Tree root-may h
 
-  tree-till : {n q : ℕ} (needed k : ℕ) → 2 * length s₀ < k → readTreeTo given k names needed s₀ p₀ ≡ refused n q → Till n q
+  tree-till : {n q : ℕ} (needed k : ℕ) → 2 * length s₀ < k → readTreeTo given k names most needed s₀ p₀ ≡ refused n q → Till n q
   unfolding readTreeToBy
   tree-till {n} {q} needed k fuel h =
-      ⊎-elim (λ e. node-till k openMost 0 [] s₀ p₀ n q start (node-at-front given names) fuel e)
+      ⊎-elim (λ e. node-till k most 0 [] s₀ p₀ n q start (node-at-front given names) fuel e)
       (λ g. ended-tree-till needed k (g .value) (g .left) (g .place) (g .first) (nextIs 59 (skip (g .left))) (g .after))
-      (andThen-refused (readNode given k names openMost 0 s₀ p₀) (λ t s p. endedBy (nextIs 59 (skip s)) needed t (skip s) (p + blanks s)) h)
+      (andThen-refused (readNode given k names most 0 s₀ p₀) (λ t s p. endedBy (nextIs 59 (skip s)) needed t (skip s) (p + blanks s)) h)
 
 -- where reading is refused, nothing is at fault before the last of the bytes that decide it
 refused-till :
-    (given : Bool) (names : List (List ℕ)) (needed : ℕ) (s : List ℕ) (p : ℕ) {n q : ℕ} → readTree given names needed s p ≡ refused n q → KeptTill given names s p n q
+    (given : Bool) (names : List (List ℕ)) (most needed : ℕ) (s : List ℕ) (p : ℕ) {n q : ℕ} → readTree given names most needed s p ≡ refused n q → KeptTill given names most s p n q
 unfolding readTreeBy
-refused-till given names needed s p h = tree-till given names s p needed (2 * length s + 1) (omega arith) h
+refused-till given names most needed s p h = tree-till given names most s p needed (2 * length s + 1) (omega arith) h
 
 -- nor before any place up to it: "Reading goes from the left and stops at the first fault met"
 pub kept-up-to-border :
-    (given : Bool) (names : List (List ℕ)) (needed : ℕ) (s : List ℕ) (p n d : ℕ) → readTree given names needed s p ≡ refused n (p + d) → (x : ℕ) → x < border n s d
-    → Kept given names s x
-kept-up-to-border given names needed s p n d h x l =
-    let t = refused-till given names needed s p h in
+    (given : Bool) (names : List (List ℕ)) (most needed : ℕ) (s : List ℕ) (p n d : ℕ) → readTree given names most needed s p ≡ refused n (p + d) → (x : ℕ) → x < border n s d
+    → Kept given names most s x
+kept-up-to-border given names most needed s p n d h x l =
+    let t = refused-till given names most needed s p h in
     let same : t .byte ≡ d = omega (arith, t .place) in
     kept-before given names s (border n s d - 1) x (rw same at (t .kept)) (omega arith)

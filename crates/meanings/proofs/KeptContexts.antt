@@ -21,7 +21,6 @@ use Rattle.trees.proofs.Nodes.{leaf-has}
 use Rattle.roster.specs.Roster.{position}
 use Rattle.tokens.specs.Tokens.{numberBytes}
 use Rattle.tokens.specs.Supports.{refusesFine}
-use Rattle.nodes.specs.Reading.{openMost}
 use Rattle.nodes.specs.Grammar.{strict, Blanks, Number, ColonNumber, Numbers, Inner, Node, Children, Text}
 use Rattle.nodes.specs.Grammar.Blanks.{none}
 use Rattle.nodes.specs.Grammar.ColonNumber.{colon}
@@ -37,17 +36,17 @@ use Rattle.meanings.proofs.KeptRules.{strict-takes, node-taken, childre
 use Rattle.meanings.proofs.FreshSpecies.{Fresh, unknown-fresh, fresh-unknown, fresh-joins}
 
 -- a whole text that is kept up to m bytes before its end
-pub record KeptText (given : Bool) (names : List (List ℕ)) (m : ℕ) (s : List ℕ) : Type 0 where
+pub record KeptText (given : Bool) (names : List (List ℕ)) (most : ℕ) (m : ℕ) (s : List ℕ) : Type 0 where
   pub tree : Tree
-  pub text : Text (keptTo given names m) openMost s tree []
+  pub text : Text (keptTo given names m) most s tree []
   pub once : NoneTwice (known names tree)
 
 -- behind u such a piece may stand: with one and the same end behind it, which goes on with no label, it makes a kept text, whatever the place before that end
-pub record MayFollow (given : Bool) (names : List (List ℕ)) (P : ℕ → List ℕ → List ℕ → Type 0) (u : List ℕ) : Type 0 where
+pub record MayFollow (given : Bool) (names : List (List ℕ)) (most : ℕ) (P : ℕ → List ℕ → List ℕ → Type 0) (u : List ℕ) : Type 0 where
   pub end : List ℕ
   pub some : 1 ≤ length end
   pub stops : nextLabel end ≡ false
-  pub text : (m : ℕ) → length end ≤ m → (v : List ℕ) → P m (v ++ end) end → KeptText given names m (u ++ (v ++ end))
+  pub text : (m : ℕ) → length end ≤ m → (v : List ℕ) → P m (v ++ end) end → KeptText given names most m (u ++ (v ++ end))
 
 -- ---- pieces that are kept up to m bytes before the end of the text
 
@@ -95,8 +94,8 @@ pub record NumberIn (given : Bool) (m : ℕ) (s rest : List ℕ) : Type 0 where
 
 -- a Q may stand where with c ∷ y behind it it is a P
 pub stand-as :
-    (given : Bool) (names : List (List ℕ)) (P Q : ℕ → List ℕ → List ℕ → Type 0) {u : List ℕ} (c : ℕ) (y : List ℕ) → nextLabel (c ∷ y) ≡ false
-    → ((m : ℕ) (v rest : List ℕ) → length (c ∷ (y ++ rest)) ≤ m → Q m v (c ∷ (y ++ rest)) → P m v rest) → MayFollow given names P u → MayFollow given names Q u
+    (given : Bool) (names : List (List ℕ)) {most : ℕ} (P Q : ℕ → List ℕ → List ℕ → Type 0) {u : List ℕ} (c : ℕ) (y : List ℕ) → nextLabel (c ∷ y) ≡ false
+    → ((m : ℕ) (v rest : List ℕ) → length (c ∷ (y ++ rest)) ≤ m → Q m v (c ∷ (y ++ rest)) → P m v rest) → MayFollow given names most P u → MayFollow given names most Q u
 unfolding nextLabel
 stand-as given names P Q c y stops made may =
     let end = may .end in
@@ -112,10 +111,10 @@ stand-as given names P Q c y stops made may =
           rw regrouped at t;
     }
 
-module _ (given : Bool) (names : List (List ℕ)) (P Q : ℕ → List ℕ → List ℕ → Type 0) (X : List ℕ → List ℕ → Type 0) {u s rest : List ℕ} where
+module _ (given : Bool) (names : List (List ℕ)) {most : ℕ} (P Q : ℕ → List ℕ → List ℕ → Type 0) (X : List ℕ → List ℕ → Type 0) {u s rest : List ℕ} where
   -- behind what X takes off, a Q may stand where X and a Q make a P
   pub stand-on :
-      ((m : ℕ) (s v rest : List ℕ) → X s v → Q m v rest → P m s rest) → MayFollow given names P u → (f : Front X s rest) → MayFollow given names Q (u ++ f .bytes)
+      ((m : ℕ) (s v rest : List ℕ) → X s v → Q m v rest → P m s rest) → MayFollow given names most P u → (f : Front X s rest) → MayFollow given names most Q (u ++ f .bytes)
   stand-on made may f =
       let x = f .bytes in
       let end = may .end in
@@ -130,9 +129,9 @@ module _ (given : Bool) (names : List (List ℕ)) (P Q : ℕ → List ℕ → Li
 
 -- the same with an end c ∷ y behind the Q
 pub stand-before :
-    (given : Bool) (names : List (List ℕ)) (P Q : ℕ → List ℕ → List ℕ → Type 0) (X : List ℕ → List ℕ → Type 0) {u s rest : List ℕ} (c : ℕ) (y : List ℕ)
+    (given : Bool) (names : List (List ℕ)) {most : ℕ} (P Q : ℕ → List ℕ → List ℕ → Type 0) (X : List ℕ → List ℕ → Type 0) {u s rest : List ℕ} (c : ℕ) (y : List ℕ)
     → nextLabel (c ∷ y) ≡ false → ((m : ℕ) (s v rest : List ℕ) → length (c ∷ (y ++ rest)) ≤ m → X s v → Q m v (c ∷ (y ++ rest)) → P m s rest)
-    → MayFollow given names P u → (f : Front X s rest) → MayFollow given names Q (u ++ f .bytes)
+    → MayFollow given names most P u → (f : Front X s rest) → MayFollow given names most Q (u ++ f .bytes)
 stand-before given names P Q X c y stops made may f =
     let Behind : ℕ → List ℕ → List ℕ → Type 0 = λ m v rest. (s : List ℕ) → X s v → P m s rest in
     stand-as given names Behind Q c y stops (λ m v rest l q s x. made m s v rest l x q) (stand-on given names P Behind X (λ m s v rest x p. p s x) may f)
@@ -288,7 +287,7 @@ module _ (given : Bool) (names : List (List ℕ)) where
       }
 
   -- the whole text: a node and `;`
-  pub node-at-front : MayFollow given names (NodeIn given names openMost 0) []
+  pub node-at-front : {most : ℕ} → MayFollow given names most (NodeIn given names most 0) []
   unfolding nextLabel
   node-at-front =
       record {

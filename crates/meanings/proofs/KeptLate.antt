@@ -59,7 +59,7 @@ module _ {x : ℕ} {s : List ℕ} where
         support = λ judged. absurd (false≢true (sym figure ∙ judged));
       }
 
-  means-decided : {given : Bool} {names : List (List ℕ)} {needed n : ℕ} → Means given names needed s x n → Decided n s x
+  means-decided : {given : Bool} {names : List (List ℕ)} {most needed n : ℕ} → Means given names most needed s x n → Decided n s x
   means-decided (stray h) = by-bytes (omega arith) (omega arith) refl refl
   means-decided (long-name h) = by-bytes (omega arith) (omega arith) refl refl
   means-decided (long-number h) = by-bytes (omega arith) (omega arith) refl refl
@@ -137,14 +137,14 @@ module _ {n x : ℕ} {s : List ℕ} (decided : Decided n s x) (s′ : List ℕ) 
 
 -- ---- a refusal of the text, and what is kept of it
 
-module _ (given : Bool) (names : List (List ℕ)) (needed : ℕ) (s : List ℕ) (p n x : ℕ) (h : readTree given names needed s p ≡ refused n (p + x)) where
+module _ (given : Bool) (names : List (List ℕ)) (most needed : ℕ) (s : List ℕ) (p n x : ℕ) (h : readTree given names most needed s p ≡ refused n (p + x)) where
   decided : Decided n s x
   decided =
-      let r = refusal-said given names needed s p h in
+      let r = refusal-said given names most needed s p h in
       let same : r .byte ≡ x = omega (arith, r .place) in
       rw same at (means-decided (r .means))
 
-  module _ (d : ℕ) (kept : Kept given names s d) where
+  module _ (d : ℕ) (kept : Kept given names most s d) where
     -- the text that shows it
     abbrev shown : List ℕ
     shown = take d s ++ kept .more
@@ -171,8 +171,8 @@ module _ (given : Bool) (names : List (List ℕ)) (needed : ℕ) (s : List ℕ) 
         let b = border n s x in
         let agree = shown-agrees b l in
         let alike = shown-alike b l in
-        let again = locality given names needed s shown p x n h (decided .low) high agree (alike-asked alike) in
-        let late = kept-read-late given names needed (length (kept .more)) shown p n x (kept .text) (kept .once) (omega (arith, kept .unended)) again in
+        let again = locality given names most needed s shown p x n h (decided .low) high agree (alike-asked alike) in
+        let late = kept-read-late given names most needed (length (kept .more)) shown p n x (kept .text) (kept .once) (omega (arith, kept .unended)) again in
         omega (arith, border-again decided shown agree alike, front-size, length-append (take d s) (kept .more))
 
     -- nothing is at fault before d: so of the bytes that decide the refusal some stand from d on
@@ -186,5 +186,5 @@ module _ (given : Bool) (names : List (List ℕ)) (needed : ℕ) (s : List ℕ) 
             omega (arith, deciding-some n (drop x s) (rw is refl) (rw is refl), border-deciding n s x, decided .at-end is, kept .inside)
 
   -- so something is at fault before the border
-  pub lost : Kept given names s (border n s x) → ⊥
+  pub lost : Kept given names most s (border n s x) → ⊥
   lost kept = omega (arith, kept-late (border n s x) kept)

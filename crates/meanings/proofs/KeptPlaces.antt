@@ -17,7 +17,6 @@ use Rattle.trees.specs.Tree.Tree.{node}
 use Rattle.trees.specs.Tree.Forest.{last}
 use Rattle.roster.specs.Roster.{byteBefore}
 use Rattle.tokens.specs.Tokens.{numberBytes}
-use Rattle.nodes.specs.Reading.{openMost}
 use Rattle.nodes.specs.Grammar.{Blanks, Number}
 use Rattle.nodes.specs.Grammar.Blanks.{none, blank}
 use Rattle.nodes.specs.Grammar.Number.{whole}
@@ -59,10 +58,10 @@ part-cut x y rest =
     ap (λ (n : ℕ). take n (x ++ (y ++ rest))) count ∙ take-append-seam x (y ++ rest)
 
 -- j bytes of s are the front of a piece that may stand there, with y behind them
-module _ (given : Bool) (names : List (List ℕ)) (P : ℕ → List ℕ → List ℕ → Type 0) {s₀ u s : List ℕ} (left : Left s₀ u s) (may : MayFollow given names P u) where
+module _ (given : Bool) (names : List (List ℕ)) {most : ℕ} (P : ℕ → List ℕ → List ℕ → Type 0) {s₀ u s : List ℕ} (left : Left s₀ u s) (may : MayFollow given names most P u) where
   pub kept-at :
       (j : ℕ) → j ≤ length s → (y : List ℕ) → GoesOnAlike (byteBefore s₀ (length u + j)) (y ++ may .end) (drop j s)
-      → P (length (y ++ may .end)) (take j s ++ (y ++ may .end)) (may .end) → Kept given names s₀ (length u + j)
+      → P (length (y ++ may .end)) (take j s ++ (y ++ may .end)) (may .end) → Kept given names most s₀ (length u + j)
   kept-at j fits y alike p =
       let behind = y ++ may .end in
       let size : length behind ≡ length y + length (may .end) = length-append y (may .end) in
@@ -82,9 +81,9 @@ module _ (given : Bool) (names : List (List ℕ)) (P : ℕ → List ℕ → List
 
 -- ---- open labels and numbers
 
-module _ (given : Bool) (names : List (List ℕ)) {s₀ u s : List ℕ} (left : Left s₀ u s) where
+module _ (given : Bool) (names : List (List ℕ)) {most : ℕ} {s₀ u s : List ℕ} (left : Left s₀ u s) where
   -- a leaf's label
-  pub open-leaf-kept : {room seen j : ℕ} → MayFollow given names (NodeIn given names room seen) u → Open s j → Kept given names s₀ (length u + j)
+  pub open-leaf-kept : {room seen j : ℕ} → MayFollow given names most (NodeIn given names room seen) u → Open s j → Kept given names most s₀ (length u + j)
   open-leaf-kept {room} {seen} {j} may o =
       let end = may .end in
       let behind = o .end ++ end in
@@ -98,7 +97,7 @@ module _ (given : Bool) (names : List (List ℕ)) {s₀ u s : List ℕ} (left : 
       })
 
   -- the label of an inner node
-  pub open-name-kept : {j : ℕ} → MayFollow given names (NameIn names) u → Open s j → Kept given names s₀ (length u + j)
+  pub open-name-kept : {j : ℕ} → MayFollow given names most (NameIn names) u → Open s j → Kept given names most s₀ (length u + j)
   open-name-kept {j} may o =
       let end = may .end in
       kept-at given names (NameIn names) left may j (o .within) (o .end) (open-alike (byteBefore s₀ (length u + j)) o end)
@@ -106,9 +105,9 @@ module _ (given : Bool) (names : List (List ℕ)) {s₀ u s : List ℕ} (left : 
 
   -- a number of which j bytes stand before the place, with y behind them, so that it has not ended there
   pub number-kept :
-      (may : MayFollow given names (NumberIn given) u) (j : ℕ) (w y : List ℕ) → 1 ≤ length y → j ≤ length s → j ≤ numberBytes
+      (may : MayFollow given names most (NumberIn given) u) (j : ℕ) (w y : List ℕ) → 1 ≤ length y → j ≤ length s → j ≤ numberBytes
       → ((rest : List ℕ) → Number w (take j s ++ (y ++ rest)) rest)
-      → GoesOnAlike (byteBefore s₀ (length u + j)) (y ++ may .end) (drop j s) → Kept given names s₀ (length u + j)
+      → GoesOnAlike (byteBefore s₀ (length u + j)) (y ++ may .end) (drop j s) → Kept given names most s₀ (length u + j)
   number-kept may j w y some fits short derives alike =
       let end = may .end in
       let size = length-append y end in
@@ -128,15 +127,15 @@ module _ (given : Bool) (names : List (List ℕ)) {s₀ u s : List ℕ} (left : 
 pub record NoneIn (m : ℕ) (v rest : List ℕ) : Type 0 where
   pub unread : v ≡ rest
 
-module _ (given : Bool) (names : List (List ℕ)) where
-  pub kept-here : {s₀ u s : List ℕ} → Left s₀ u s → MayFollow given names NoneIn u → Kept given names s₀ (length u)
+module _ (given : Bool) (names : List (List ℕ)) {most : ℕ} where
+  pub kept-here : {s₀ u s : List ℕ} → Left s₀ u s → MayFollow given names most NoneIn u → Kept given names most s₀ (length u)
   kept-here {s₀} {u} {s} left may =
       let here : length u + 0 ≡ length u = omega arith in
       rw here at
       (kept-at given names NoneIn left may 0 zero-le [] (stops-alike (byteBefore s₀ (length u + 0)) (may .end) s (may .stops)) (record { unread = refl }))
 
   -- where a node may stand, ` a`
-  pub node-here : {room seen : ℕ} {u : List ℕ} → MayFollow given names (NodeIn given names room seen) u → MayFollow given names NoneIn u
+  pub node-here : {room seen : ℕ} {u : List ℕ} → MayFollow given names most (NodeIn given names room seen) u → MayFollow given names most NoneIn u
   unfolding nextLabel
   node-here {room} {seen} may =
       stand-as given names (NodeIn given names room seen) NoneIn 32 (97 ∷ []) refl
@@ -147,7 +146,7 @@ module _ (given : Bool) (names : List (List ℕ)) where
       may
 
   -- where a number may stand, ` 0`
-  pub number-here : {u : List ℕ} → MayFollow given names (NumberIn given) u → MayFollow given names NoneIn u
+  pub number-here : {u : List ℕ} → MayFollow given names most (NumberIn given) u → MayFollow given names most NoneIn u
   unfolding nextLabel
   number-here may =
       stand-as given names (NumberIn given) NoneIn 32 (48 ∷ []) refl
@@ -165,8 +164,8 @@ module _ (given : Bool) (names : List (List ℕ)) where
 
   -- behind `(`, a first child and blanks, `,a)`
   pub first-child-here :
-      {u s rest : List ℕ} (room seen : ℕ) (t : Tree) → Fresh names seen (leaves t) → MayFollow given names (NodeIn given names (suc room) seen) u
-      → (f : Front (Then (Then (BlanksAnd 40) (NodeOf given names room t)) Blanks) s rest) → MayFollow given names NoneIn (u ++ f .bytes)
+      {u s rest : List ℕ} (room seen : ℕ) (t : Tree) → Fresh names seen (leaves t) → MayFollow given names most (NodeIn given names (suc room) seen) u
+      → (f : Front (Then (Then (BlanksAnd 40) (NodeOf given names room t)) Blanks) s rest) → MayFollow given names most NoneIn (u ++ f .bytes)
   unfolding nextLabel leaves leavesOf
   first-child-here room seen t fresh may f =
       stand-before given names (NodeIn given names (suc room) seen) NoneIn (Then (Then (BlanksAnd 40) (NodeOf given names room t)) Blanks) 44 (97 ∷ 41 ∷ []) refl
@@ -181,8 +180,8 @@ module _ (given : Bool) (names : List (List ℕ)) where
 
   -- behind a later child and blanks, `)`
   pub later-child-here :
-      {u s rest : List ℕ} (room seen : ℕ) (t : Tree) → Fresh names seen (leaves t) → MayFollow given names (ChildrenIn given names room seen) u
-      → (f : Front (Then (NodeOf given names room t) Blanks) s rest) → MayFollow given names NoneIn (u ++ f .bytes)
+      {u s rest : List ℕ} (room seen : ℕ) (t : Tree) → Fresh names seen (leaves t) → MayFollow given names most (ChildrenIn given names room seen) u
+      → (f : Front (Then (NodeOf given names room t) Blanks) s rest) → MayFollow given names most NoneIn (u ++ f .bytes)
   unfolding nextLabel leavesOf
   later-child-here room seen t fresh may f =
       stand-before given names (ChildrenIn given names room seen) NoneIn (Then (NodeOf given names room t) Blanks) 41 [] refl
@@ -192,8 +191,8 @@ module _ (given : Bool) (names : List (List ℕ)) where
 
   -- behind the whole tree and blanks, `;`
   pub root-here :
-      {s rest : List ℕ} (t : Tree) → NoneTwice (known names t) → (f : Front (Then (NodeOf given names openMost t) Blanks) s rest)
-      → MayFollow given names NoneIn (f .bytes)
+      {s rest : List ℕ} (t : Tree) → NoneTwice (known names t) → (f : Front (Then (NodeOf given names most t) Blanks) s rest)
+      → MayFollow given names most NoneIn (f .bytes)
   unfolding nextLabel
   root-here t once f =
       record {

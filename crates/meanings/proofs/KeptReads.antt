@@ -27,7 +27,7 @@ use Rattle.tokens.specs.Answers.{Answer, andThen}
 use Rattle.tokens.specs.Answers.Answer.{parsed, refused}
 use Rattle.tokens.specs.Tokens.{blanks, skip, name}
 use Rattle.tokens.specs.Supports.{supported}
-use Rattle.nodes.specs.Reading.{openMost, leafNew, leafKnown, leafAt, closing, afterFirst, afterChild, readNode, readForest, complete, ended, readTree}
+use Rattle.nodes.specs.Reading.{leafNew, leafKnown, leafAt, closing, afterFirst, afterChild, readNode, readForest, complete, ended, readTree}
 use Rattle.nodes.specs.Reading.{leafBy, closingBy, readNodeBy, readForestBy, readTreeToBy, readTreeBy}
 use Rattle.nodes.specs.Grammar.{Blanks, Numbers, Inner, Text}
 use Rattle.nodes.specs.Grammar.Text.{text}
@@ -267,10 +267,10 @@ module _ (given : Bool) (names : List (List ℕ)) (m : ℕ) where
       halts {n = 9} (record { from = 59 ∷ rest; moved = moves-on on (rw (skip-to 59 refl ends) at (skip-moves s₁ q)); beyond = omega arith })
 
   text-passes :
-      (needed : ℕ) {s rest : List ℕ} {t : Tree} → Text (keptTo given names m) openMost s t rest → NoneTwice (known names t) → length rest < m → (p : ℕ)
-      → Passes m s p (λ x. Unit {0}) rest (readTree given names needed s p)
+      (most needed : ℕ) {s rest : List ℕ} {t : Tree} → Text (keptTo given names m) most s t rest → NoneTwice (known names t) → length rest < m → (p : ℕ)
+      → Passes m s p (λ x. Unit {0}) rest (readTree given names most needed s p)
   unfolding readTreeBy readTreeToBy
-  text-passes needed {s} (text d ends) once l p =
+  text-passes most needed {s} (text d ends) once l p =
       passes-then (λ t s p. ended (nextIs 59 (skip s)) needed t (skip s) (p + blanks s))
       (over-node (keptTo given names m) NodePasses ForestPasses pass-steps d (semicolon-follows ends) (2 * length s + 1) 0 p (omega arith)
       (λ h. record { once = once; new = λ i among has. has-zero i has }))
@@ -285,11 +285,11 @@ passed {n = n} {q = q} (halts {n = k} {q = r} l) e =
 
 -- a text that is kept up to the place, behind which m bytes stand, is refused, if at all, by bytes of which some stand behind the place
 pub kept-read-late :
-    (given : Bool) (names : List (List ℕ)) (needed m : ℕ) (s : List ℕ) (p n x : ℕ) {t : Tree}
-    → Text (keptTo given names m) openMost s t [] → NoneTwice (known names t) → 1 ≤ m
-    → readTree given names needed s p ≡ refused n (p + x) → length s < m + border n s x
-kept-read-late given names needed m s p n x d once some h =
-    let l = passed (text-passes given names m needed d once some p) h in
+    (given : Bool) (names : List (List ℕ)) (most needed m : ℕ) (s : List ℕ) (p n x : ℕ) {t : Tree}
+    → Text (keptTo given names m) most s t [] → NoneTwice (known names t) → 1 ≤ m
+    → readTree given names most needed s p ≡ refused n (p + x) → length s < m + border n s x
+kept-read-late given names most needed m s p n x d once some h =
+    let l = passed (text-passes given names m most needed d once some p) h in
     let at : l .moved .count ≡ x = omega (arith, l .moved .place) in
     let there : l .from ≡ drop x s = l .moved .left ∙ ap (λ (c : ℕ). drop c s) at in
     let beyond : length (drop x s) < m + deciding n (drop x s) = rw there at (l .beyond) in

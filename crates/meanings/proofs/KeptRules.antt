@@ -210,7 +210,7 @@ unfolding nextBare nextIs nextDigit
 goes-on-itself before k [] more l = absurd (omega arith)
 goes-on-itself before k (b ∷ behind) more l = record { label = record { bare = λ is e. e; quote = λ is e. e }; digits = λ is e. e }
 
-module _ (given : Bool) (names : List (List ℕ)) (s : List ℕ) (d e : ℕ) (kept : Kept given names s d) (l : e ≤ d) where
+module _ (given : Bool) (names : List (List ℕ)) {most : ℕ} (s : List ℕ) (d e : ℕ) (kept : Kept given names most s d) (l : e ≤ d) where
   abbrev between : List ℕ
   between = take (d - e) (drop e s)
 
@@ -222,7 +222,7 @@ module _ (given : Bool) (names : List (List ℕ)) (s : List ℕ) (d e : ℕ) (ke
       by (suc k) is = goes-on-itself (byteBefore s e) k (drop e s) (kept .more) (simp length-drop (omega (arith, kept .inside)))
 
   -- what begins a text that is kept up to d is kept up to any place before
-  pub kept-before : Kept given names s e
+  pub kept-before : Kept given names most s e
   kept-before =
       let more′ = between ++ kept .more in
       let sum : e + (d - e) ≡ d = omega arith in

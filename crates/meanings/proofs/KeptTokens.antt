@@ -74,20 +74,20 @@ ended-till n s r judged is e =
     let all : border n s 0 ≡ r = rw (judged, e) (omega arith) in
     record { some = omega (arith, told-sound s r is e .some); label = rw all (ended-open s r is e) }
 
-module _ (given : Bool) {names : List (List ℕ)} {s₀ : List ℕ} {p₀ : ℕ} where
+module _ (given : Bool) {names : List (List ℕ)} {most : ℕ} {s₀ : List ℕ} {p₀ : ℕ} where
   -- a label at fault, or a leaf's that is judged: where an open one is kept
   pub label-till :
-      {u s : List ℕ} {p n q : ℕ} (f : ℕ) → Stands s₀ p₀ u s p → ((j : ℕ) → Open s j → Kept given names s₀ (length u + j)) → OpenTill n s f → q ≡ p + f
-      → KeptTill given names s₀ p₀ n q
+      {u s : List ℕ} {p n q : ℕ} (f : ℕ) → Stands s₀ p₀ u s p → ((j : ℕ) → Open s j → Kept given names most s₀ (length u + j)) → OpenTill n s f → q ≡ p + f
+      → KeptTill given names most s₀ p₀ n q
   label-till {s = s} {n = n} f st kept o at = till-at given f st at (o .some) (kept (border n s f - 1) (o .label))
 
   pub name-till :
-      {u s : List ℕ} {p n q : ℕ} → Stands s₀ p₀ u s p → ((j : ℕ) → Open s j → Kept given names s₀ (length u + j)) → name s p ≡ refused n q
-      → KeptTill given names s₀ p₀ n q
+      {u s : List ℕ} {p n q : ℕ} → Stands s₀ p₀ u s p → ((j : ℕ) → Open s j → Kept given names most s₀ (length u + j)) → name s p ≡ refused n q
+      → KeptTill given names most s₀ p₀ n q
   unfolding name
   name-till {u} {s} {p} {n} {q} st kept h = by (told s) refl h
     where
-      by : (t : Told) → told s ≡ t → nameBy t s p ≡ refused n q → KeptTill given names s₀ p₀ n q
+      by : (t : Told) → told s ≡ t → nameBy t s p ≡ refused n q → KeptTill given names most s₀ p₀ n q
       by (ended r) e h = absurd (parsed-refused h)
       by (faulty number f) e h =
           let same : number ≡ n = cc in
@@ -95,9 +95,9 @@ module _ (given : Bool) {names : List (List ℕ)} {s₀ : List ℕ} {p₀ : ℕ}
 
   -- ---- numbers
 
-  module _ {u s : List ℕ} {p : ℕ} (st : Stands s₀ p₀ u s p) (may : MayFollow given names (NumberIn given) u) where
+  module _ {u s : List ℕ} {p : ℕ} (st : Stands s₀ p₀ u s p) (may : MayFollow given names most (NumberIn given) u) where
     -- a number that is open one byte further on: that byte goes on with it
-    inside-kept : (j : ℕ) → OpenNumber s (suc j) → j ≤ numberBytes → Kept given names s₀ (length u + j)
+    inside-kept : (j : ℕ) → OpenNumber s (suc j) → j ≤ numberBytes → Kept given names most s₀ (length u + j)
     inside-kept j o short =
         let byte = take 1 (drop j s) in
         let one-more : suc j ≡ j + 1 = omega arith in
@@ -108,15 +108,15 @@ module _ (given : Bool) {names : List (List ℕ)} {s₀ : List ℕ} {p₀ : ℕ}
         (rw (append-assoc byte (o .end) (may .end)) (goes-on-itself (byteBefore s₀ (length u + j)) 0 (drop j s) (o .end ++ may .end) behind))
 
     -- a number whose last byte before the place is its point
-    point-kept : (j : ℕ) → OpenPoint s j → j ≤ numberBytes → Kept given names s₀ (length u + j)
+    point-kept : (j : ℕ) → OpenPoint s j → j ≤ numberBytes → Kept given names most s₀ (length u + j)
     point-kept j o short =
         number-kept given names (st .left) may j (o .word) (48 ∷ []) (omega arith) (o .within) short (o .derives)
         (rw (byte-left j (o .some) (st .left), o .point) (other-alike 46 (48 ∷ may .end) (drop j s) refl refl))
 
-    number-till : {n q : ℕ} → number s p ≡ refused n q → KeptTill given names s₀ p₀ n q
+    number-till : {n q : ℕ} → number s p ≡ refused n q → KeptTill given names most s₀ p₀ n q
     number-till {n} {q} h = by (number-fault s p h)
       where
-        by : NumberFault s p n q → KeptTill given names s₀ p₀ n q
+        by : NumberFault s p n q → KeptTill given names most s₀ p₀ n q
         by (too-long o other four at) =
             rw four (byte-till given numberBytes st at (border-four s numberBytes false other) (inside-kept numberBytes o (omega arith)))
         by (none-yet e) = unexpected-till given st (List ℕ) (number-here given names may) e
@@ -126,7 +126,7 @@ module _ (given : Bool) {names : List (List ℕ)} {s₀ : List ℕ} {p₀ : ℕ}
             (unexpected-refused (drop j s) (p + j) e)
 
     -- a number that is read, refused by 18 at its first byte
-    judged-number-till : {w rest : List ℕ} {r : ℕ} → number s p ≡ parsed w rest r → KeptTill given names s₀ p₀ 18 (r - length w)
+    judged-number-till : {w rest : List ℕ} {r : ℕ} → number s p ≡ parsed w rest r → KeptTill given names most s₀ p₀ 18 (r - length w)
     judged-number-till {w} {r = r} h =
         let spanned = number-spanned s p h in
         let all = border-deciding 18 s 0 in
@@ -137,38 +137,38 @@ module _ (given : Bool) {names : List (List ℕ)} {s₀ : List ℕ} {p₀ : ℕ}
         (rw last (inside-kept (length w - 1) (rw whole at (number-open s p h)) (omega (arith, spanned .short, spanned .size))))
 
   -- the same behind blanks
-  module _ {u s : List ℕ} {p : ℕ} (st : Stands s₀ p₀ u s p) (may : MayFollow given names (NumberIn given) u) where
-    gap-may : MayFollow given names (NumberIn given) (u ++ step-skip s p .front .bytes)
+  module _ {u s : List ℕ} {p : ℕ} (st : Stands s₀ p₀ u s p) (may : MayFollow given names most (NumberIn given) u) where
+    gap-may : MayFollow given names most (NumberIn given) (u ++ step-skip s p .front .bytes)
     gap-may = stand-on given names (NumberIn given) (NumberIn given) Blanks (blanks-number given names) may (step-skip s p .front)
 
-    numberBehind-till : {n q : ℕ} → numberBehind s p ≡ refused n q → KeptTill given names s₀ p₀ n q
+    numberBehind-till : {n q : ℕ} → numberBehind s p ≡ refused n q → KeptTill given names most s₀ p₀ n q
     unfolding numberBehind
     numberBehind-till h = number-till (stands-on st (step-skip s p)) gap-may h
 
-    judged-behind-till : {w rest : List ℕ} {r : ℕ} → numberBehind s p ≡ parsed w rest r → KeptTill given names s₀ p₀ 18 (r - length w)
+    judged-behind-till : {w rest : List ℕ} {r : ℕ} → numberBehind s p ≡ parsed w rest r → KeptTill given names most s₀ p₀ 18 (r - length w)
     unfolding numberBehind
     judged-behind-till h = judged-number-till (stands-on st (step-skip s p)) gap-may h
 
   -- the support of a node
   support-till :
-      {u s : List ℕ} {p n q : ℕ} → Stands s₀ p₀ u s p → MayFollow given names (NumberIn given) u → SupportRefused given s p n q
-      → KeptTill given names s₀ p₀ n q
+      {u s : List ℕ} {p n q : ℕ} → Stands s₀ p₀ u s p → MayFollow given names most (NumberIn given) u → SupportRefused given s p n q
+      → KeptTill given names most s₀ p₀ n q
   support-till st may r =
       ⊎-elim (λ e. numberBehind-till st may e) (λ f. rw (f .number, f .place) (judged-behind-till st may (f .read))) r
 
   -- what stands behind a node, refused for a number, or by 18 for its support
   pub supported-till :
-      {u s : List ℕ} {p n q : ℕ} (w : List ℕ) → Stands s₀ p₀ u s p → MayFollow given names (NumbersIn given names) u → supported given w s p ≡ refused n q
-      → KeptTill given names s₀ p₀ n q
+      {u s : List ℕ} {p n q : ℕ} (w : List ℕ) → Stands s₀ p₀ u s p → MayFollow given names most (NumbersIn given names) u → supported given w s p ≡ refused n q
+      → KeptTill given names most s₀ p₀ n q
   supported-till {u = u} {s = s} {p = p} {n = n} {q = q} w st may h = by (supported-refused given names w s p h)
     where
       number-may :
           (X : List ℕ → List ℕ → Type 0) {rest : List ℕ}
           → ((m : ℕ) (s v rest : List ℕ) → X s v → NumberIn given m v rest → NumbersIn given names m s rest) → (f : Front X s rest)
-          → MayFollow given names (NumberIn given) (u ++ f .bytes)
+          → MayFollow given names most (NumberIn given) (u ++ f .bytes)
       number-may X made f = stand-on given names (NumbersIn given names) (NumberIn given) X made may f
 
-      by : BehindRefused given names s p n q → KeptTill given names s₀ p₀ n q
+      by : BehindRefused given names s p n q → KeptTill given names most s₀ p₀ n q
       by (behind-colon x e) = numberBehind-till (stands-on st x) (number-may (BlanksAnd 58) (colon-number given names) (x .front)) e
       by (behind-colons x r) =
           support-till (stands-on st x) (number-may (Then (BlanksAnd 58) (BlanksAnd 58)) (colons-number given names) (x .front)) r
@@ -179,11 +179,11 @@ module _ (given : Bool) {names : List (List ℕ)} {s₀ : List ℕ} {p₀ : ℕ}
   -- ---- behind a closing parenthesis
 
   innerName-till :
-      {u s : List ℕ} {p n q : ℕ} → Stands s₀ p₀ u s p → MayFollow given names (ClosingIn given names) u → innerName s p ≡ refused n q → KeptTill given names s₀ p₀ n q
+      {u s : List ℕ} {p n q : ℕ} → Stands s₀ p₀ u s p → MayFollow given names most (ClosingIn given names) u → innerName s p ≡ refused n q → KeptTill given names most s₀ p₀ n q
   unfolding innerName
   innerName-till {u} {s} {p} {n} {q} st may h = by (nextLabel (skip s)) h
     where
-      by : (t : Bool) → innerNameBy t s p ≡ refused n q → KeptTill given names s₀ p₀ n q
+      by : (t : Bool) → innerNameBy t s p ≡ refused n q → KeptTill given names most s₀ p₀ n q
       by false h = absurd (parsed-refused h)
       by true h =
           let x = step-skip s p in
@@ -192,14 +192,14 @@ module _ (given : Bool) {names : List (List ℕ)} {s₀ : List ℕ} {p₀ : ℕ}
           name-till there (λ j o. open-name-kept given names (there .left) may-name o) h
 
   pub closing-till :
-      {u s : List ℕ} {p n q : ℕ} (t : Tree) (f : Forest) → Stands s₀ p₀ u s p → MayFollow given names (ClosingIn given names) u
-      → closing given t f s p ≡ refused n q → KeptTill given names s₀ p₀ n q
+      {u s : List ℕ} {p n q : ℕ} (t : Tree) (f : Forest) → Stands s₀ p₀ u s p → MayFollow given names most (ClosingIn given names) u
+      → closing given t f s p ≡ refused n q → KeptTill given names most s₀ p₀ n q
   unfolding closingBy
   closing-till {u} {s} {p} {n} {q} t f st may h =
       ⊎-elim (λ e. innerName-till st may e) named
       (andThen-refused (innerName s p) (λ w s p. andThen (supported given w s p) (λ b s p. parsed (node t f b) s p)) h)
     where
-      named : Reached (innerName s p) (λ w s p. andThen (supported given w s p) (λ b s p. parsed (node t f b) s p)) (refused n q) → KeptTill given names s₀ p₀ n q
+      named : Reached (innerName s p) (λ w s p. andThen (supported given w s p) (λ b s p. parsed (node t f b) s p)) (refused n q) → KeptTill given names most s₀ p₀ n q
       named r =
           let w = r .value in
           let x = step-inner given names s p (r .first) in

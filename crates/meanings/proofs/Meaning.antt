@@ -23,7 +23,7 @@ use Rattle.tokens.specs.Answers.{Answer, andThen, unexpected}
 use Rattle.tokens.specs.Answers.Answer.{parsed, refused}
 use Rattle.tokens.specs.Tokens.{blanks, skip, number, name}
 use Rattle.tokens.specs.Supports.{supported}
-use Rattle.nodes.specs.Reading.{openMost, leafNew, leafKnown, leafAt, closing, afterFirst, opened, nodeBy, afterChild, readNode, readForest, complete, ended, readTreeTo, readTree, leafBy}
+use Rattle.nodes.specs.Reading.{leafNew, leafKnown, leafAt, closing, afterFirst, opened, nodeBy, afterChild, readNode, readForest, complete, ended, readTreeTo, readTree, leafBy}
 use Rattle.nodes.specs.Reading.{readForestBy, readNodeBy, readTreeBy, readTreeToBy}
 use Rattle.nodes.specs.Grammar.{strict, Blanks, Node, Text}
 use Rattle.nodes.specs.Grammar.Text.{text}
@@ -47,9 +47,9 @@ use Rattle.meanings.proofs.MeaningSteps.{same-position, name-word, has-
 use Rattle.meanings.proofs.MeaningSpecies.{met-less, AllMet, met-node}
 use Rattle.meanings.proofs.MeaningTokens.{Said, SaysOf, says-here, unexpected-says, supported-says, name-says, closing-says}
 
-module _ (given : Bool) (names : List (List ℕ)) (needed : ℕ) (s₀ : List ℕ) (p₀ : ℕ) where
+module _ (given : Bool) (names : List (List ℕ)) (most needed : ℕ) (s₀ : List ℕ) (p₀ : ℕ) where
   abbrev Says : ℕ → ℕ → Type 0
-  Says number q = SaysOf given names needed s₀ p₀ number q
+  Says number q = SaysOf given names most needed s₀ p₀ number q
 
   -- ---- leaves
 
@@ -115,7 +115,7 @@ module _ (given : Bool) (names : List (List ℕ)) (needed : ℕ) (s₀ : List �
 
   -- as many parentheses may still open as are left of fifteen
   abbrev Room : List ℕ → ℕ → Type 0
-  Room s room = countFrom false 40 s₀ + countFrom false 41 s + room ≡ countFrom false 41 s₀ + countFrom false 40 s + openMost
+  Room s room = countFrom false 40 s₀ + countFrom false 41 s + room ≡ countFrom false 41 s₀ + countFrom false 40 s + most
 
   -- what the induction shows of a node and of the children behind a first comma
   abbrev NodeSays : ℕ → Type 0
@@ -409,12 +409,12 @@ module _ (given : Bool) (names : List (List ℕ)) (needed : ℕ) (s₀ : List �
   start = record { left = record { whole = refl }; place = omega arith }
 
   -- behind the whole node t, which leaves m
-  module _ (k : ℕ) (t : Tree) (m : List ℕ) (r : ℕ) (first : readNode given k names openMost 0 s₀ p₀ ≡ parsed t m r) where
-    root-read : NodeRead given names openMost 0 s₀ t m
-    root-read = readNode-sound given k names openMost 0 s₀ p₀ t m r first
+  module _ (k : ℕ) (t : Tree) (m : List ℕ) (r : ℕ) (first : readNode given k names most 0 s₀ p₀ ≡ parsed t m r) where
+    root-read : NodeRead given names most 0 s₀ t m
+    root-read = readNode-sound given k names most 0 s₀ p₀ t m r first
 
-    root-step : Step (Then (NodeOf openMost t) Blanks) s₀ p₀ (skip m) (r + blanks m)
-    root-step = step-then (NodeOf openMost t) Blanks (lifted-node given names k openMost 0 s₀ p₀ first) (step-skip m r)
+    root-step : Step (Then (NodeOf most t) Blanks) s₀ p₀ (skip m) (r + blanks m)
+    root-step = step-then (NodeOf most t) Blanks (lifted-node given names k most 0 s₀ p₀ first) (step-skip m r)
 
     missing-says : nextIs 59 (skip m) ≡ true → within needed (cluster t) ≡ false → Says 9 (r + blanks m)
     missing-says ends lacks =
@@ -423,8 +423,8 @@ module _ (given : Bool) (names : List (List ℕ)) (needed : ℕ) (s₀ : List �
         let behind = tail (skip m) in
         let split : s₀ ≡ x ++ 59 ∷ behind = there .left .whole ∙ ap (λ (l : List ℕ). x ++ l) (nextIs-cons 59 (skip m) ends) in
         let bytes : take (suc (length x)) s₀ ≡ x ++ 59 ∷ [] = front-with (there .left) 59 ends in
-        let all : Text (strict given names) openMost ((x ++ 59 ∷ []) ++ behind) t behind =
-        subst (λ (l : List ℕ). Text (strict given names) openMost l t behind) (split ∙ sym (append-assoc x (59 ∷ []) behind))
+        let all : Text (strict given names) most ((x ++ 59 ∷ []) ++ behind) t behind =
+        subst (λ (l : List ℕ). Text (strict given names) most l t behind) (split ∙ sym (append-assoc x (59 ∷ []) behind))
         (text (root-read .derives) (skip-byte 59 m ends))
         in
         let lack = lacking needed (cluster t) lacks in
@@ -451,35 +451,35 @@ module _ (given : Bool) (names : List (List ℕ)) (needed : ℕ) (s₀ : List �
     ended-says false ends h =
         unexpected-says given Tree (stands-on start root-step) h
 
-  tree-says : {n q : ℕ} (k : ℕ) → 2 * length s₀ < k → readTreeTo given k names needed s₀ p₀ ≡ refused n q → Says n q
+  tree-says : {n q : ℕ} (k : ℕ) → 2 * length s₀ < k → readTreeTo given k names most needed s₀ p₀ ≡ refused n q → Says n q
   unfolding readTreeToBy
   tree-says {n} {q} k fuel h =
       ⊎-elim
-      (λ e. node-says k openMost 0 [] s₀ p₀ n q start node-at-front (λ i a. absurd (has-zero i a)) (omega arith) fuel e)
+      (λ e. node-says k most 0 [] s₀ p₀ n q start node-at-front (λ i a. absurd (has-zero i a)) (omega arith) fuel e)
       (λ g. ended-says k (g .value) (g .left) (g .place) (g .first) (nextIs 59 (skip (g .left))) refl (g .after))
-      (andThen-refused (readNode given k names openMost 0 s₀ p₀) (λ t s p. ended (nextIs 59 (skip s)) needed t (skip s) (p + blanks s)) h)
+      (andThen-refused (readNode given k names most 0 s₀ p₀) (λ t s p. ended (nextIs 59 (skip s)) needed t (skip s) (p + blanks s)) h)
 
 -- no text begins with the bytes up to one that is refused by 3, where a label that has ended there has ended
 forbidden :
-    (given : Bool) (names : List (List ℕ)) (needed : ℕ) (s : List ℕ) (p d : ℕ)
-    → readTree given names needed s p ≡ refused 3 (p + d) → d < length s → CouldBegin s (suc d) → ⊥
-forbidden given names needed s p d h within b =
+    (given : Bool) (names : List (List ℕ)) (most needed : ℕ) (s : List ℕ) (p d : ℕ)
+    → readTree given names most needed s p ≡ refused 3 (p + d) → d < length s → CouldBegin s (suc d) → ⊥
+forbidden given names most needed s p d h within b =
     let u = take (suc d) s in
     let s′ = u ++ b .more in
     let size : length u ≡ suc d = length-take-le (suc d) s within in
     let e = border-three s d in
     let behind : drop (suc d) s′ ≡ b .more = drop-at u (b .more) (suc d) size in
     let again =
-    locality given names needed s s′ p d 3 h (omega arith) (omega arith) (rw e (take-at u (b .more) (suc d) size)) (alike-asked (rw (e, behind) (b .alike)))
+    locality given names most needed s s′ p d 3 h (omega arith) (omega arith) (rw e (take-at u (b .more) (suc d) size)) (alike-asked (rw (e, behind) (b .alike)))
     in
-    let t = text-limits given names needed (b .text .2) p again in
+    let t = text-limits given names most needed (b .text .2) p again in
     omega (arith, t .0)
 
 -- what a refusal of a tree text says; so its number is one from 3 to 10, or 18
 pub refusal-said :
-    (given : Bool) (names : List (List ℕ)) (needed : ℕ) (s : List ℕ) (p : ℕ) {number q : ℕ}
-    → readTree given names needed s p ≡ refused number q → Said given names needed s p number q
+    (given : Bool) (names : List (List ℕ)) (most needed : ℕ) (s : List ℕ) (p : ℕ) {number q : ℕ}
+    → readTree given names most needed s p ≡ refused number q → Said given names most needed s p number q
 unfolding readTreeBy
-refusal-said given names needed s p {number} {q} h =
-    tree-says given names needed s p (2 * length s + 1) (omega arith) h
-    (λ three d at fits b. forbidden given names needed s p d (h ∙ rw (three, at) refl) fits b)
+refusal-said given names most needed s p {number} {q} h =
+    tree-says given names most needed s p (2 * length s + 1) (omega arith) h
+    (λ three d at fits b. forbidden given names most needed s p d (h ∙ rw (three, at) refl) fits b)

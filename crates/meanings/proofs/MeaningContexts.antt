@@ -1,5 +1,5 @@
 -- What may stand behind the bytes read so far: each token that is read leaves a place where the next may stand.
-use Prim.Native.Nat.{ℕ, zero, suc, _+_, _≤_, _<_}
+use Prim.Native.Nat.{ℕ, suc, _+_, _≤_, _<_}
 use mathlib.Core.Path.{_≡_, refl, ap, _∙_}
 use mathlib.Core.Bool.{false}
 use mathlib.Core.List.{List, [], _∷_, _++_, append-assoc, append-nil}
@@ -12,7 +12,7 @@ use Rattle.labels.specs.Spelling.Spells.{bare}
 use Rattle.labels.proofs.LabelFronts.{Front, spells-front}
 use Rattle.labels.proofs.RunRules.{run-some}
 use Rattle.trees.specs.Tree.{Tree, Forest}
-use Rattle.trees.specs.Tree.Tree.{leaf, node}
+use Rattle.trees.specs.Tree.Tree.{leaf}
 use Rattle.nodes.specs.Grammar.{Rules, liftedTo, lifted, loosest, Blanks, Number, ColonNumber, Numbers, Inner, Node, Children}
 use Rattle.nodes.specs.Grammar.Blanks.{none, blank}
 use Rattle.nodes.specs.Grammar.Number.{whole, decimal}
@@ -23,7 +23,8 @@ use Rattle.nodes.specs.Grammar.Node.{a-leaf, an-inner, a-single}
 use Rattle.nodes.specs.Grammar.Children.{the-last, one-more}
 use Rattle.nodes.specs.Grammar.Text.{text}
 use Rattle.meanings.specs.Meaning.{IsText, IsNode, IsNumber, MayStand, NodeMayStand, NameMayStand, NumberMayStand, distancesBefore, SupportMayStand}
-use Rattle.nodes.proofs.Derivations.{two-wanted, Steps, over-node, over-children}
+use Rattle.nodes.proofs.Derivations.{two-wanted}
+use Rattle.nodes.proofs.Deeper.{node-deeper, children-deeper}
 use Rattle.nodes.proofs.Fronts.{Then, BlanksAnd, lifted-placeless, lifted-allows, front-then, blanks-front, byte-front, number-front, node-front, children-front, text-allowed, loosen-node}
 use Rattle.meanings.proofs.KeptRules.{number-size, Takes, distance-taken, inner-taken, node-taken, children-taken}
 
@@ -168,42 +169,6 @@ stand-as P Q y ends made may =
       apart = ends-apart y (may .end) ends (may .apart);
       text = λ l v free q. may .text l v free (made (rulesOf l) v (may .end) free q);
     }
-
--- more parentheses may be open at once
-abbrev Deeper : Rules → ℕ → List ℕ → Tree → List ℕ → Type 0
-Deeper R k s t rest = (m : ℕ) → k ≤ m → Node R m s t rest
-
-abbrev AllDeeper : Rules → ℕ → List ℕ → Forest → List ℕ → Type 0
-AllDeeper R k s f rest = (m : ℕ) → k ≤ m → Children R m s f rest
-
-inner-deeper :
-    {R : Rules} {k : ℕ} {t : Tree} {f : Forest} {w d b s s₁ s₂ s₃ s₄ s₅ rest : List ℕ}
-    → Blanks s (40 ∷ s₁) → Deeper R k s₁ t s₂ → Blanks s₂ (44 ∷ s₃) → AllDeeper R k s₃ f s₄ → Inner R w s₄ s₅ → Numbers R d b s₅ rest
-    → Deeper R (suc k) s (node t f (record { name = w; distance = d; support = b })) rest
-inner-deeper bl p comma q inner behind zero l = absurd (omega arith)
-inner-deeper bl p comma q inner behind (suc m) l = an-inner bl (p m (omega arith)) comma (q m (omega arith)) inner behind
-
-single-deeper :
-    {R : Rules} {k : ℕ} {t : Tree} {w d b s s₁ s₂ s₃ s₄ rest : List ℕ}
-    → R .fewest ≤ 1 → Blanks s (40 ∷ s₁) → Deeper R k s₁ t s₂ → Blanks s₂ (41 ∷ s₃) → Inner R w s₃ s₄ → Numbers R d b s₄ rest → Deeper R (suc k) s t rest
-single-deeper enough bl p closes inner behind zero l = absurd (omega arith)
-single-deeper enough bl p closes inner behind (suc m) l = a-single enough bl (p m (omega arith)) closes inner behind
-
-deeper-steps : (R : Rules) → Steps R (Deeper R) (AllDeeper R)
-deeper-steps R =
-    record {
-      at-leaf = λ k i w d b s s₁ s₂ rest bl r known behind m l. a-leaf bl r known behind;
-      at-inner = λ k t f w d b s s₁ s₂ s₃ s₄ s₅ rest bl first p comma others q inner behind m l. inner-deeper bl p comma q inner behind m l;
-      at-single = λ k t w d b s s₁ s₂ s₃ s₄ rest enough bl only p closes inner behind m l. single-deeper enough bl p closes inner behind m l;
-      at-last = λ k t s s₁ rest only p closes m l. the-last (p m l) closes;
-      at-more = λ k t f s s₁ s₂ rest first p comma others q m l. one-more (p m l) comma (q m l);
-    }
-
-pub node-deeper : (R : Rules) (m : ℕ) {k : ℕ} {t : Tree} {s rest : List ℕ} → k ≤ m → Node R k s t rest → Node R m s t rest
-node-deeper R m l d = over-node R (Deeper R) (AllDeeper R) (deeper-steps R) d m l
-
-pub children-deeper : (R : Rules) (m : ℕ) {k : ℕ} {f : Forest} {s rest : List ℕ} → k ≤ m → Children R k s f rest → Children R m s f rest
-children-deeper R m l d = over-children R (Deeper R) (AllDeeper R) (deeper-steps R) d m l
 
 -- a whole piece, whatever stands behind it
 pub whole-on : (X : List ℕ → List ℕ → Type 0) {v : List ℕ} (y : List ℕ) → Front X v [] → X (v ++ y) y

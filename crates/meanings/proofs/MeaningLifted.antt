@@ -21,7 +21,7 @@ use Rattle.tokens.specs.Answers.{Answer, andThen}
 use Rattle.tokens.specs.Answers.Answer.{parsed, refused}
 use Rattle.tokens.specs.Tokens.{numberBytes, blanks, skip, number, numberBehind, secondNumber, numbersBy, numbers, name, innerName}
 use Rattle.tokens.specs.Supports.{refusesFine, unlessFine, supported}
-use Rattle.nodes.specs.Reading.{openMost, leafNew, leafKnown, leafAt, closing, afterFirst, opened, afterChild, readNode, readForest, complete, ended, readTree, closingBy, leafBy, readForestBy}
+use Rattle.nodes.specs.Reading.{leafNew, leafKnown, leafAt, closing, afterFirst, opened, afterChild, readNode, readForest, complete, ended, readTree, closingBy, leafBy, readForestBy}
 use Rattle.nodes.specs.Reading.{readNodeBy, readTreeBy, readTreeToBy}
 use Rattle.nodes.specs.Grammar.{loosest, Blanks, Number, ColonNumber, Numbers, Inner, Node, Text}
 use Rattle.nodes.specs.Grammar.ColonNumber.{colon}
@@ -298,11 +298,11 @@ module _ (given : Bool) (names : List (List ℕ)) where
   ended-passes true t rest p = reads
   ended-passes false t rest p = halts nine
 
-  text-passes : (needed : ℕ) {k : ℕ} {s rest : List ℕ} {t : Tree} → Text loosest k s t rest → (p : ℕ) → Passes rest (readTree given names needed s p)
+  text-passes : (most needed : ℕ) {k : ℕ} {s rest : List ℕ} {t : Tree} → Text loosest k s t rest → (p : ℕ) → Passes rest (readTree given names most needed s p)
   unfolding readTreeBy readTreeToBy
-  text-passes needed {s = s} {rest = rest} (text {s₁ = m} d ends) p =
+  text-passes most needed {s = s} {rest = rest} (text {s₁ = m} d ends) p =
       passes-then (λ t s p. ended (nextIs 59 (skip s)) needed t (skip s) (p + blanks s))
-      (over-node loosest NodePasses ForestPasses pass-steps d (semicolon-follows ends) (2 * length s + 1) openMost 0 p (omega arith))
+      (over-node loosest NodePasses ForestPasses pass-steps d (semicolon-follows ends) (2 * length s + 1) most 0 p (omega arith))
       (λ x q. rw (skip-is 59 refl ends, skip-to 59 refl ends) (ended-passes (within needed (cluster x)) x rest (q + blanks m)))
 
   passed : {A : Type 0} {rest : List ℕ} {a : Answer A} {n q : ℕ} → Passes rest a → a ≡ refused n q → Limit n
@@ -311,5 +311,5 @@ module _ (given : Bool) (names : List (List ℕ)) where
 
   -- a text of that grammar is refused by 4 to 9 and 18 alone
   pub text-limits :
-      (needed : ℕ) {k : ℕ} {s rest : List ℕ} {t : Tree} → Text loosest k s t rest → (p : ℕ) {n q : ℕ} → readTree given names needed s p ≡ refused n q → Limit n
-  text-limits needed d p h = passed (text-passes needed d p) h
+      (most needed : ℕ) {k : ℕ} {s rest : List ℕ} {t : Tree} → Text loosest k s t rest → (p : ℕ) {n q : ℕ} → readTree given names most needed s p ≡ refused n q → Limit n
+  text-limits most needed d p h = passed (text-passes most needed d p) h

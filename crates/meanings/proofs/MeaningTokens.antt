@@ -37,15 +37,15 @@ use Rattle.meanings.proofs.OpenNumbers.NumberFault.{too-long, none-yet,
 use Rattle.meanings.proofs.MeaningSteps.{lifted-second, lifted-inner}
 
 -- the number has its meaning at place q of the text s₀, which begins at place p₀
-pub record Said (given : Bool) (names : List (List ℕ)) (needed : ℕ) (s₀ : List ℕ) (p₀ number q : ℕ) : Type 0 where
+pub record Said (given : Bool) (names : List (List ℕ)) (most needed : ℕ) (s₀ : List ℕ) (p₀ number q : ℕ) : Type 0 where
   pub byte : ℕ
   pub place : q ≡ p₀ + byte
-  pub means : Means given names needed s₀ byte number
+  pub means : Means given names most needed s₀ byte number
 
 -- a refusal by this number at place q has its meaning, if with a byte at fault for 3 no text could begin
-abbrev pub SaysOf : Bool → List (List ℕ) → ℕ → List ℕ → ℕ → ℕ → ℕ → Type 0
-SaysOf given names needed s₀ p₀ number q =
-    (number ≡ 3 → (d : ℕ) → q ≡ p₀ + d → d < length s₀ → CouldBegin s₀ (suc d) → ⊥) → Said given names needed s₀ p₀ number q
+abbrev pub SaysOf : Bool → List (List ℕ) → ℕ → ℕ → List ℕ → ℕ → ℕ → ℕ → Type 0
+SaysOf given names most needed s₀ p₀ number q =
+    (number ≡ 3 → (d : ℕ) → q ≡ p₀ + d → d < length s₀ → CouldBegin s₀ (suc d) → ⊥) → Said given names most needed s₀ p₀ number q
 
 -- ---- supports
 
@@ -76,18 +76,18 @@ fine-ends s p h fine =
 
 -- ---- tokens
 
-module _ (given : Bool) {names : List (List ℕ)} {needed : ℕ} {s₀ : List ℕ} {p₀ : ℕ} where
-  pub says-here : {u s : List ℕ} {p q n : ℕ} → Stands s₀ p₀ u s p → q ≡ p → Means given names needed s₀ (length u) n → SaysOf given names needed s₀ p₀ n q
+module _ (given : Bool) {names : List (List ℕ)} {most needed : ℕ} {s₀ : List ℕ} {p₀ : ℕ} where
+  pub says-here : {u s : List ℕ} {p q n : ℕ} → Stands s₀ p₀ u s p → q ≡ p → Means given names most needed s₀ (length u) n → SaysOf given names most needed s₀ p₀ n q
   says-here {u} st e m forbidden = record { byte = length u; place = e ∙ st .place; means = m }
 
   -- k bytes behind where reading stands the text ends, or a byte stands that may not
-  end-says : {u s : List ℕ} {p n q : ℕ} (k : ℕ) → Stands s₀ p₀ u s p → n ≡ 10 → q ≡ p + k → k ≡ length s → SaysOf given names needed s₀ p₀ n q
+  end-says : {u s : List ℕ} {p n q : ℕ} (k : ℕ) → Stands s₀ p₀ u s p → n ≡ 10 → q ≡ p + k → k ≡ length s → SaysOf given names most needed s₀ p₀ n q
   end-says {u} k st number at over =
       rw number
       (λ forbidden.
       record { byte = length u + k; place = omega (arith, st .place); means = ends-first (record { end = omega (arith, all-length (st .left)) }) })
 
-  byte-says : {u s : List ℕ} {p n q : ℕ} (k : ℕ) → Stands s₀ p₀ u s p → n ≡ 3 → q ≡ p + k → k < length s → SaysOf given names needed s₀ p₀ n q
+  byte-says : {u s : List ℕ} {p n q : ℕ} (k : ℕ) → Stands s₀ p₀ u s p → n ≡ 3 → q ≡ p + k → k < length s → SaysOf given names most needed s₀ p₀ n q
   byte-says {u} {p = p} {q = q} k st number at within =
       let inside : length u + k < length s₀ = omega (arith, all-length (st .left)) in
       let place : q ≡ p₀ + (length u + k) = omega (arith, st .place) in
@@ -98,14 +98,14 @@ module _ (given : Bool) {names : List (List ℕ)} {needed : ℕ} {s₀ : List �
   -- nothing that may stand k bytes on does
   further-says :
       (A : Type 0) {u s : List ℕ} {p n q : ℕ} (k : ℕ) → k ≤ length s → Stands s₀ p₀ u s p
-      → _≡_ {A = Answer A} (unexpected (drop k s) (p + k)) (refused n q) → SaysOf given names needed s₀ p₀ n q
+      → _≡_ {A = Answer A} (unexpected (drop k s) (p + k)) (refused n q) → SaysOf given names most needed s₀ p₀ n q
   further-says A {s = s} {p = p} k fits st h =
       ⊎-elim (λ e. end-says k st (e .number) (e .place) (omega (arith, ap length (e .ends), length-drop k s)))
       (λ e. byte-says k st (e .number) (e .place) (omega (arith, ap length (e .stands), length-drop k s)))
       (unexpected-refused (drop k s) (p + k) h)
 
   pub unexpected-says :
-      (A : Type 0) {u s : List ℕ} {p n q : ℕ} → Stands s₀ p₀ u s p → _≡_ {A = Answer A} (unexpected s p) (refused n q) → SaysOf given names needed s₀ p₀ n q
+      (A : Type 0) {u s : List ℕ} {p n q : ℕ} → Stands s₀ p₀ u s p → _≡_ {A = Answer A} (unexpected s p) (refused n q) → SaysOf given names most needed s₀ p₀ n q
   unexpected-says A {s = s} {p = p} {n = n} {q = q} st h =
       let here : p + 0 ≡ p = omega arith in
       further-says A 0 zero-le st (rw here h)
@@ -115,7 +115,7 @@ module _ (given : Bool) {names : List (List ℕ)} {needed : ℕ} {s₀ : List �
   -- thirteen bytes that begin a number
   long-number-says :
       {u s : List ℕ} {p q : ℕ} → Stands s₀ p₀ u s p → NumberMayStand u → OpenNumber s (suc numberBytes) → q ≡ p + numberBytes
-      → SaysOf given names needed s₀ p₀ 4 q
+      → SaysOf given names most needed s₀ p₀ 4 q
   long-number-says {u} {s} st may o at forbidden =
       let v = take (suc numberBytes) s ++ (o .end ++ []) in
       let d : Number v v [] = subst (λ (w : List ℕ). Number w v []) (sym (number-splits (o .derives []) ∙ append-nil (o .word))) (o .derives []) in
@@ -132,15 +132,15 @@ module _ (given : Bool) {names : List (List ℕ)} {needed : ℕ} {s₀ : List �
         });
       }
 
-  number-says : {u s : List ℕ} {p n q : ℕ} → Stands s₀ p₀ u s p → NumberMayStand u → number s p ≡ refused n q → SaysOf given names needed s₀ p₀ n q
+  number-says : {u s : List ℕ} {p n q : ℕ} → Stands s₀ p₀ u s p → NumberMayStand u → number s p ≡ refused n q → SaysOf given names most needed s₀ p₀ n q
   number-says {s = s} {p = p} {n = n} {q = q} st may h = by (number-fault s p h)
     where
-      by : NumberFault s p n q → SaysOf given names needed s₀ p₀ n q
+      by : NumberFault s p n q → SaysOf given names most needed s₀ p₀ n q
       by (too-long o other four at) = rw four (long-number-says st may o at)
       by (none-yet e) = unexpected-says (List ℕ) st e
       by (pointed-only j o short e) = further-says (List ℕ) j (o .within) st e
 
-  numberBehind-says : {u s : List ℕ} {p n q : ℕ} → Stands s₀ p₀ u s p → NumberMayStand u → numberBehind s p ≡ refused n q → SaysOf given names needed s₀ p₀ n q
+  numberBehind-says : {u s : List ℕ} {p n q : ℕ} → Stands s₀ p₀ u s p → NumberMayStand u → numberBehind s p ≡ refused n q → SaysOf given names most needed s₀ p₀ n q
   unfolding numberBehind
   numberBehind-says {s = s} {p = p} st may h =
       let x = step-skip s p in
@@ -149,7 +149,7 @@ module _ (given : Bool) {names : List (List ℕ)} {needed : ℕ} {s₀ : List �
   -- a support that is read and refused when its number ends
   fine-says :
       {u s : List ℕ} {p : ℕ} {b rest : List ℕ} {r : ℕ} → Stands s₀ p₀ u s p → SupportMayStand u → number s p ≡ parsed b rest r → refusesFine given b ≡ true
-      → SaysOf given names needed s₀ p₀ 18 (r - length b)
+      → SaysOf given names most needed s₀ p₀ 18 (r - length b)
   fine-says {s = s} {p = p} {b = b} {rest = rest} {r = r} st may h judged =
       let x = number-spanned s p h in
       let y = number-read s p h in
@@ -166,7 +166,7 @@ module _ (given : Bool) {names : List (List ℕ)} {needed : ℕ} {s₀ : List �
         fine = fine .1;
       }))
 
-  support-says : {u s : List ℕ} {p n q : ℕ} → Stands s₀ p₀ u s p → Stand SupportIn u → SupportRefused given s p n q → SaysOf given names needed s₀ p₀ n q
+  support-says : {u s : List ℕ} {p n q : ℕ} → Stands s₀ p₀ u s p → Stand SupportIn u → SupportRefused given s p n q → SaysOf given names most needed s₀ p₀ n q
   unfolding numberBehind
   support-says {s = s} {p = p} st may r =
       let x = step-skip s p in
@@ -178,10 +178,10 @@ module _ (given : Bool) {names : List (List ℕ)} {needed : ℕ} {s₀ : List �
   -- a refusal of the numbers behind a node says what it means, 18 for a support too fine among them
   pub supported-says :
       {u s : List ℕ} {p n q : ℕ} (w : List ℕ) → Stands s₀ p₀ u s p → Stand NumbersIn u → supported given w s p ≡ refused n q
-      → SaysOf given names needed s₀ p₀ n q
+      → SaysOf given names most needed s₀ p₀ n q
   supported-says {s = s} {p = p} {n = n} {q = q} w st may h = by (supported-refused given names w s p h)
     where
-      by : BehindRefused given names s p n q → SaysOf given names needed s₀ p₀ n q
+      by : BehindRefused given names s p n q → SaysOf given names most needed s₀ p₀ n q
       by (behind-colon x e) = numberBehind-says (stands-on st x) (distance-may may (x .front)) e
       by (behind-colons x r) = support-says (stands-on st x) (colons-stand may (x .front)) r
       by (behind-distance d x r) = let y = lifted-second given names x in support-says (stands-on st y) (second-stand d may (y .front)) r
@@ -189,7 +189,7 @@ module _ (given : Bool) {names : List (List ℕ)} {needed : ℕ} {s₀ : List �
   -- ---- names
 
   -- a label's fault: a sixteenth letter, a byte that may not stand within quotes, quotes around nothing, quotes that never close
-  label-says : {u s : List ℕ} {p n q k : ℕ} → Stands s₀ p₀ u s p → Stand NameIn u → q ≡ p + k → Fault s n k → SaysOf given names needed s₀ p₀ n q
+  label-says : {u s : List ℕ} {p n q k : ℕ} → Stands s₀ p₀ u s p → Stand NameIn u → q ≡ p + k → Fault s n k → SaysOf given names most needed s₀ p₀ n q
   label-says {u} {s} {p} {q = q} st may at (long-in l) =
       let here = back (st .left) in
       λ forbidden. record {
@@ -207,22 +207,22 @@ module _ (given : Bool) {names : List (List ℕ)} {needed : ℕ} {s₀ : List �
   label-says {k = k} st may at (empty rest split over) = byte-says k st refl at (omega (arith, ap length split))
   label-says {k = k} st may at (unclosed w split all short) = end-says k st refl at (sym (ap length split))
 
-  pub name-says : {u s : List ℕ} {p n q : ℕ} → Stands s₀ p₀ u s p → Stand NameIn u → name s p ≡ refused n q → SaysOf given names needed s₀ p₀ n q
+  pub name-says : {u s : List ℕ} {p n q : ℕ} → Stands s₀ p₀ u s p → Stand NameIn u → name s p ≡ refused n q → SaysOf given names most needed s₀ p₀ n q
   unfolding name
   name-says {u} {s} {p} {n} {q} st may h = go (told s) refl h
     where
-      go : (t : Told) → told s ≡ t → nameBy t s p ≡ refused n q → SaysOf given names needed s₀ p₀ n q
+      go : (t : Told) → told s ≡ t → nameBy t s p ≡ refused n q → SaysOf given names most needed s₀ p₀ n q
       go (ended k) is h = absurd (parsed-refused h)
       go (faulty number k) is h =
           let e : number ≡ n = cc in
           let at : q ≡ p + k = cc in
           rw (← e) (label-says st may at (told-fault s number k is))
 
-  innerName-says : {u s : List ℕ} {p n q : ℕ} → Stands s₀ p₀ u s p → Stand ClosingIn u → innerName s p ≡ refused n q → SaysOf given names needed s₀ p₀ n q
+  innerName-says : {u s : List ℕ} {p n q : ℕ} → Stands s₀ p₀ u s p → Stand ClosingIn u → innerName s p ≡ refused n q → SaysOf given names most needed s₀ p₀ n q
   unfolding innerName
   innerName-says {u} {s} {p} {n} {q} st may h = go (nextLabel (skip s)) h
     where
-      go : (t : Bool) → innerNameBy t s p ≡ refused n q → SaysOf given names needed s₀ p₀ n q
+      go : (t : Bool) → innerNameBy t s p ≡ refused n q → SaysOf given names most needed s₀ p₀ n q
       go false h = absurd (parsed-refused h)
       go true h =
           let x = step-skip s p in
@@ -230,7 +230,7 @@ module _ (given : Bool) {names : List (List ℕ)} {needed : ℕ} {s₀ : List �
 
   pub closing-says :
       {u s : List ℕ} {p n q : ℕ} (t : Tree) (f : Forest) → Stands s₀ p₀ u s p → Stand ClosingIn u → closing given t f s p ≡ refused n q
-      → SaysOf given names needed s₀ p₀ n q
+      → SaysOf given names most needed s₀ p₀ n q
   unfolding closingBy
   closing-says {u} {s} {p} {n} {q} t f st may h =
       ⊎-elim (λ e. innerName-says st may e) named
@@ -238,7 +238,7 @@ module _ (given : Bool) {names : List (List ℕ)} {needed : ℕ} {s₀ : List �
     where
       named :
           Reached (innerName s p) (λ w s p. andThen (supported given w s p) (λ b s p. parsed (node t f b) s p)) (refused n q)
-          → SaysOf given names needed s₀ p₀ n q
+          → SaysOf given names most needed s₀ p₀ n q
       named r =
           let w = r .value in
           let x = lifted-inner given names s p (r .first) in

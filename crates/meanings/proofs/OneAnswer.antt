@@ -19,7 +19,6 @@ use Rattle.labels.proofs.LabelFronts.{front-elsewhere}
 use Rattle.labels.proofs.FirstBytes.{next-here}
 use Rattle.roster.specs.Roster.{position, byteBefore}
 use Rattle.tokens.specs.Tokens.{numberBytes}
-use Rattle.nodes.specs.Reading.{openMost}
 use Rattle.nodes.specs.Grammar.{lifted, loosest, Number}
 use Rattle.nodes.specs.Grammar.Blanks.{none}
 use Rattle.nodes.specs.Deciding.{border, bytesOf, borderBy, GoesOnAlike}
@@ -396,9 +395,9 @@ module _ (given : Bool) (names : List (List ℕ)) (s : List ℕ) where
   unfolding border
   single-verdict r = mark-verdict closed (r .closes .0) (r .could) (single-state r) refl refl
 
-  deep-verdict : {d : ℕ} → TooDeep s d → Verdict (border 8 s d) 8 d
+  deep-verdict : {most d : ℕ} → TooDeep most s d → Verdict (border 8 s d) 8 d
   unfolding border
-  deep-verdict {d} r =
+  deep-verdict {d = d} r =
       let may = r .allowed in
       let y : List ℕ = 97 ∷ 44 ∷ 97 ∷ 41 ∷ [] in
       let byte : take 1 (drop d s) ≡ 40 ∷ [] = rw (drop-cons s d 0 (r .opening .0), r .opening .1) refl in
@@ -406,15 +405,15 @@ module _ (given : Bool) (names : List (List ℕ)) (s : List ℕ) where
       let could = could-with s d 1 y (may .end) (other-alike _ _ _ (rw before refl) (rw before refl)) (rw byte (may .text (40 ∷ y) opening-node)) in
       mark-verdict fresh (r .opening .0) (rw add-one at could) (state-byte 40 (r .opening) (node-fresh may)) refl refl
 
-  missing-verdict : {needed d : ℕ} → Missing given names needed s d → Verdict (border 9 s d) 9 d
+  missing-verdict : {most needed d : ℕ} → Missing given names most needed s d → Verdict (border 9 s d) 9 d
   unfolding border nextLabel
-  missing-verdict {d = d} r =
-      let t = loosen (openMost, r .tree, lift-text given names (r .drawn)) in
+  missing-verdict {most = most} {d = d} r =
+      let t = loosen (most, r .tree, lift-text given names (r .drawn)) in
       let could : CouldBegin s (suc d) = record { more = []; alike = stops-alike _ [] _ refl; text = rw append-nil t } in
       mark-verdict over (r .ends .0) could (text-ended (r .drawn)) refl refl
 
   -- where a number has its meaning
-  verdict : {needed n d : ℕ} → Means given names needed s d n → Verdict (border n s d) n d
+  verdict : {most needed n d : ℕ} → Means given names most needed s d n → Verdict (border n s d) n d
   unfolding border
   verdict (stray r) = no-text refl (r .inside) (r .not-allowed)
   verdict (long-name r) = long-name-verdict r
@@ -429,7 +428,7 @@ module _ (given : Bool) (names : List (List ℕ)) (s : List ℕ) where
 
 -- but for 10, the bytes that decide are bytes of the text
 pub border-within :
-    (given : Bool) {names : List (List ℕ)} {needed : ℕ} {s : List ℕ} {n d : ℕ} → Means given names needed s d n → (n ≡ 10 → ⊥) → border n s d ≤ length s
+    (given : Bool) {names : List (List ℕ)} {most needed : ℕ} {s : List ℕ} {n d : ℕ} → Means given names most needed s d n → (n ≡ 10 → ⊥) → border n s d ≤ length s
 border-within given {names} {s = s} m other = by (verdict given names s m) other
   where
     by : {e n d : ℕ} → Verdict given names s e n d → (n ≡ 10 → ⊥) → e ≤ length s
@@ -440,7 +439,7 @@ border-within given {names} {s = s} m other = by (verdict given names s m) other
 -- ---- the first fault met
 
 -- the border behind which something is at fault is one
-one-border : (given : Bool) {names : List (List ℕ)} {s : List ℕ} {e e′ : ℕ} → FirstMet given names s e → FirstMet given names s e′ → e ≡ e′
+one-border : (given : Bool) {names : List (List ℕ)} {most : ℕ} {s : List ℕ} {e e′ : ℕ} → FirstMet given names most s e → FirstMet given names most s e′ → e ≡ e′
 one-border given {e = e} {e′ = e′} a b = go (decLt e e′) (decLt e′ e)
   where
     go : Dec (e < e′) → Dec (e′ < e) → e ≡ e′
@@ -450,8 +449,8 @@ one-border given {e = e} {e′ = e′} a b = go (decLt e e′) (decLt e′ e)
 
 -- behind the end of a text only 9 has a meaning
 pub ended-nine :
-    (given : Bool) {names : List (List ℕ)} {needed : ℕ} {s : List ℕ} {n d : ℕ}
-    → Means given names needed s d n → CouldBegin s (border n s d) → border n s d ≤ length s → state (take (border n s d) s) ≡ over → n ≡ 9
+    (given : Bool) {names : List (List ℕ)} {most needed : ℕ} {s : List ℕ} {n d : ℕ}
+    → Means given names most needed s d n → CouldBegin s (border n s d) → border n s d ≤ length s → state (take (border n s d) s) ≡ over → n ≡ 9
 unfolding numberAt
 ended-nine given {names} {s = s} m could l ends = by (verdict given names s m) could l ends
   where
@@ -462,8 +461,8 @@ ended-nine given {names} {s = s} m could l ends = by (verdict given names s m) c
 
 -- for one text at most one number has its meaning, and at one place
 pub one-answer :
-    (given : Bool) {names : List (List ℕ)} {needed : ℕ} {s : List ℕ} {n n′ d d′ : ℕ}
-    → Means given names needed s d n → FirstMet given names s (border n s d) → Means given names needed s d′ n′ → FirstMet given names s (border n′ s d′)
+    (given : Bool) {names : List (List ℕ)} {most needed : ℕ} {s : List ℕ} {n n′ d d′ : ℕ}
+    → Means given names most needed s d n → FirstMet given names most s (border n s d) → Means given names most needed s d′ n′ → FirstMet given names most s (border n′ s d′)
     → (n ≡ n′) × (d ≡ d′)
 one-answer given {names} {s = s} {n′ = n′} {d′ = d′} m f m′ f′ =
     let e = one-border given f f′ in

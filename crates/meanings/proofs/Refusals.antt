@@ -27,9 +27,9 @@ letter-before : (twice : Bool) (d : ℕ) (s : List ℕ) → d < borderBy false f
 letter-before true d s = omega arith
 letter-before false d s = omega arith
 
-module _ (given : Bool) {names : List (List ℕ)} {needed : ℕ} {s : List ℕ} {d : ℕ} where
+module _ (given : Bool) {names : List (List ℕ)} {most needed : ℕ} {s : List ℕ} {d : ℕ} where
   -- the place stands before the border
-  pub refusal-before : {number : ℕ} → Means given names needed s d number → d < border number s d
+  pub refusal-before : {number : ℕ} → Means given names most needed s d number → d < border number s d
   unfolding border
   refusal-before (stray r) = omega arith
   refusal-before (long-name r) = letter-before (nextIs 39 (drop d s)) d s
@@ -43,11 +43,11 @@ module _ (given : Bool) {names : List (List ℕ)} {needed : ℕ} {s : List ℕ} 
   refusal-before (fine-support is r) = omega (arith, decimal-length (fine-decimal (r .number) (r .fine)))
 
   -- but for 10, the bytes that decide are bytes of the text, and so is the place
-  pub refusal-inside : {number : ℕ} → Means given names needed s d number → (number ≡ 10 → ⊥) → d < length s
+  pub refusal-inside : {number : ℕ} → Means given names most needed s d number → (number ≡ 10 → ⊥) → d < length s
   refusal-inside m other = omega (arith, refusal-before m, border-within given m other)
 
   -- the numbers are those from 3 to 10, and 18
-  pub refusal-numbers : {number : ℕ} → Means given names needed s d number → (3 ≤ number) × ((number ≤ 10) ⊎ (number ≡ 18))
+  pub refusal-numbers : {number : ℕ} → Means given names most needed s d number → (3 ≤ number) × ((number ≤ 10) ⊎ (number ≡ 18))
   refusal-numbers (stray r) = (omega arith, inl (omega arith))
   refusal-numbers (long-name r) = (omega arith, inl (omega arith))
   refusal-numbers (long-number r) = (omega arith, inl (omega arith))
@@ -60,30 +60,30 @@ module _ (given : Bool) {names : List (List ℕ)} {needed : ℕ} {s : List ℕ} 
   refusal-numbers (fine-support is r) = (omega arith, inr refl)
 
   -- each number by itself
-  pub says-3 : Means given names needed s d 3 → Stray s d
+  pub says-3 : Means given names most needed s d 3 → Stray s d
   says-3 (stray r) = r
 
-  pub says-4 : Means given names needed s d 4 → LongName s d ⊎ LongNumber s d
+  pub says-4 : Means given names most needed s d 4 → LongName s d ⊎ LongNumber s d
   says-4 (long-name r) = inl r
   says-4 (long-number r) = inr r
 
-  pub says-5 : Means given names needed s d 5 → UnknownName names s d
+  pub says-5 : Means given names most needed s d 5 → UnknownName names s d
   says-5 (unknown-name r) = r
 
-  pub says-6 : Means given names needed s d 6 → RepeatedName names s d
+  pub says-6 : Means given names most needed s d 6 → RepeatedName names s d
   says-6 (repeated-name r) = r
 
-  pub says-7 : Means given names needed s d 7 → SingleChild s d
+  pub says-7 : Means given names most needed s d 7 → SingleChild s d
   says-7 (single-child r) = r
 
-  pub says-8 : Means given names needed s d 8 → TooDeep s d
+  pub says-8 : Means given names most needed s d 8 → TooDeep most s d
   says-8 (too-deep r) = r
 
-  pub says-9 : Means given names needed s d 9 → Missing given names needed s d
+  pub says-9 : Means given names most needed s d 9 → Missing given names most needed s d
   says-9 (missing r) = r
 
-  pub says-10 : Means given names needed s d 10 → EndsFirst s d
+  pub says-10 : Means given names most needed s d 10 → EndsFirst s d
   says-10 (ends-first r) = r
 
-  pub says-18 : Means given names needed s d 18 → (given ≡ true) × FineSupport s d
+  pub says-18 : Means given names most needed s d 18 → (given ≡ true) × FineSupport s d
   says-18 (fine-support is r) = (is, r)

@@ -1,4 +1,4 @@
--- What a refusal says of the text (01, "Tree text" and "Numbers returned"; #103, #113). `given` says whether a threshold is.
+-- What a refusal says of the text (01, "Tree text" and "Numbers returned"; #103, #113). `given` says whether a threshold is, `most` how many parentheses may be open at once.
 use Prim.Native.Nat.{ℕ, zero, suc, _+_, _-_, _≤_, _<_, max}
 use mathlib.Core.Path.{_≡_}
 use mathlib.Core.Bool.{Bool, true, false, not}
@@ -16,7 +16,6 @@ use Rattle.roster.specs.Roster.{position, byteBefore, turnedIf}
 use Rattle.tokens.specs.Tokens.{numberBytes}
 use Rattle.tokens.specs.Values.{tooFine}
 use Rattle.tokens.specs.Supports.{refusesFine}
-use Rattle.nodes.specs.Reading.{openMost}
 use Rattle.nodes.specs.Grammar.{Rules, strict, lifted, loosest, Blanks, Number, Node, Text}
 use Rattle.nodes.specs.Deciding.{nextDigit, border, GoesOnAlike}
 
@@ -104,21 +103,21 @@ abbrev pub known : List (List ℕ) → Tree → List ℕ
 known names t = keep (λ i. ltb i (length names)) (leaves t)
 
 -- nothing is at fault before the place d: the bytes before it begin a text of the grammar, the text not yet over, in which every label and number that has ended there keeps its limit,
--- one still open there has at most fifteen decoded bytes (twelve for a number) before it, at most fifteen parentheses are open, every leaf's label that has ended there is on the roster,
+-- one still open there has at most fifteen decoded bytes (twelve for a number) before it, at most `most` parentheses are open, every leaf's label that has ended there is on the roster,
 -- no two are the same, and, where a threshold is given, no support that has ended there has more than three decimals
-pub record Kept (given : Bool) (names : List (List ℕ)) (s : List ℕ) (d : ℕ) : Type 0 where
+pub record Kept (given : Bool) (names : List (List ℕ)) (most : ℕ) (s : List ℕ) (d : ℕ) : Type 0 where
   pub inside : d ≤ length s
   pub more : List ℕ
   pub unended : 1 ≤ length more
   pub alike : GoesOnAlike (byteBefore s d) more (drop d s)
   pub tree : Tree
-  pub text : Text (keptTo given names (length more)) openMost (take d s ++ more) tree []
+  pub text : Text (keptTo given names (length more)) most (take d s ++ more) tree []
   pub once : NoneTwice (known names tree)
 
 -- the fault is met at the border e: nothing is at fault before any place up to it, and something is before e
-pub record FirstMet (given : Bool) (names : List (List ℕ)) (s : List ℕ) (e : ℕ) : Type 0 where
-  pub kept : (x : ℕ) → x < e → Kept given names s x
-  pub lost : Kept given names s e → ⊥
+pub record FirstMet (given : Bool) (names : List (List ℕ)) (most : ℕ) (s : List ℕ) (e : ℕ) : Type 0 where
+  pub kept : (x : ℕ) → x < e → Kept given names most s x
+  pub lost : Kept given names most s e → ⊥
 
 -- ---- bytes
 
@@ -206,17 +205,17 @@ pub record SingleChild (s : List ℕ) (d : ℕ) : Type 0 where
   pub gap : Blanks behind []
   pub could : CouldBegin s (suc d)
 
--- "8 | sixteenth open parenthesis | the `(`": it could stand there, and fifteen are open
-pub record TooDeep (s : List ℕ) (d : ℕ) : Type 0 where
+-- "8 | sixteenth open parenthesis | the `(`": it could stand there, and as many are open as may be at once; "8 is for the thirty-second parenthesis" (#110) where that is more
+pub record TooDeep (most : ℕ) (s : List ℕ) (d : ℕ) : Type 0 where
   pub opening : ByteAt s d 40
   pub allowed : NodeMayStand (take d s)
-  pub full : opens (take d s) ≡ openMost
+  pub full : opens (take d s) ≡ most
 
 -- "9 | `;` with a species missing | the `;`": the text up to it is a tree of the grammar, limits and roster kept, each species at most once, without a needed species
-pub record Missing (given : Bool) (names : List (List ℕ)) (needed : ℕ) (s : List ℕ) (d : ℕ) : Type 0 where
+pub record Missing (given : Bool) (names : List (List ℕ)) (most needed : ℕ) (s : List ℕ) (d : ℕ) : Type 0 where
   pub ends : ByteAt s d 59
   pub tree : Tree
-  pub drawn : Text (strict given names) openMost (take (suc d) s) tree []
+  pub drawn : Text (strict given names) most (take (suc d) s) tree []
   pub once : NoneTwice (leaves tree)
   pub species : ℕ
   pub wanted : Has needed species
@@ -237,21 +236,21 @@ pub record FineSupport (s : List ℕ) (d : ℕ) : Type 0 where
   pub fine : tooFine bytes ≡ true
 
 -- what a refusal by this number at the byte d says; no other number refuses a tree text
-pub data Means (given : Bool) (names : List (List ℕ)) (needed : ℕ) (s : List ℕ) (d : ℕ) : ℕ → Type 0 where
-  stray : Stray s d → Means given names needed s d 3
-  long-name : LongName s d → Means given names needed s d 4
-  long-number : LongNumber s d → Means given names needed s d 4
-  unknown-name : UnknownName names s d → Means given names needed s d 5
-  repeated-name : RepeatedName names s d → Means given names needed s d 6
-  single-child : SingleChild s d → Means given names needed s d 7
-  too-deep : TooDeep s d → Means given names needed s d 8
-  missing : Missing given names needed s d → Means given names needed s d 9
-  ends-first : EndsFirst s d → Means given names needed s d 10
-  fine-support : given ≡ true → FineSupport s d → Means given names needed s d 18
+pub data Means (given : Bool) (names : List (List ℕ)) (most needed : ℕ) (s : List ℕ) (d : ℕ) : ℕ → Type 0 where
+  stray : Stray s d → Means given names most needed s d 3
+  long-name : LongName s d → Means given names most needed s d 4
+  long-number : LongNumber s d → Means given names most needed s d 4
+  unknown-name : UnknownName names s d → Means given names most needed s d 5
+  repeated-name : RepeatedName names s d → Means given names most needed s d 6
+  single-child : SingleChild s d → Means given names most needed s d 7
+  too-deep : TooDeep most s d → Means given names most needed s d 8
+  missing : Missing given names most needed s d → Means given names most needed s d 9
+  ends-first : EndsFirst s d → Means given names most needed s d 10
+  fine-support : given ≡ true → FineSupport s d → Means given names most needed s d 18
 
 -- a refusal at place q of the text s, which begins at place p: the number has its meaning there, and it is the first fault met
-pub record Refusal (given : Bool) (names : List (List ℕ)) (needed : ℕ) (s : List ℕ) (p number q : ℕ) : Type 0 where
+pub record Refusal (given : Bool) (names : List (List ℕ)) (most needed : ℕ) (s : List ℕ) (p number q : ℕ) : Type 0 where
   pub byte : ℕ
   pub place : q ≡ p + byte
-  pub means : Means given names needed s byte number
-  pub first : FirstMet given names s (border number s byte)
+  pub means : Means given names most needed s byte number
+  pub first : FirstMet given names most s (border number s byte)

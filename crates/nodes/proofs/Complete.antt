@@ -23,7 +23,7 @@ use Rattle.roster.specs.Roster.{position}
 use Rattle.tokens.specs.Answers.{andThen}
 use Rattle.tokens.specs.Answers.Answer.{parsed}
 use Rattle.tokens.specs.Tokens.{blanks, skip, numbers, name, innerName}
-use Rattle.nodes.specs.Reading.{openMost, leafKnown, leafAt, closing, afterFirst, afterChild, readNode, readForest, ended, readTreeTo, readTree, closingBy, leafBy, readForestBy, readNodeBy, readTreeBy, readTreeToBy}
+use Rattle.nodes.specs.Reading.{leafKnown, leafAt, closing, afterFirst, afterChild, readNode, readForest, ended, readTreeTo, readTree, closingBy, leafBy, readForestBy, readNodeBy, readTreeBy, readTreeToBy}
 use Rattle.tokens.specs.Supports.{supported}
 use Rattle.nodes.specs.Grammar.{strict, Blanks, Numbers, Inner, Node, Text}
 use Rattle.nodes.specs.Grammar.Blanks.{none, blank}
@@ -195,21 +195,21 @@ node-complete given names d = over-node (strict given names) (NodeGiven given na
 -- ---- the tree
 
 tree-given :
-    (given : Bool) (names : List (List ℕ)) (needed : ℕ) {s rest : List ℕ} {t : Tree}
-    → Text (strict given names) openMost s t rest → NoneTwice (leaves t) → Within needed (cluster t) → (p : ℕ) → Gives (readTree given names needed s p) t rest
+    (given : Bool) (names : List (List ℕ)) (most needed : ℕ) {s rest : List ℕ} {t : Tree}
+    → Text (strict given names) most s t rest → NoneTwice (leaves t) → Within needed (cluster t) → (p : ℕ) → Gives (readTree given names most needed s p) t rest
 unfolding readTreeBy readTreeToBy
-tree-given given names needed {s} {rest} {t} (text {s₁ = m} d ends) once all p =
+tree-given given names most needed {s} {rest} {t} (text {s₁ = m} d ends) once all p =
     let k = 2 * length s + 1 in
-    gives-then (readNode given k names openMost 0 s p) (λ t s p. ended (nextIs 59 (skip s)) needed t (skip s) (p + blanks s))
+    gives-then (readNode given k names most 0 s p) (λ t s p. ended (nextIs 59 (skip s)) needed t (skip s) (p + blanks s))
     (node-complete given names d (semicolon-follows ends) k 0 p (omega arith) once (apart-zero (cluster t)))
     (λ q. rw (skip-is 59 refl ends, true-within needed (cluster t) all, skip-to 59 refl ends) (gives t rest (q + blanks m + 1)))
 
 pub read-complete :
-    (given : Bool) (names : List (List ℕ)) (needed : ℕ) (s : List ℕ) (p : ℕ) {t : Tree} {rest : List ℕ}
-    → Text (strict given names) openMost s t rest → NoneTwice (leaves t) → Within needed (cluster t)
-    → readTree given names needed s p ≡ parsed t rest (p + (length s - length rest))
-read-complete given names needed s p {t} {rest} d once all =
-    let g = tree-given given names needed d once all p in
-    let a = readTree-advances given names needed s p (g .is) in
+    (given : Bool) (names : List (List ℕ)) (most needed : ℕ) (s : List ℕ) (p : ℕ) {t : Tree} {rest : List ℕ}
+    → Text (strict given names) most s t rest → NoneTwice (leaves t) → Within needed (cluster t)
+    → readTree given names most needed s p ≡ parsed t rest (p + (length s - length rest))
+read-complete given names most needed s p {t} {rest} d once all =
+    let g = tree-given given names most needed d once all p in
+    let a = readTree-advances given names most needed s p (g .is) in
     let e : g .place ≡ p + (length s - length rest) = omega (arith, moves-length (a .moves), advances-shorter a) in
     g .is ∙ ap (λ (q : ℕ). parsed t rest q) e

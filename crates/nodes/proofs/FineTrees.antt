@@ -47,13 +47,13 @@ judged-simulates = record {
   fair-drop = λ n s fair. tt;
 }
 
-module _ (names : List (List ℕ)) (needed : ℕ) (s : List ℕ) (p : ℕ) where
-  beside : Beside By18 NoneFine (readTree true names needed s p) (readTree false names needed s p)
-  beside = read-beside (labelled true) (λ s. Unit {0}) By18 Coarse judged-simulates names needed s p tt
+module _ (names : List (List ℕ)) (most needed : ℕ) (s : List ℕ) (p : ℕ) where
+  beside : Beside By18 NoneFine (readTree true names most needed s p) (readTree false names most needed s p)
+  beside = read-beside (labelled true) (λ s. Unit {0}) By18 Coarse judged-simulates names most needed s p tt
 
   -- what is read with a threshold is read without one, and no support of it is too fine
   pub judged-read :
-      {t : Tree} {rest : List ℕ} {q : ℕ} → readTree true names needed s p ≡ parsed t rest q → (readTree false names needed s p ≡ parsed t rest q) × NoneFine t
+      {t : Tree} {rest : List ℕ} {q : ℕ} → readTree true names most needed s p ≡ parsed t rest q → (readTree false names most needed s p ≡ parsed t rest q) × NoneFine t
   judged-read {t} {rest} {q} is = by beside is
     where
       by : {a b : Answer Tree} → Beside By18 NoneFine a b → a ≡ parsed t rest q → (b ≡ parsed t rest q) × NoneFine t
@@ -63,7 +63,7 @@ module _ (names : List (List ℕ)) (needed : ℕ) (s : List ℕ) (p : ℕ) where
 
   -- what is read without a threshold is read with one, where no support of it is too fine
   pub unjudged-read :
-      {t : Tree} {rest : List ℕ} {q : ℕ} → readTree false names needed s p ≡ parsed t rest q → NoneFine t → readTree true names needed s p ≡ parsed t rest q
+      {t : Tree} {rest : List ℕ} {q : ℕ} → readTree false names most needed s p ≡ parsed t rest q → NoneFine t → readTree true names most needed s p ≡ parsed t rest q
   unjudged-read {t} {rest} {q} is none = by beside is
     where
       by : {a b : Answer Tree} → Beside By18 NoneFine a b → b ≡ parsed t rest q → a ≡ parsed t rest q
@@ -72,7 +72,7 @@ module _ (names : List (List ℕ)) (needed : ℕ) (s : List ℕ) (p : ℕ) where
       by (excused n never) e = absurd (never t rest q e none)
 
   -- every refusal but 18 is the same without a threshold
-  pub judged-refused : {n q : ℕ} → readTree true names needed s p ≡ refused n q → (n ≡ 18 → ⊥) → readTree false names needed s p ≡ refused n q
+  pub judged-refused : {n q : ℕ} → readTree true names most needed s p ≡ refused n q → (n ≡ 18 → ⊥) → readTree false names most needed s p ≡ refused n q
   judged-refused {n} {q} is other = by beside is
     where
       by : {a b : Answer Tree} → Beside By18 NoneFine a b → a ≡ refused n q → b ≡ refused n q

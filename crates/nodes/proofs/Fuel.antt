@@ -12,7 +12,7 @@ use Rattle.trees.specs.Tree.Forest.{more}
 use Rattle.tokens.specs.Answers.{Answer, andThen}
 use Rattle.tokens.specs.Answers.Answer.{parsed, refused}
 use Rattle.tokens.specs.Tokens.{blanks, skip}
-use Rattle.nodes.specs.Reading.{openMost, closing, afterFirst, opened, nodeBy, afterChild, readNode, readForest, ended, readTreeTo, readTree, readForestBy, readNodeBy, readTreeBy, readTreeToBy}
+use Rattle.nodes.specs.Reading.{closing, afterFirst, opened, nodeBy, afterChild, readNode, readForest, ended, readTreeTo, readTree, readForestBy, readNodeBy, readTreeBy, readTreeToBy}
 use Rattle.nodes.proofs.Rests.{Reader, AllAdvance, moves-length, advances-shorter, skip-moves, nextIs-tail, readNode-advances}
 
 -- two pieces of reading answer the same on every text of fewer than n bytes
@@ -123,9 +123,9 @@ mutual
 
 -- any depth above twice the text's length gives the answer of `readTree`
 pub never-out :
-    (given : Bool) (k : ℕ) (names : List (List ℕ)) (needed : ℕ) (s : List ℕ) (p : ℕ)
-    → 2 * length s < k → readTreeTo given k names needed s p ≡ readTree given names needed s p
+    (given : Bool) (k : ℕ) (names : List (List ℕ)) (most needed : ℕ) (s : List ℕ) (p : ℕ)
+    → 2 * length s < k → readTreeTo given k names most needed s p ≡ readTree given names most needed s p
 unfolding readTreeToBy readTreeBy
-never-out given k names needed s p l =
+never-out given k names most needed s p l =
     ap (λ (a : Answer Tree). andThen a (λ t s p. ended (nextIs 59 (skip s)) needed t (skip s) (p + blanks s)))
-    (node-fuel given k (2 * length s + 1) names openMost 0 s p l (omega arith))
+    (node-fuel given k (2 * length s + 1) names most 0 s p l (omega arith))

@@ -1,5 +1,6 @@
 pub mod Answers
 pub mod Complete
+pub mod Deeper
 pub mod Derivations
 pub mod DrawnValues
 pub mod Exact

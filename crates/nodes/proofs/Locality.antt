@@ -32,7 +32,7 @@ use Rattle.tokens.specs.Answers.Answer.{parsed, refused}
 use Rattle.tokens.specs.Tokens.{blanks, skip, numeral, number, numberBehind, secondNumber, firstNumber, numbersBy, numbers, name, innerNameBy, innerName}
 use Rattle.tokens.specs.Values.{leading, decimals, tooFine}
 use Rattle.tokens.specs.Supports.{refusesFine, unlessFine, supported}
-use Rattle.nodes.specs.Reading.{openMost, leafNew, leafKnown, leafAt, closing, afterFirst, opened, nodeBy, afterChild, readNode, readForest, complete, ended, readTreeTo, readTree, closingBy, readForestBy, readNodeBy, readTreeToBy}
+use Rattle.nodes.specs.Reading.{leafNew, leafKnown, leafAt, closing, afterFirst, opened, nodeBy, afterChild, readNode, readForest, complete, ended, readTreeTo, readTree, closingBy, readForestBy, readNodeBy, readTreeToBy}
 use Rattle.nodes.specs.Deciding.{bytesOf, nextDigit, numberLength, borderBy, border, LabelAlike, DigitsAlike, GoesOnAlike, asksLabel, AlikeWhereAsked}
 use Rattle.nodes.proofs.Answers.{refused-parsed, andThen-parsed, andThen-assoc, unexpected-parsed}
 use Rattle.nodes.proofs.Rests.{Moves, tail-drop, skip-drop, number-advances, name-moves, leafAt-advances}
@@ -915,10 +915,10 @@ module _ (e : ℕ) (textAt : ℕ → List ℕ) (before : ℕ) (behind : List ℕ
     ready-ended true needed t = ready-complete (within needed (cluster t)) t
     ready-ended false needed t = ready-unexpected
 
-    local-readTreeTo : (k needed : ℕ) → Local (readTreeTo given k names needed)
+    local-readTreeTo : (k most needed : ℕ) → Local (readTreeTo given k names most needed)
     unfolding readTreeToBy
-    local-readTreeTo k needed =
-        local-then (readNode given k names openMost 0) (λ t s p. ended (nextIs 59 (skip s)) needed t (skip s) (p + blanks s)) (local-readNode k openMost 0)
+    local-readTreeTo k most needed =
+        local-then (readNode given k names most 0) (λ t s p. ended (nextIs 59 (skip s)) needed t (skip s) (p + blanks s)) (local-readNode k most 0)
         (λ t. local-skip (λ s p. ended (nextIs 59 s) needed t s p)
         (ready-by (nextIs 59) (λ b s p. ended b needed t s p) (nextIs-first 59) (λ b. ready-ended b needed t)))
 
@@ -929,7 +929,7 @@ module _ (e : ℕ) (textAt : ℕ → List ℕ) (before : ℕ) (behind : List ℕ
 
 -- texts that agree in the n bytes that decide a refusal of the first, and go on alike behind them where that is asked
 module _
-    (given : Bool) (names : List (List ℕ)) (needed : ℕ) (s s′ : List ℕ) (p n : ℕ) (agree : take n s ≡ take n s′) (Label Digits : Type 0)
+    (given : Bool) (names : List (List ℕ)) (most needed : ℕ) (s s′ : List ℕ) (p n : ℕ) (agree : take n s ≡ take n s′) (Label Digits : Type 0)
     (alike : (Label → LabelAlike (byteBefore s n) (drop n s′) (drop n s)) × (Digits → DigitsAlike (byteBefore s n) (drop n s′) (drop n s)))
   where
     abbrev textFrom : ℕ → List ℕ
@@ -952,15 +952,15 @@ module _
     }
 
     decided-alike :
-        (d number : ℕ) → readTree given names needed s p ≡ refused number (p + d) → 3 ≤ number → (number ≡ 10 → ⊥) → d + deciding number (drop d s) ≤ n
-        → (asksLabel number (drop d s) ≡ true → Label) → (number ≡ 18 → Digits) → readTree given names needed s′ p ≡ refused number (p + d)
+        (d number : ℕ) → readTree given names most needed s p ≡ refused number (p + d) → 3 ≤ number → (number ≡ 10 → ⊥) → d + deciding number (drop d s) ≤ n
+        → (asksLabel number (drop d s) ≡ true → Label) → (number ≡ 18 → Digits) → readTree given names most needed s′ p ≡ refused number (p + d)
     decided-alike d number h low byte decided label digits =
         let k = 2 * length s + 2 * length s′ + 1 in
-        let h′ : readTreeTo given k names needed s p ≡ refused number (p + d) = never-out given k names needed s p (omega arith) ∙ h in
+        let h′ : readTreeTo given k names most needed s p ≡ refused number (p + d) = never-out given k names most needed s p (omega arith) ∙ h in
         let from = add-sub-cancel-left p d in
-        sym (never-out given k names needed s′ p (omega arith))
+        sym (never-out given k names most needed s′ p (omega arith))
         ∙ same-refused (p + n) textFrom (byteBefore s n) (drop n s′) Label Digits alike-there
-        (rw h′ at (local-readTreeTo (p + n) textFrom (byteBefore s n) (drop n s′) Label Digits alike-there given names k needed .steady s s′ p at-start agree-start
+        (rw h′ at (local-readTreeTo (p + n) textFrom (byteBefore s n) (drop n s′) Label Digits alike-there given names k most needed .steady s s′ p at-start agree-start
         (rw h′ ((rw from (omega arith)), low, byte, (rw from label), digits))))
 
 -- what goes on alike does so as far as any refusal asks
@@ -971,23 +971,23 @@ alike-asked alike = record { label = λ asked. alike .label; digits = λ is. ali
 -- "Reading goes from the left and stops at the first fault met": whatever follows the bytes that decide a refusal, it stays,
 -- where it goes on alike as far as the refusal asks: with a label for 5, 6 and 3 at a quote, with a number for 18
 pub locality :
-    (given : Bool) (names : List (List ℕ)) (needed : ℕ) (s s′ : List ℕ) (p d number : ℕ)
-    → readTree given names needed s p ≡ refused number (p + d) → 3 ≤ number → (number ≡ 10 → ⊥)
+    (given : Bool) (names : List (List ℕ)) (most needed : ℕ) (s s′ : List ℕ) (p d number : ℕ)
+    → readTree given names most needed s p ≡ refused number (p + d) → 3 ≤ number → (number ≡ 10 → ⊥)
     → take (border number s d) s′ ≡ take (border number s d) s
     → AlikeWhereAsked number (drop d s) (byteBefore s (border number s d)) (drop (border number s d) s′) (drop (border number s d) s)
-    → readTree given names needed s′ p ≡ refused number (p + d)
-locality given names needed s s′ p d number h low byte agree alike =
-    decided-alike given names needed s s′ p (border number s d) (sym agree) (asksLabel number (drop d s) ≡ true) (number ≡ 18)
+    → readTree given names most needed s′ p ≡ refused number (p + d)
+locality given names most needed s s′ p d number h low byte agree alike =
+    decided-alike given names most needed s s′ p (border number s d) (sym agree) (asksLabel number (drop d s) ≡ true) (number ≡ 18)
     (alike .label, alike .digits) d number h low byte (omega (arith, border-deciding number s d)) (λ asked. asked) (λ is. is)
 
 -- so it does where one byte more is the same
 pub locality-further :
-    (given : Bool) (names : List (List ℕ)) (needed : ℕ) (s s′ : List ℕ) (p d number : ℕ)
-    → readTree given names needed s p ≡ refused number (p + d) → 3 ≤ number → (number ≡ 10 → ⊥)
-    → take (suc (border number s d)) s′ ≡ take (suc (border number s d)) s → readTree given names needed s′ p ≡ refused number (p + d)
-locality-further given names needed s s′ p d number h low byte agree =
+    (given : Bool) (names : List (List ℕ)) (most needed : ℕ) (s s′ : List ℕ) (p d number : ℕ)
+    → readTree given names most needed s p ≡ refused number (p + d) → 3 ≤ number → (number ≡ 10 → ⊥)
+    → take (suc (border number s d)) s′ ≡ take (suc (border number s d)) s → readTree given names most needed s′ p ≡ refused number (p + d)
+locality-further given names most needed s s′ p d number h low byte agree =
     let n = border number s d in
-    locality given names needed s s′ p d number h low byte (agree-less n (suc n) s′ s (omega arith) agree)
+    locality given names most needed s s′ p d number h low byte (agree-less n (suc n) s′ s (omega arith) agree)
     (alike-asked (further-alike (byteBefore s n) n s s′ agree))
 
 -- the byte refused by 3 is the last that counts, but for whether a quote follows a closing one

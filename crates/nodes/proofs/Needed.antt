@@ -12,7 +12,7 @@ use Rattle.trees.specs.Tree.{Tree, cluster}
 use Rattle.tokens.specs.Answers.{Answer, andThen, unexpected}
 use Rattle.tokens.specs.Answers.Answer.{parsed, refused}
 use Rattle.tokens.specs.Tokens.{blanks, skip}
-use Rattle.nodes.specs.Reading.{openMost, readNode, complete, ended, readTreeTo, readTree, readTreeBy, readTreeToBy}
+use Rattle.nodes.specs.Reading.{readNode, complete, ended, readTreeTo, readTree, readTreeBy, readTreeToBy}
 
 -- a tree that was read up to q, by whether it has the needed species: its `;` is the last byte that was read
 abbrev pub unlessLacking : Bool → Tree → List ℕ → ℕ → Answer Tree
@@ -37,9 +37,9 @@ ended-judged true needed t s p =
 ended-judged false needed t s p = unexpected-judged needed s p
 
 -- reading with needed species is reading without any, and then the judgement
-pub read-then-needed : (given : Bool) (names : List (List ℕ)) (needed : ℕ) (s : List ℕ) (p : ℕ) → readTree given names needed s p ≡ thenNeeded needed (readTree given names 0 s p)
+pub read-then-needed : (given : Bool) (names : List (List ℕ)) (most needed : ℕ) (s : List ℕ) (p : ℕ) → readTree given names most needed s p ≡ thenNeeded needed (readTree given names most 0 s p)
 unfolding readTreeBy readTreeToBy
-read-then-needed given names needed s p = go (readNode given (2 * length s + 1) names openMost 0 s p)
+read-then-needed given names most needed s p = go (readNode given (2 * length s + 1) names most 0 s p)
   where
     go : (a : Answer Tree)
         → andThen a (λ t s p. ended (nextIs 59 (skip s)) needed t (skip s) (p + blanks s))

@@ -72,5 +72,5 @@ beside-same (excused is never) = absurd is
 
 -- a text without quotes and underscores is read exactly as by 01: the same tree and the same text left, or the same number and place
 pub read-as-by-letters :
-    (names : List (List ℕ)) (needed : ℕ) (s : List ℕ) (p : ℕ) → Unquoted s → readTreeBy lettered names needed s p ≡ readTree false names needed s p
-read-as-by-letters names needed s p all = beside-same (read-beside lettered Unquoted Never (λ b. Unit {0}) letters-simulate names needed s p all)
+    (names : List (List ℕ)) (most needed : ℕ) (s : List ℕ) (p : ℕ) → Unquoted s → readTreeBy lettered names most needed s p ≡ readTree false names most needed s p
+read-as-by-letters names most needed s p all = beside-same (read-beside lettered Unquoted Never (λ b. Unit {0}) letters-simulate names most needed s p all)

@@ -24,7 +24,7 @@ use Rattle.tokens.specs.Tokens.{numberBytes, blanks, skip, limited, numeral, po
 use Rattle.tokens.specs.Tokens.{secondNumber, firstNumber, numbersBy, numbers, nameBy, name, innerNameBy, innerName}
 use Rattle.tokens.specs.Values.{tooFine}
 use Rattle.tokens.specs.Supports.{refusesFine, unlessFine, supported}
-use Rattle.nodes.specs.Reading.{openMost, leafNew, leafKnown, leafAt, closing, afterFirst, opened, nodeBy, afterChild, readNode, readForest, complete, ended, readTreeTo, readTree, closingBy, leafBy, readForestBy, readNodeBy, readTreeBy, readTreeToBy}
+use Rattle.nodes.specs.Reading.{leafNew, leafKnown, leafAt, closing, afterFirst, opened, nodeBy, afterChild, readNode, readForest, complete, ended, readTreeTo, readTree, closingBy, leafBy, readForestBy, readNodeBy, readTreeBy, readTreeToBy}
 use Rattle.nodes.proofs.Answers.{parsed-refused, Reached, andThen-refused}
 use Rattle.nodes.proofs.Rests.{Reader, AllAdvance, advances-shorter, readNode-advances}
 use Rattle.nodes.proofs.Fuel.{skip-shorter, tail-shorter}
@@ -257,30 +257,30 @@ abbrev pub OfTree : Bool → ℕ → Type 0
 OfTree given n = (3 ≤ n) × ((n ≡ 18 → ⊥) → n ≤ 10) × (n ≡ 18 → given ≡ true)
 
 -- so is a tree refused
-pub tree-numbered : (given : Bool) (names : List (List ℕ)) (needed : ℕ) (s : List ℕ) (p : ℕ) {n q : ℕ} → readTree given names needed s p ≡ refused n q → OfTree given n
+pub tree-numbered : (given : Bool) (names : List (List ℕ)) (most needed : ℕ) (s : List ℕ) (p : ℕ) {n q : ℕ} → readTree given names most needed s p ≡ refused n q → OfTree given n
 unfolding readTreeBy readTreeToBy
-tree-numbered given names needed s p {n} {q} h =
+tree-numbered given names most needed s p {n} {q} h =
     let k = 2 * length s + 1 in
-    by (andThen-refused (readNode given k names openMost 0 s p) (λ t s p. ended (nextIs 59 (skip s)) needed t (skip s) (p + blanks s)) h)
+    by (andThen-refused (readNode given k names most 0 s p) (λ t s p. ended (nextIs 59 (skip s)) needed t (skip s) (p + blanks s)) h)
   where
     by :
-        (readNode given (2 * length s + 1) names openMost 0 s p ≡ refused n q)
-        ⊎ Reached (readNode given (2 * length s + 1) names openMost 0 s p)
+        (readNode given (2 * length s + 1) names most 0 s p ≡ refused n q)
+        ⊎ Reached (readNode given (2 * length s + 1) names most 0 s p)
         (λ t s p. ended (nextIs 59 (skip s)) needed t (skip s) (p + blanks s)) (refused n q) → OfTree given n
-    by (inl e) = let of = readNode-numbered given (2 * length s + 1) names openMost 0 s p (omega arith) n q e in (of .0, of .1, of .3)
+    by (inl e) = let of = readNode-numbered given (2 * length s + 1) names most 0 s p (omega arith) n q e in (of .0, of .1, of .3)
     by (inr r) = let of = ended-numbered (nextIs 59 (skip (r .left))) needed (r .value) (skip (r .left)) (r .place + blanks (r .left)) n q (r .after) in
         (of .0, λ z. of .1, λ e. absurd (omega (arith, of .1)))
 
 -- and by 9 only where a needed species is missing in it: where none is needed, never
-pub none-needed-never-nine : (given : Bool) (names : List (List ℕ)) (s : List ℕ) (p : ℕ) {q : ℕ} → readTree given names 0 s p ≡ refused 9 q → ⊥
+pub none-needed-never-nine : (given : Bool) (names : List (List ℕ)) (most : ℕ) (s : List ℕ) (p : ℕ) {q : ℕ} → readTree given names most 0 s p ≡ refused 9 q → ⊥
 unfolding readTreeBy readTreeToBy
-none-needed-never-nine given names s p {q} h =
-    by (andThen-refused (readNode given (2 * length s + 1) names openMost 0 s p) (λ t s p. ended (nextIs 59 (skip s)) 0 t (skip s) (p + blanks s)) h)
+none-needed-never-nine given names most s p {q} h =
+    by (andThen-refused (readNode given (2 * length s + 1) names most 0 s p) (λ t s p. ended (nextIs 59 (skip s)) 0 t (skip s) (p + blanks s)) h)
   where
     by :
-        (readNode given (2 * length s + 1) names openMost 0 s p ≡ refused 9 q)
-        ⊎ Reached (readNode given (2 * length s + 1) names openMost 0 s p) (λ t s p. ended (nextIs 59 (skip s)) 0 t (skip s) (p + blanks s)) (refused 9 q) → ⊥
-    by (inl e) = readNode-numbered given (2 * length s + 1) names openMost 0 s p (omega arith) 9 q e .2 refl
+        (readNode given (2 * length s + 1) names most 0 s p ≡ refused 9 q)
+        ⊎ Reached (readNode given (2 * length s + 1) names most 0 s p) (λ t s p. ended (nextIs 59 (skip s)) 0 t (skip s) (p + blanks s)) (refused 9 q) → ⊥
+    by (inl e) = readNode-numbered given (2 * length s + 1) names most 0 s p (omega arith) 9 q e .2 refl
     by (inr r) =
         let of = ended-numbered (nextIs 59 (skip (r .left))) 0 (r .value) (skip (r .left)) (r .place + blanks (r .left)) 9 q (r .after) in
         true≢false (sym (true-within 0 (cluster (r .value)) (zero-within (cluster (r .value)))) ∙ of .2 refl)

@@ -23,7 +23,7 @@ use Rattle.tokens.specs.Tokens.{numberBytes, blanks, skip, limited, numeral, po
 use Rattle.tokens.specs.Tokens.{secondNumber, firstNumber, numbersBy, numbers, nameBy, name, innerNameBy, innerName}
 use Rattle.tokens.specs.Supports.{supported}
 use Rattle.tokens.proofs.Supports.{supported-parsed}
-use Rattle.nodes.specs.Reading.{openMost, leafNew, leafKnown, leafAt, closing, afterFirst, opened, nodeBy, afterChild, readNode, readForest, complete, ended, readTreeTo, readTree, closingBy, leafBy, readForestBy, readNodeBy, readTreeBy, readTreeToBy}
+use Rattle.nodes.specs.Reading.{leafNew, leafKnown, leafAt, closing, afterFirst, opened, nodeBy, afterChild, readNode, readForest, complete, ended, readTreeTo, readTree, closingBy, leafBy, readForestBy, readNodeBy, readTreeBy, readTreeToBy}
 use Rattle.nodes.proofs.Answers.{refused-parsed, andThen-parsed, unexpected-parsed}
 
 -- rest at place q is what count bytes fewer leave of s at place p
@@ -360,19 +360,19 @@ ended-advances true needed c s p is h = complete-advances (within needed (cluste
 ended-advances false needed c s p is h = absurd (unexpected-parsed s p h)
 
 pub readTreeTo-advances :
-    (given : Bool) (k : ℕ) (names : List (List ℕ)) (needed : ℕ) (s : List ℕ) (p : ℕ) {x : Tree} {rest : List ℕ} {q : ℕ}
-    → readTreeTo given k names needed s p ≡ parsed x rest q → Advances s p rest q
+    (given : Bool) (k : ℕ) (names : List (List ℕ)) (most needed : ℕ) (s : List ℕ) (p : ℕ) {x : Tree} {rest : List ℕ} {q : ℕ}
+    → readTreeTo given k names most needed s p ≡ parsed x rest q → Advances s p rest q
 unfolding readTreeToBy
-readTreeTo-advances given k names needed s p h =
+readTreeTo-advances given k names most needed s p h =
     let r =
-    andThen-parsed (readNode given k names openMost 0 s p) (λ t s p. ended (nextIs 59 (skip s)) needed t (skip s) (p + blanks s)) h
+    andThen-parsed (readNode given k names most 0 s p) (λ t s p. ended (nextIs 59 (skip s)) needed t (skip s) (p + blanks s)) h
     in
     let m = r .left in
-    advances-on (readNode-advances given k names openMost 0 s p (r .value) m (r .place) (r .first))
+    advances-on (readNode-advances given k names most 0 s p (r .value) m (r .place) (r .first))
     (moves-on (skip-moves m (r .place)) (ended-advances (nextIs 59 (skip m)) needed (r .value) (skip m) (r .place + blanks m) refl (r .after) .moves))
 
 pub readTree-advances :
-    (given : Bool) (names : List (List ℕ)) (needed : ℕ) (s : List ℕ) (p : ℕ) {x : Tree} {rest : List ℕ} {q : ℕ}
-    → readTree given names needed s p ≡ parsed x rest q → Advances s p rest q
+    (given : Bool) (names : List (List ℕ)) (most needed : ℕ) (s : List ℕ) (p : ℕ) {x : Tree} {rest : List ℕ} {q : ℕ}
+    → readTree given names most needed s p ≡ parsed x rest q → Advances s p rest q
 unfolding readTreeBy
-readTree-advances given names needed s p h = readTreeTo-advances given (2 * length s + 1) names needed s p h
+readTree-advances given names most needed s p h = readTreeTo-advances given (2 * length s + 1) names most needed s p h

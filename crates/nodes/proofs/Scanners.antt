@@ -18,7 +18,7 @@ use Rattle.tokens.specs.Answers.{Answer, andThen, unexpected}
 use Rattle.tokens.specs.Answers.Answer.{parsed, refused}
 use Rattle.tokens.specs.Tokens.{blanks, skip, name, innerName}
 use Rattle.tokens.specs.Supports.{supported}
-use Rattle.nodes.specs.Reading.{Scanner, openMost, leafNew, leafNewBy, leafKnown, leafKnownBy, leafAt, leafBy, closing, closingBy, afterFirst, afterFirstBy}
+use Rattle.nodes.specs.Reading.{Scanner, leafNew, leafNewBy, leafKnown, leafKnownBy, leafAt, leafBy, closing, closingBy, afterFirst, afterFirstBy}
 use Rattle.nodes.specs.Reading.{openedBy, opened, nodeOf, nodeBy, afterChild, readNode, readNodeBy, readForest, readForestBy, complete, ended, readTree, readTreeBy, readTreeToBy}
 use Rattle.nodes.specs.Worth.{behindOf}
 use Rattle.nodes.proofs.Answers.{refused-parsed, parsed-same, unexpected-parsed, andThen-parsed}
@@ -318,12 +318,12 @@ module _
 
     -- a tree read by the scanner, beside the reader's
     pub read-beside :
-        (needed : ℕ) (s : List ℕ) (p : ℕ) → Fair s
-        → Beside Excused (λ t. AllFit Fits (allNodes t)) (readTreeBy S names needed s p) (readTree false names needed s p)
+        (most needed : ℕ) (s : List ℕ) (p : ℕ) → Fair s
+        → Beside Excused (λ t. AllFit Fits (allNodes t)) (readTreeBy S names most needed s p) (readTree false names most needed s p)
     unfolding readTreeBy readTreeToBy
-    read-beside needed s p fair =
+    read-beside most needed s p fair =
         then-beside (λ t s p. ended (nextIs 59 (skip s)) needed t (skip s) (p + blanks s))
         (λ t s p. ended (nextIs 59 (skip s)) needed t (skip s) (p + blanks s))
-        (both-beside (2 * length s + 1) .0 openMost 0 s p fair)
+        (both-beside (2 * length s + 1) .0 most 0 s p fair)
         (λ t m r h first. end-beside (nextIs 59 (skip m)) needed t (skip m) (r + blanks m) first)
         (λ t m r y rest q h all. end-draws Fits (nextIs 59 (skip m)) needed t (skip m) (r + blanks m) h all)

@@ -29,7 +29,7 @@ use Rattle.tokens.specs.Answers.{Answer, andThen, unexpected}
 use Rattle.tokens.specs.Answers.Answer.{parsed}
 use Rattle.tokens.specs.Tokens.{numberBytes, blanks, skip, limited, numeral, pointed, fraction, digits, number, numberBehind}
 use Rattle.tokens.specs.Tokens.{secondNumber, firstNumber, numbersBy, numbers, nameBy, name, innerNameBy, innerName}
-use Rattle.nodes.specs.Reading.{openMost, leafNew, leafKnown, leafAt, closing, afterFirst, opened, nodeBy, afterChild, readNode, readForest, complete, ended, readTreeTo, readTree, closingBy, leafBy, readForestBy, readNodeBy, readTreeBy, readTreeToBy}
+use Rattle.nodes.specs.Reading.{leafNew, leafKnown, leafAt, closing, afterFirst, opened, nodeBy, afterChild, readNode, readForest, complete, ended, readTreeTo, readTree, closingBy, leafBy, readForestBy, readNodeBy, readTreeBy, readTreeToBy}
 use Rattle.tokens.specs.Supports.{refusesFine, supported}
 use Rattle.tokens.proofs.Supports.{supported-parsed}
 use Rattle.nodes.specs.Grammar.{strict, Blanks, Number, ColonNumber, Numbers, Inner, Node, Children, Text}
@@ -462,18 +462,18 @@ text-known given names (text only ends) =
 -- ---- the tree
 
 -- what a reading that answers a tree has read
-pub record TreeRead (given : Bool) (names : List (List ℕ)) (needed : ℕ) (s : List ℕ) (t : Tree) (rest : List ℕ) : Type 0 where
-  pub derives : Text (strict given names) openMost s t rest
+pub record TreeRead (given : Bool) (names : List (List ℕ)) (most needed : ℕ) (s : List ℕ) (t : Tree) (rest : List ℕ) : Type 0 where
+  pub derives : Text (strict given names) most s t rest
   pub once : NoneTwice (leaves t)
   pub all : Within needed (cluster t)
 
 complete-read :
-    (given : Bool) (names : List (List ℕ)) (needed : ℕ) (c : Tree) (s m : List ℕ) (p : ℕ) {x : Tree} {rest : List ℕ} {q : ℕ}
-    → NodeRead given names openMost 0 s c m → nextIs 59 (skip m) ≡ true
-    → complete (within needed (cluster c)) c (skip m) p ≡ parsed x rest q → TreeRead given names needed s x rest
-complete-read given names needed c s m p {x} {rest} {q} n is h = go (within needed (cluster c)) refl h
+    (given : Bool) (names : List (List ℕ)) (most needed : ℕ) (c : Tree) (s m : List ℕ) (p : ℕ) {x : Tree} {rest : List ℕ} {q : ℕ}
+    → NodeRead given names most 0 s c m → nextIs 59 (skip m) ≡ true
+    → complete (within needed (cluster c)) c (skip m) p ≡ parsed x rest q → TreeRead given names most needed s x rest
+complete-read given names most needed c s m p {x} {rest} {q} n is h = go (within needed (cluster c)) refl h
   where
-    go : (t : Bool) → within needed (cluster c) ≡ t → complete t c (skip m) p ≡ parsed x rest q → TreeRead given names needed s x rest
+    go : (t : Bool) → within needed (cluster c) ≡ t → complete t c (skip m) p ≡ parsed x rest q → TreeRead given names most needed s x rest
     go true all h =
         let e : tail (skip m) ≡ rest = cc in
         let g : c ≡ x = cc in
@@ -482,33 +482,33 @@ complete-read given names needed c s m p {x} {rest} {q} n is h = go (within need
     go false all h = absurd (refused-parsed h)
 
 ended-read :
-    (given : Bool) (names : List (List ℕ)) (t : Bool) (needed : ℕ) (c : Tree) (s m : List ℕ) (p : ℕ) {x : Tree} {rest : List ℕ} {q : ℕ}
-    → NodeRead given names openMost 0 s c m → nextIs 59 (skip m) ≡ t → ended t needed c (skip m) p ≡ parsed x rest q → TreeRead given names needed s x rest
-ended-read given names true needed c s m p n is h = complete-read given names needed c s m p n is h
-ended-read given names false needed c s m p n is h = absurd (unexpected-parsed (skip m) p h)
+    (given : Bool) (names : List (List ℕ)) (most : ℕ) (t : Bool) (needed : ℕ) (c : Tree) (s m : List ℕ) (p : ℕ) {x : Tree} {rest : List ℕ} {q : ℕ}
+    → NodeRead given names most 0 s c m → nextIs 59 (skip m) ≡ t → ended t needed c (skip m) p ≡ parsed x rest q → TreeRead given names most needed s x rest
+ended-read given names most true needed c s m p n is h = complete-read given names most needed c s m p n is h
+ended-read given names most false needed c s m p n is h = absurd (unexpected-parsed (skip m) p h)
 
 pub readTreeTo-sound :
-    (given : Bool) (k : ℕ) (names : List (List ℕ)) (needed : ℕ) (s : List ℕ) (p : ℕ) {t : Tree} {rest : List ℕ} {q : ℕ}
-    → readTreeTo given k names needed s p ≡ parsed t rest q → TreeRead given names needed s t rest
+    (given : Bool) (k : ℕ) (names : List (List ℕ)) (most needed : ℕ) (s : List ℕ) (p : ℕ) {t : Tree} {rest : List ℕ} {q : ℕ}
+    → readTreeTo given k names most needed s p ≡ parsed t rest q → TreeRead given names most needed s t rest
 unfolding readTreeToBy
-readTreeTo-sound given k names needed s p h =
-    let r = andThen-parsed (readNode given k names openMost 0 s p) (λ t s p. ended (nextIs 59 (skip s)) needed t (skip s) (p + blanks s)) h in
+readTreeTo-sound given k names most needed s p h =
+    let r = andThen-parsed (readNode given k names most 0 s p) (λ t s p. ended (nextIs 59 (skip s)) needed t (skip s) (p + blanks s)) h in
     let m = r .left in
-    ended-read given names (nextIs 59 (skip m)) needed (r .value) s m (r .place + blanks m)
-    (readNode-sound given k names openMost 0 s p (r .value) m (r .place) (r .first)) refl (r .after)
+    ended-read given names most (nextIs 59 (skip m)) needed (r .value) s m (r .place + blanks m)
+    (readNode-sound given k names most 0 s p (r .value) m (r .place) (r .first)) refl (r .after)
 
 -- an answered tree: it is drawn by the grammar, has each species once at most and all that are needed, no leaf off the roster, and reading moved on
-pub record TreeSound (given : Bool) (names : List (List ℕ)) (needed : ℕ) (s : List ℕ) (p : ℕ) (t : Tree) (rest : List ℕ) (q : ℕ) : Type 0 where
-  pub derives : Text (strict given names) openMost s t rest
+pub record TreeSound (given : Bool) (names : List (List ℕ)) (most needed : ℕ) (s : List ℕ) (p : ℕ) (t : Tree) (rest : List ℕ) (q : ℕ) : Type 0 where
+  pub derives : Text (strict given names) most s t rest
   pub once : NoneTwice (leaves t)
   pub all : Within needed (cluster t)
   pub known : AllKnown names (leaves t)
   pub moved : Advances s p rest q
 
 pub read-sound :
-    (given : Bool) (names : List (List ℕ)) (needed : ℕ) (s : List ℕ) (p : ℕ) {t : Tree} {rest : List ℕ} {q : ℕ}
-    → readTree given names needed s p ≡ parsed t rest q → TreeSound given names needed s p t rest q
+    (given : Bool) (names : List (List ℕ)) (most needed : ℕ) (s : List ℕ) (p : ℕ) {t : Tree} {rest : List ℕ} {q : ℕ}
+    → readTree given names most needed s p ≡ parsed t rest q → TreeSound given names most needed s p t rest q
 unfolding readTreeBy
-read-sound given names needed s p h =
-    let r = readTreeTo-sound given (2 * length s + 1) names needed s p h in
-    record { derives = r .derives; once = r .once; all = r .all; known = text-known given names (r .derives); moved = readTree-advances given names needed s p h }
+read-sound given names most needed s p h =
+    let r = readTreeTo-sound given (2 * length s + 1) names most needed s p h in
+    record { derives = r .derives; once = r .once; all = r .all; known = text-known given names (r .derives); moved = readTree-advances given names most needed s p h }

@@ -160,19 +160,19 @@ abbrev pub ended : Bool → ℕ → Tree → List ℕ → ℕ → Answer Tree
 ended true needed t s p = complete (within needed (cluster t)) t s p
 ended false needed t s p = unexpected s p
 
--- "A tree is a node and `;`", read by calls to the depth k
-unfoldable pub readTreeToBy : Scanner → ℕ → List (List ℕ) → ℕ → List ℕ → ℕ → Answer Tree
-readTreeToBy S k names needed s p =
-    andThen (readNodeBy S k names openMost 0 s p) (λ t s p. ended (nextIs 59 (skip s)) needed t (skip s) (p + blanks s))
+-- "A tree is a node and `;`", read by calls to the depth k; at most so many parentheses may be open at once
+unfoldable pub readTreeToBy : Scanner → ℕ → List (List ℕ) → ℕ → ℕ → List ℕ → ℕ → Answer Tree
+readTreeToBy S k names most needed s p =
+    andThen (readNodeBy S k names most 0 s p) (λ t s p. ended (nextIs 59 (skip s)) needed t (skip s) (p + blanks s))
 
 -- by the labels of #103, `given` says whether a threshold is (#113)
-abbrev pub readTreeTo : Bool → ℕ → List (List ℕ) → ℕ → List ℕ → ℕ → Answer Tree
-readTreeTo given k names needed s p = readTreeToBy (labelled given) k names needed s p
+abbrev pub readTreeTo : Bool → ℕ → List (List ℕ) → ℕ → ℕ → List ℕ → ℕ → Answer Tree
+readTreeTo given k names most needed s p = readTreeToBy (labelled given) k names most needed s p
 
 -- the tree at the front of s, which begins at place p
-unfoldable pub readTreeBy : Scanner → List (List ℕ) → ℕ → List ℕ → ℕ → Answer Tree
-readTreeBy S names needed s p = readTreeToBy S (2 * length s + 1) names needed s p
+unfoldable pub readTreeBy : Scanner → List (List ℕ) → ℕ → ℕ → List ℕ → ℕ → Answer Tree
+readTreeBy S names most needed s p = readTreeToBy S (2 * length s + 1) names most needed s p
 
 -- by the labels of #103, `given` says whether a threshold is (#113)
-abbrev pub readTree : Bool → List (List ℕ) → ℕ → List ℕ → ℕ → Answer Tree
-readTree given names needed s p = readTreeBy (labelled given) names needed s p
+abbrev pub readTree : Bool → List (List ℕ) → ℕ → ℕ → List ℕ → ℕ → Answer Tree
+readTree given names most needed s p = readTreeBy (labelled given) names most needed s p

@@ -93,8 +93,8 @@ module _ (t : Binary) {numbers : List ℕ} (recorded : numbers ≡ recordOf (clu
   over-told ok =
       rw recorded
       (tells-same (tells-allowed ok (listed (recordOf (clustersIn t)))) (tells-allowed ok (clustersIn t))
-      (λ all x m. all x (record-among (clustersIn t) m))
-      (λ all x m. all x (among-record (clustersIn t) m)))
+      (λ all x m. all x (record-among 16 (clustersIn t) m))
+      (λ all x m. all x (among-record 16 (clustersIn t) m)))
 
   pub score-told : (rooting : Rooting) (genes : List (List ℕ)) → score rooting genes numbers ≡ scoreOf (weight rooting genes) t
   score-told rooting genes = ap (score rooting genes) recorded ∙ score-of-record rooting genes t

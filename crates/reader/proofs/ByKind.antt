@@ -15,12 +15,13 @@ use Rattle.trees.specs.Records.{largest}
 use Rattle.roster.specs.Roster.{names}
 use Rattle.tokens.specs.Answers.{Answer}
 use Rattle.tokens.specs.Answers.Answer.{parsed, refused}
+use Rattle.nodes.specs.Reading.{openMost}
 use Rattle.nodes.proofs.Answers.{refused-parsed}
 use Rattle.nodes.proofs.Needed.{unlessLacking, thenNeeded, read-then-needed}
 use Rattle.nodes.proofs.RefusedBy.{none-needed-never-nine}
 use Rattle.tokens.specs.Supports.{isGiven}
 use Rattle.tokens.specs.declared.answer.Threshold.{Threshold}
-use Rattle.reader.specs.Promise.{readingOf, answerTo, Reads}
+use Rattle.reader.specs.Promise.{Limits, narrow, readingOf, answerWithin, answerTo, Reads}
 use Rattle.reader.specs.declared.Kind.the-variants.{Species, Gene}
 use Rattle.reader.specs.declared.Reading.{Reading}
 use Rattle.reader.proofs.Accepts.{accepted-derives}
@@ -29,10 +30,10 @@ use Rattle.reader.proofs.Replies.{refusal-is, answers-related, reads-ze
 -- ---- 9
 
 -- "9 is shown never to occur for gene trees" (#104): of the reading
-pub gene-never-nine : (threshold : Threshold) (line text : List ℕ) (start : ℕ) {q : ℕ} → answerTo Gene threshold line text start ≡ refused 9 q → ⊥
-gene-never-nine threshold line text start {q} e =
-    refusal-is (λ n. n ≡ 9 → ⊥) (λ z. omega arith) (λ z. omega arith) (λ z. omega arith) Gene threshold line text start
-    (λ e nine. none-needed-never-nine (isGiven threshold) (names line) (drop start text) start e) e refl
+pub gene-never-nine : (limits : Limits) (threshold : Threshold) (line text : List ℕ) (start : ℕ) {q : ℕ} → answerWithin limits Gene threshold line text start ≡ refused 9 q → ⊥
+gene-never-nine limits threshold line text start {q} e =
+    refusal-is (λ n. n ≡ 9 → ⊥) (λ z. omega arith) (λ z. omega arith) (λ z. omega arith) limits Gene threshold line text start
+    (λ e nine. none-needed-never-nine (isGiven threshold) (names line) (limits .room) (drop start text) start e) e refl
 
 -- and of the call
 pub read-gene-never-nine : (threshold : Threshold) (line text : List ℕ) (start : ℕ) (r : Reading) → Reads Gene threshold line text start r → r .number ≡ 9 → ⊥
@@ -44,7 +45,7 @@ read-gene-never-nine threshold line text start r h nine = by (answerTo Gene thre
     by (refused n q) e =
         let k : r .number ≡ n = rw (h, e) in
         let same : n ≡ 9 = sym k ∙ nine in
-        gene-never-nine threshold line text start (e ∙ ap (λ (m : ℕ). refused m q) same)
+        gene-never-nine narrow threshold line text start (e ∙ ap (λ (m : ℕ). refused m q) same)
 
 -- ---- the readings
 
@@ -53,8 +54,8 @@ pub species-by-gene :
     (threshold : Threshold) (line text : List ℕ) (start : ℕ)
     → answerTo Species threshold line text start ≡ thenNeeded (whole (length (names line))) (answerTo Gene threshold line text start)
 species-by-gene threshold line text start =
-    answers-related (λ a b. a ≡ thenNeeded (whole (length (names line))) b) (λ n q. refl) Species Gene threshold threshold line text start
-    (read-then-needed (isGiven threshold) (names line) (whole (length (names line))) (drop start text) start)
+    answers-related (λ a b. a ≡ thenNeeded (whole (length (names line))) b) (λ n q. refl) narrow Species Gene threshold threshold line text start
+    (read-then-needed (isGiven threshold) (names line) openMost (whole (length (names line))) (drop start text) start)
 
 module _ (threshold : Threshold) (line text : List ℕ) (start : ℕ) where
   judged-as : {a : Answer Tree} → answerTo Gene threshold line text start ≡ a → answerTo Species threshold line text start ≡ thenNeeded (whole (length (names line))) a

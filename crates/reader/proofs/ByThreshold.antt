@@ -24,12 +24,13 @@ use Rattle.tokens.specs.Values.{thousandths}
 use Rattle.tokens.specs.declared.answer.Threshold.{Threshold}
 use Rattle.tokens.specs.declared.answer.Threshold.the-variants.{NoThreshold, Below}
 use Rattle.tokens.proofs.Supports.{below-higher, below-zero}
+use Rattle.nodes.specs.Reading.{openMost}
 use Rattle.nodes.specs.Worth.{NoneFine}
 use Rattle.nodes.proofs.Answers.{refused-parsed}
 use Rattle.nodes.proofs.RefusedBy.{tree-numbered}
 use Rattle.nodes.proofs.FineTrees.{judged-read, unjudged-read, judged-refused}
 use Rattle.reader.specs.Accepted.{Draws}
-use Rattle.reader.specs.Promise.{needed, clustersRead, readingOf, answerTo, Reads}
+use Rattle.reader.specs.Promise.{Limits, narrow, needed, clustersRead, readingOf, answerWithin, answerTo, Reads}
 use Rattle.reader.specs.declared.Kind.{Kind}
 use Rattle.reader.specs.declared.Reading.{Reading}
 use Rattle.reader.proofs.Accepts.{accepted-derives, derives-accepted}
@@ -38,17 +39,17 @@ use Rattle.reader.proofs.Replies.{refusal-is, answers-related, refusal-
 -- ---- 18
 
 -- "18, only where a threshold is given" (#113)
-pub without-never-eighteen : (kind : Kind) (line text : List ℕ) (start : ℕ) {q : ℕ} → answerTo kind NoThreshold line text start ≡ refused 18 q → ⊥
-without-never-eighteen kind line text start e =
-    refusal-is (λ n. n ≡ 18 → ⊥) (λ z. omega arith) (λ z. omega arith) (λ z. omega arith) kind NoThreshold line text start
-    (λ e is. false≢true (tree-numbered false (names line) (needed kind (length (names line))) (drop start text) start e .2 is)) e refl
+pub without-never-eighteen : (limits : Limits) (kind : Kind) (line text : List ℕ) (start : ℕ) {q : ℕ} → answerWithin limits kind NoThreshold line text start ≡ refused 18 q → ⊥
+without-never-eighteen limits kind line text start e =
+    refusal-is (λ n. n ≡ 18 → ⊥) (λ z. omega arith) (λ z. omega arith) (λ z. omega arith) limits kind NoThreshold line text start
+    (λ e is. false≢true (tree-numbered false (names line) (limits .room) (needed kind (length (names line))) (drop start text) start e .2 is)) e refl
 
 -- ---- the drawn tree is the same
 
 module _ (kind : Kind) (line text : List ℕ) (start : ℕ) where
   -- the reading is the same by every threshold that is given: it is the record that differs
   pub given-alike : (m n : ℕ) → answerTo kind (Below m) line text start ≡ answerTo kind (Below n) line text start
-  given-alike m n = answers-related (λ a b. a ≡ b) (λ n q. refl) kind kind (Below m) (Below n) line text start refl
+  given-alike m n = answers-related (λ a b. a ≡ b) (λ n q. refl) narrow kind kind (Below m) (Below n) line text start refl
 
   -- what is read with a threshold is the tree that is read without one, and no support of it has more than three decimals
   pub given-read :
@@ -56,7 +57,7 @@ module _ (kind : Kind) (line text : List ℕ) (start : ℕ) where
       → (answerTo kind NoThreshold line text start ≡ parsed t rest q) × NoneFine t
   given-read amount {t} {rest} {q} =
       answers-related (λ a b. a ≡ parsed t rest q → (b ≡ parsed t rest q) × NoneFine t) (λ n p e. absurd (refused-parsed e))
-      kind kind (Below amount) NoThreshold line text start (λ e. judged-read (names line) (needed kind (length (names line))) (drop start text) start e)
+      narrow kind kind (Below amount) NoThreshold line text start (λ e. judged-read (names line) openMost (needed kind (length (names line))) (drop start text) start e)
 
   -- the other way round, where none has
   pub read-given :
@@ -64,16 +65,16 @@ module _ (kind : Kind) (line text : List ℕ) (start : ℕ) where
       → answerTo kind (Below amount) line text start ≡ parsed t rest q
   read-given amount {t} {rest} {q} =
       answers-related (λ a b. a ≡ parsed t rest q → NoneFine t → b ≡ parsed t rest q) (λ n p e none. e)
-      kind kind NoThreshold (Below amount) line text start
-      (λ e none. unjudged-read (names line) (needed kind (length (names line))) (drop start text) start e none)
+      narrow kind kind NoThreshold (Below amount) line text start
+      (λ e none. unjudged-read (names line) openMost (needed kind (length (names line))) (drop start text) start e none)
 
   -- every refusal but 18 is the same without a threshold
   pub given-refused :
       (amount : ℕ) {n q : ℕ} → answerTo kind (Below amount) line text start ≡ refused n q → (n ≡ 18 → ⊥) → answerTo kind NoThreshold line text start ≡ refused n q
   given-refused amount {n} {q} =
       answers-related (λ a b. a ≡ refused n q → (n ≡ 18 → ⊥) → b ≡ refused n q) (λ n p e other. e)
-      kind kind (Below amount) NoThreshold line text start
-      (λ e other. judged-refused (names line) (needed kind (length (names line))) (drop start text) start e other)
+      narrow kind kind (Below amount) NoThreshold line text start
+      (λ e other. judged-refused (names line) openMost (needed kind (length (names line))) (drop start text) start e other)
 
 -- ---- the clusters that are dropped
 
@@ -119,7 +120,7 @@ dropped-exactly kind amount line text start q h z =
         {s : ℕ} {t : Tree} → On s t → (x : ℕ)
         → Among x (listed (recordOf (clustersLeft (λ b. weak (Below amount) b) t))) ↔ (Among x (clusters t) × (OfWeak (λ b. weak (Below amount) b) t x → ⊥))
     left-exactly {t = t} o x = (
-      λ m. let k = among-record (clustersLeft test t) m in (sublist-among (left-of-all test t) x k, λ u. e .1 u .1 k),
+      λ m. let k = among-record 16 (clustersLeft test t) m in (sublist-among (left-of-all test t) x k, λ u. e .1 u .1 k),
       λ k. by (among x (clustersLeft test t)) refl k,
     )
       where
@@ -130,7 +131,7 @@ dropped-exactly kind amount line text start q h z =
         e = lost-exactly test o x
 
         by : (b : Bool) → among x (clustersLeft test t) ≡ b → Among x (clusters t) × (OfWeak test t x → ⊥) → Among x (listed (recordOf (clustersLeft test t)))
-        by true is k = record-among (clustersLeft test t) (tells-among x (clustersLeft test t) .holds is)
+        by true is k = record-among 16 (clustersLeft test t) (tells-among x (clustersLeft test t) .holds is)
         by false is k = absurd (k .1 (e .0 (k .0, denied (tells-among x (clustersLeft test t)) is)))
 
 -- ---- the replies
@@ -161,7 +162,7 @@ module _ (kind : Kind) (line text : List ℕ) (start : ℕ) (r r′ : Reading) w
         number-same = ap (λ (r : Reading). r .number) same;
         place-same = ap (λ (r : Reading). r .place) same;
         next-same = ap (λ (r : Reading). r .next) same;
-        numbers-thinned = λ z. let zero-number : k ≡ 0 = rw (h, e) at z in absurd (omega (arith, refusal-some kind threshold line text start e));
+        numbers-thinned = λ z. let zero-number : k ≡ 0 = rw (h, e) at z in absurd (omega (arith, refusal-some narrow kind threshold line text start e));
         refused-same = λ some. same;
       }
 

@@ -1,6 +1,10 @@
 pub mod Accepts
 pub mod ByKind
 pub mod Calls
+pub mod Recording
 pub mod Replies
 pub mod TreeWays
+pub mod WideCases
+pub mod WideReplies
+pub mod Widening
 pub mod ByThreshold

@@ -1,3 +1,4 @@
 pub mod Promise
+pub mod WidePromise
 pub mod Accepted
 pub mod Work

@@ -16,10 +16,19 @@ use Rattle.tokens.specs.Answers.Answer.{parsed, refused}
 use Rattle.tokens.specs.Supports.{isGiven, weak}
 use Rattle.tokens.specs.declared.answer.Threshold.{Threshold}
 use Rattle.tokens.specs.declared.answer.Threshold.the-variants.{NoThreshold, Below}
-use Rattle.nodes.specs.Reading.{readTree}
+use Rattle.nodes.specs.Reading.{openMost, readTree}
 use Rattle.reader.specs.declared.Kind.{Kind}
 use Rattle.reader.specs.declared.Kind.the-variants.{Species, Gene}
 use Rattle.reader.specs.declared.Reading.{Reading}
+
+-- how many names the roster has at most, and how many parentheses may be open at once
+pub record Limits : Type 0 where
+  pub most : ℕ
+  pub room : ℕ
+
+-- 01's: "species n | 1 to 16", "open parentheses at once | 15"
+abbrev pub narrow : Limits
+narrow = record { most = speciesMost; room = openMost }
 
 -- "text | 65,536 bytes"
 abbrev pub textMost : ℕ
@@ -42,23 +51,27 @@ readingOf threshold start (parsed t rest next) = record { number = 0; place = 0;
 readingOf threshold start (refused number place) = record { number = number; place = place; next = start; numbers = replicate 32 0 }
 
 -- "A start beyond the text gives 10"
-abbrev pub fromStart : Kind → Threshold → Bool → List (List ℕ) → List ℕ → ℕ → Answer Tree
-fromStart kind threshold true ns text start = readTree (isGiven threshold) ns (needed kind (length ns)) (drop start text) start
-fromStart kind threshold false ns text start = refused 10 (length text)
+abbrev pub fromStart : Limits → Kind → Threshold → Bool → List (List ℕ) → List ℕ → ℕ → Answer Tree
+fromStart limits kind threshold true ns text start = readTree (isGiven threshold) ns (limits .room) (needed kind (length ns)) (drop start text) start
+fromStart limits kind threshold false ns text start = refused 10 (length text)
 
 -- "2 | text over 65,536 bytes | 65,536"
-abbrev pub inLimit : Kind → Threshold → Bool → List (List ℕ) → List ℕ → ℕ → Answer Tree
-inLimit kind threshold true ns text start = fromStart kind threshold (leb start (length text)) ns text start
-inLimit kind threshold false ns text start = refused 2 textMost
+abbrev pub inLimit : Limits → Kind → Threshold → Bool → List (List ℕ) → List ℕ → ℕ → Answer Tree
+inLimit limits kind threshold true ns text start = fromStart limits kind threshold (leb start (length text)) ns text start
+inLimit limits kind threshold false ns text start = refused 2 textMost
 
 -- "1 | roster faulty | first byte at fault"
-abbrev pub onRoster : Kind → Threshold → Bool → List ℕ → List ℕ → ℕ → Answer Tree
-onRoster kind threshold true line text start = refused 1 (firstFault speciesMost line)
-onRoster kind threshold false line text start = inLimit kind threshold (leb (length text) textMost) (names line) text start
+abbrev pub onRoster : Limits → Kind → Threshold → Bool → List ℕ → List ℕ → ℕ → Answer Tree
+onRoster limits kind threshold true line text start = refused 1 (firstFault (limits .most) line)
+onRoster limits kind threshold false line text start = inLimit limits kind threshold (leb (length text) textMost) (names line) text start
 
 -- "Order for text: 1, 2, then as met"
-unfoldable pub answerTo : Kind → Threshold → List ℕ → List ℕ → ℕ → Answer Tree
-answerTo kind threshold line text start = onRoster kind threshold (faulty speciesMost line) line text start
+unfoldable pub answerWithin : Limits → Kind → Threshold → List ℕ → List ℕ → ℕ → Answer Tree
+answerWithin limits kind threshold line text start = onRoster limits kind threshold (faulty (limits .most) line) line text start
+
+-- by 01's limits
+abbrev pub answerTo : Kind → Threshold → List ℕ → List ℕ → ℕ → Answer Tree
+answerTo kind threshold line text start = answerWithin narrow kind threshold line text start
 
 -- the promise of `read`
 unfoldable pub Reads : Kind → Threshold → List ℕ → List ℕ → ℕ → Reading → Type 0

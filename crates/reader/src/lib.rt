@@ -1,5 +1,6 @@
 // Tree text read to a record, with every refusal.
 mod tree;
+pub mod wide;
 
 pub use tokens::Threshold;
 pub use tree::read;

@@ -1,12 +1,11 @@
 // The public call: a tree's text read to its record.
 ghost use mathlib.Core.Path.{_≡_};
-ghost use mathlib.Core.List.{List};
-ghost use Prim.Native.Nat.{ℕ, _*_, _≤_};
+ghost use Prim.Native.Nat.{_*_, _≤_};
 ghost use lib.ListN.{length};
 ghost use Rattle.tokens.specs.Answers.Answer.{refused as Answer·refused};
 ghost use Rattle.tokens.specs.declared.answer.Threshold.the-variants.{NoThreshold};
-ghost use Rattle.nodes.specs.Core.{Holds, Given};
-ghost use Rattle.reader.specs.Work.{ReadsTree, ReadsRecord};
+ghost use Rattle.nodes.specs.Core.{Given};
+ghost use Rattle.reader.specs.Work.{ReadsTree, ReadsAnswer};
 ghost use Rattle.reader.specs.Promise.{needed, readingOf, answerTo, Reads, Stores};
 use crate::Kind;
 use crate::Reading;
@@ -68,7 +67,7 @@ fn tree(
 
 // The species that a tree of the kind must have, of `count`.
 fn needed(kind: Kind, count: usize) -> u32
-    requires { ⌜ count ≤ 16 ⌝ }
+    requires { ⌜ count ≤ 32 ⌝ }
     ensures { λ r. ⌜ r ≡ needed kind count ⌝ }
 {
     let all = whole(count);
@@ -76,6 +75,56 @@ fn needed(kind: Kind, count: usize) -> u32
         Kind::Species => all,
         Kind::Gene => 0,
     }
+}
+
+// What is answered to a roster line of at most `most` names and the text from `start` on, in which at most `room` parentheses may be open at once:
+// a tree of the kind, its clusters at the front of `found` in the order in which its nodes end, or a refusal. `read_into` calls it, and `read_stand` with wider limits.
+pub(crate) fn answered(
+    kind: Kind,
+    threshold: Threshold,
+    line: &[u8],
+    most: usize,
+    text: &[u8],
+    start: usize,
+    room: usize,
+    found: &mut [u32],
+) -> NodeRead
+    requires { ⌜ most ≤ 32 ⌝ }
+    requires { ⌜ 2 * most ≤ length (now found) ⌝ }
+    ensures { λ r. ⌜ ReadsAnswer (record { most = most; room = room }) kind threshold (now (line .entry)) (now (text .entry)) start (now (found .entry)) (now (found .exit)) r ⌝ }
+{
+    let roster = parse(line, most);
+    let number = roster.number;
+    if number != 0 {
+        return NodeRead::Refused(Refusal {
+            number: number,
+            place: roster.place,
+        });
+    }
+    if 65536 < text.len() {
+        return NodeRead::Refused(Refusal {
+            number: 2,
+            place: 65536,
+        });
+    }
+    if text.len() < start {
+        return NodeRead::Refused(Refusal {
+            number: 10,
+            place: text.len(),
+        });
+    }
+    let table = roster.table;
+    let count = roster.count;
+    tree(
+        text,
+        &table,
+        count,
+        needed(kind, count),
+        start,
+        room,
+        threshold,
+        found,
+    )
 }
 
 // A refused call: the offset that was given, and zeros.
@@ -90,40 +139,8 @@ fn refused(start: usize, number: u32, place: usize) -> Reading
     }
 }
 
-// The tree that begins at `start`, of at most 16 species and with every species of `needed`: its clusters, in `found` as they are met, sorted into a record.
-fn recorded(
-    text: &[u8],
-    table: &[u8],
-    count: usize,
-    needed: u32,
-    start: usize,
-    room: usize,
-    threshold: Threshold,
-    found: &mut [u32],
-) -> Reading
-    requires { ⌜ ((names : List (List ℕ)) × Holds names count (now table)) ⌝ }
-    requires { ⌜ count ≤ 16 ⌝ }
-    requires { ⌜ 16 * count ≤ length (now table) ⌝ }
-    requires { ⌜ 32 ≤ length (now found) ⌝ }
-    ensures { λ r. ⌜ ReadsRecord threshold (now (text .entry)) (now (table .entry)) count needed start room (now (found .exit)) r ⌝ }
-{
-    let read = tree(text, table, count, needed, start, room, threshold, found);
-    let NodeRead::Node { mask: _, next } = read else {
-        let fault = node_refusal(read);
-        return refused(start, fault.number, fault.place);
-    };
-    let sorted = record_of(found, next.stored);
-    let numbers = sorted.numbers;
-    Reading {
-        number: 0,
-        place: 0,
-        next: next.at,
-        numbers: numbers,
-    }
-}
-
 // The tree of the kind that begins at `start`, as `read` answers it, with its clusters at the front of `found`, in the order in which its nodes end.
-// `read` calls it, and a call that goes through the nodes of a text again.
+// `read` calls it, and `counts`, which goes through the nodes of the text again.
 pub fn read_into(
     kind: Kind,
     threshold: Threshold,
@@ -136,29 +153,19 @@ pub fn read_into(
     ensures { λ r. ⌜ Reads kind threshold (now (line .entry)) (now (text .entry)) start r ⌝ }
     ensures { λ _. ⌜ Stores threshold (answerTo kind threshold (now (line .entry)) (now (text .entry)) start) (now (found .exit)) ⌝ }
 {
-    let roster = parse(line, 16);
-    let number = roster.number;
-    if number != 0 {
-        return refused(start, number, roster.place);
+    let read = answered(kind, threshold, line, 16, text, start, 15, found);
+    let NodeRead::Node { mask: _, next } = read else {
+        let fault = node_refusal(read);
+        return refused(start, fault.number, fault.place);
+    };
+    let sorted = record_of(found, next.stored);
+    let numbers = sorted.numbers;
+    Reading {
+        number: 0,
+        place: 0,
+        next: next.at,
+        numbers: numbers,
     }
-    if 65536 < text.len() {
-        return refused(start, 2, 65536);
-    }
-    if text.len() < start {
-        return refused(start, 10, text.len());
-    }
-    let table = roster.table;
-    let count = roster.count;
-    recorded(
-        text,
-        &table,
-        count,
-        needed(kind, count),
-        start,
-        15,
-        threshold,
-        found,
-    )
 }
 
 // The tree of the kind that begins at `start`, over the names of the roster line; where a threshold is given, without the clusters of weak inner nodes.

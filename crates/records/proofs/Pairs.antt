@@ -1,5 +1,5 @@
 -- Any two clusters of a record are disjoint or one holds the other, pair of places by pair of places.
-use Prim.Native.Nat.{ℕ, suc, _≤_, _<_}
+use Prim.Native.Nat.{ℕ, suc, _-_, _≤_, _<_}
 use mathlib.Core.Path.{_≡_, sym, _∙_, subst}
 use mathlib.Core.Logic.{_⊎_, inl, inr, ⊎-elim}
 use mathlib.Core.Bool.{Bool}
@@ -26,7 +26,7 @@ last-test a b t f g e =
 
 -- ---- all pairs
 
-module _ (r : List ℕ) (m : ℕ) (long : length r ≡ 32) (few : m ≤ 31) where
+module _ {size : ℕ} (r : List ℕ) (m : ℕ) (long : length r ≡ size) (few : m ≤ size - 1) where
   -- the cluster at place x agrees with all that stand behind it
   abbrev pub AgreesBehind : ℕ → Type 0
   AgreesBehind x = (y : ℕ) → x < y → y ≤ m → Nested (getD r x 0) (getD r y 0)

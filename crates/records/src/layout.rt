@@ -1,15 +1,14 @@
-// The form of a record: its count, the clusters each below the next, zeros behind them.
+// The form of a record of any breadth: its count, the clusters each below the next, zeros behind them.
 ghost use mathlib.Core.Path.{_≡_};
-ghost use Prim.Native.Nat.{_+_, _-_, _≤_};
+ghost use Prim.Native.Nat.{_+_, _-_, _*_, _≤_, _<_};
 ghost use lib.ListN.{length, take, drop, replicate};
 ghost use Rattle.trees.specs.Decides.{Decides};
 ghost use Rattle.trees.specs.Lists.{Rising};
-ghost use Rattle.trees.specs.Records.{Form};
+ghost use Rattle.trees.specs.Records.{FormFor};
 
 // Whether each of the m clusters is below the next.
-fn rising(r: &[u16], m: usize) -> bool
-    requires { ⌜ length (now r) ≡ 32 ⌝ }
-    requires { ⌜ m ≤ 31 ⌝ }
+fn rising(r: &[u32], m: usize) -> bool
+    requires { ⌜ m < length (now r) ⌝ }
     ensures { λ result. ⌜ Decides result (Rising (take m (drop 1 (now (r .entry))))) ⌝ }
 {
     let mut i = 1;
@@ -22,14 +21,14 @@ fn rising(r: &[u16], m: usize) -> bool
     true
 }
 
-// Whether all numbers behind the m clusters are zero.
-fn zeros_behind(r: &[u16], m: usize) -> bool
-    requires { ⌜ length (now r) ≡ 32 ⌝ }
-    requires { ⌜ m ≤ 31 ⌝ }
-    ensures { λ result. ⌜ Decides result (drop (1 + m) (now (r .entry)) ≡ replicate (31 - m) 0) ⌝ }
+// Whether all numbers behind the m clusters are zero, of size numbers.
+fn zeros_behind(r: &[u32], size: usize, m: usize) -> bool
+    requires { ⌜ length (now r) ≡ size ⌝ }
+    requires { ⌜ m < size ⌝ }
+    ensures { λ result. ⌜ Decides result (drop (1 + m) (now (r .entry)) ≡ replicate (size - 1 - m) 0) ⌝ }
 {
     let mut i = m + 1;
-    while i < 32 {
+    while i < size {
         if r[i] != 0 {
             return false;
         }
@@ -38,15 +37,17 @@ fn zeros_behind(r: &[u16], m: usize) -> bool
     true
 }
 
-// Whether r has the form of a record.
-pub(crate) fn formed(r: &[u16]) -> bool
-    requires { ⌜ length (now r) ≡ 32 ⌝ }
-    ensures { λ result. ⌜ Decides result (Form (now (r .entry))) ⌝ }
+// Whether r has the form of a record of that breadth.
+pub(crate) fn formed(r: &[u32], breadth: usize) -> bool
+    requires { ⌜ length (now r) ≡ 2 * breadth ⌝ }
+    requires { ⌜ 1 ≤ breadth ⌝ }
+    requires { ⌜ breadth ≤ 32 ⌝ }
+    ensures { λ result. ⌜ Decides result (FormFor breadth (now (r .entry))) ⌝ }
 {
     let m = r[0] as usize;
-    if m <= 31 {
+    if m < 2 * breadth {
         if rising(r, m) {
-            return zeros_behind(r, m);
+            return zeros_behind(r, 2 * breadth, m);
         }
     }
     false

@@ -1,6 +1,5 @@
 // Any two clusters of a record are disjoint, or one holds the other.
-ghost use mathlib.Core.Path.{_≡_};
-ghost use Prim.Native.Nat.{ℕ, _≤_};
+ghost use Prim.Native.Nat.{ℕ, _<_};
 ghost use lib.ListN.{length, take, drop};
 ghost use Rattle.trees.specs.Decides.{Decides};
 ghost use Rattle.trees.specs.Lists.{Among};
@@ -20,18 +19,17 @@ fn agree(a: u32, b: u32) -> bool
 }
 
 // Whether any two of the m clusters agree: each is held against those behind it, up to the first pair that clashes.
-pub(crate) fn nested(r: &[u16], m: usize) -> bool
-    requires { ⌜ length (now r) ≡ 32 ⌝ }
-    requires { ⌜ m ≤ 31 ⌝ }
+pub(crate) fn nested(r: &[u32], m: usize) -> bool
+    requires { ⌜ m < length (now r) ⌝ }
     ensures { λ result. ⌜ Decides result
         ((a b : ℕ) → Among a (take m (drop 1 (now (r .entry)))) → Among b (take m (drop 1 (now (r .entry)))) → Nested a b) ⌝ }
 {
     let mut i = 1;
     'pairs: while i <= m {
-        let a = r[i] as u32;
+        let a = r[i];
         let mut j = i + 1;
         while j <= m {
-            if !agree(a, r[j] as u32) {
+            if !agree(a, r[j]) {
                 break 'pairs;
             }
             j += 1;

@@ -13,13 +13,13 @@ use Rattle.labels.specs.Labels.Told.{ended}
 use Rattle.labels.specs.Writing.{Printable}
 use Rattle.labels.proofs.Letters.{letters-printable}
 use Rattle.trees.proofs.Booleans.{never-both}
-use Rattle.roster.specs.Roster.{byteAt, begins, nameAt, names, position, faultAt, faulty, inQuotes}
+use Rattle.roster.specs.Roster.{byteAt, begins, nameAt, names, position, manyAt, faultAt, firstFault, faulty, inQuotes}
 use Rattle.roster.specs.Table.{table, slots}
 use Rattle.roster.proofs.Beginnings.{namesTo, names-to-end, as-many, none-yet, one-more, no-more, each-begun}
 use Rattle.roster.proofs.Each.{Each, each-at, each-still}
-use Rattle.roster.proofs.Faults.{no-fault}
+use Rattle.roster.proofs.Faults.{first-fault, fault-within, no-fault}
 use Rattle.roster.proofs.Padding.{Fitting, letters-fit, position-padded}
-use Rattle.roster.proofs.Places.{fault-stray, fault-many, fault-again, fault-open, many-here, again-here, open-fresh, stray-fresh, begins-label}
+use Rattle.roster.proofs.Places.{fault-stray, fault-many, fault-again, fault-open, many-here, few-here, again-here, open-fresh, stray-fresh, begins-label}
 use Rattle.roster.proofs.Positions.{position-within, Distinct, distinct-more, distinct-differ}
 use Rattle.roster.proofs.Spans.{Kind}
 use Rattle.roster.proofs.Spans.Kind.{whole, broken}
@@ -85,6 +85,32 @@ module _ (most : ℕ) (line : List ℕ) (good : faulty most line ≡ false) wher
           λ full. never-both (faultAt most line m) (fault-many line m most (many-here line m most e (sym (as-many line m) ∙ full)))
           (no-fault most line good m (omega arith)) in
           rw (one-more line m e, length-append) (omega arith)
+
+  -- so where more names may stand, no name is one too many either
+  none-too-many : (more : ℕ) → most ≤ more → (p : ℕ) → manyAt more line p ≡ false
+  unfolding manyAt
+  none-too-many more l p = by (begins line p) refl
+    where
+      by : (t : Bool) → begins line p ≡ t → manyAt more line p ≡ false
+      by true e =
+          let here = begins-starts line p e .here in
+          let few : length (namesTo line p) + 1 ≤ most = rw (one-more line p e, length-append) at (few-to (suc p) here) in
+          few-here line p more (λ full. omega (arith, as-many line p))
+      by false e = rw e
+
+  faults-alike : (more : ℕ) → most ≤ more → (p : ℕ) → faultAt more line p ≡ faultAt most line p
+  unfolding faultAt
+  faults-alike more l p = rw (none-too-many most (le-refl most) p, none-too-many more l p)
+
+  -- a good roster is one where more names may stand, too
+  pub good-wider : (more : ℕ) → most ≤ more → faulty more line ≡ false
+  good-wider more l = by (faulty more line) refl
+    where
+      by : (t : Bool) → faulty more line ≡ t → t ≡ false
+      by true e =
+          let p = firstFault more line in
+          absurd (never-both (faultAt most line p) (sym (faults-alike more l p) ∙ first-fault more line e .0) (no-fault most line good p (fault-within more line e)))
+      by false e = refl
 
   -- a good line begins with a label
   first-starts : Starts line 0

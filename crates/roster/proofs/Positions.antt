@@ -56,6 +56,17 @@ position-known w (v ∷ ns) more h = by (same w v) h (position-known w ns more)
     by true h next = refl
     by false h next = rw (next (omega arith))
 
+-- a known name is the one where it stands
+pub position-found : (w : List ℕ) (ns : List (List ℕ)) → position w ns < length ns → getD ns (position w ns) [] ≡ w
+unfolding position
+position-found w [] h = absurd (omega arith)
+position-found w (v ∷ ns) h = by (same w v) refl h (position-found w ns)
+  where
+    by : (t : Bool) → same w v ≡ t → oneMore (not t) (position w ns) < suc (length ns) → (position w ns < length ns → getD ns (position w ns) [] ≡ w)
+        → getD (v ∷ ns) (oneMore (not t) (position w ns)) [] ≡ w
+    by true e h later = sym (same-is w v e)
+    by false e h later = later (omega arith)
+
 -- an unknown name that is put behind the list stands right there
 pub position-new : (w : List ℕ) (ns : List (List ℕ)) → position w ns ≡ length ns → position w (ns ++ (w ∷ [])) ≡ length ns
 unfolding position

@@ -23,7 +23,7 @@ fn faulty(place: usize) -> Roster
     }
 }
 
-// Reads the line from the left. At the top of the loop a label has to begin at `at`. `reader` and `writer` call it too, each with 16, for the table of names, which has room for 32.
+// Reads the line from the left. At the top of the loop a label has to begin at `at`. `reader`, `writer`, `counts` and `mapping` call it too, with 16, and `reader` and `mapping` with 32 for individuals, for the table of names, which has room for 32.
 pub fn parse(line: &[u8], most: usize) -> Roster
     requires { ⌜ most ≤ 32 ⌝ }
     ensures { λ r. ⌜ r ≡ rosterOf most (now (line .entry)) ⌝ }

@@ -25,12 +25,12 @@ both true true e = (refl, refl)
 both true false e = absurd (true≢false e)
 both false b e = absurd (true≢false e)
 
-strange-none : (n : ℕ) (bytes : List ℕ) → 2 ^ n ≤ firstStrange n bytes → (a : ℕ) → a < 2 ^ n → getD bytes a 0 ≤ 1
+pub strange-none : (n : ℕ) (bytes : List ℕ) → 2 ^ n ≤ firstStrange n bytes → (a : ℕ) → a < 2 ^ n → getD bytes a 0 ≤ 1
 unfolding firstStrange
 strange-none n bytes h a l =
     leb-true (getD bytes a 0) 1 (not-false (leb (getD bytes a 0) 1) (least-first (λ a. not (leb (getD bytes a 0) 1)) (2 ^ n) 0 .1 a (omega arith) (omega arith)))
 
-none-strange : (n : ℕ) (bytes : List ℕ) → ((a : ℕ) → a < 2 ^ n → getD bytes a 0 ≤ 1) → 2 ^ n ≤ firstStrange n bytes
+pub none-strange : (n : ℕ) (bytes : List ℕ) → ((a : ℕ) → a < 2 ^ n → getD bytes a 0 ≤ 1) → 2 ^ n ≤ firstStrange n bytes
 unfolding firstStrange
 none-strange n bytes h =
     let e = least-none (λ a. not (leb (getD bytes a 0) 1)) (2 ^ n) 0 (λ a p q. ap not (le-leb (getD bytes a 0) 1 (h a (omega arith)))) in

@@ -22,7 +22,7 @@ use Rattle.search.specs.Candidates.{Accepted}
 use Rattle.lineages.proofs.FirstBad.{all-valid-none-bad}
 use Rattle.search.proofs.Accepted.{accepted}
 use Rattle.search.proofs.Demand.{Replied, replied, no-score-falls}
-use Rattle.search.proofs.Demand.Replied.{answered, nothing}
+use Rattle.search.proofs.AnyWeights.RepliedBy.{answered, nothing}
 use Rattle.search.proofs.Unread.{both-fit}
 use Rattle.weights.specs.declared.Rooting.the-variants.{Rooted}
 
@@ -81,7 +81,7 @@ pub valid-fit : {n : ℕ} (count : ℕ) (genes : List ℕ) → AllValid n (recor
 unfolding pieces
 valid-fit zero genes v = omega arith
 valid-fit (suc count) genes v =
-    let first = v (take 32 genes) (here refl) .valid .form .thirty-two in
+    let first = v (take 32 genes) (here refl) .valid .form .sized in
     omega (arith, length-take 32 genes, length-drop 32 genes, valid-fit count (drop 32 genes) (λ g m. v g (there m)))
 
 -- a first test that finds a fault is all that counts

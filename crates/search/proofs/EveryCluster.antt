@@ -13,8 +13,8 @@ use Rattle.trees.specs.Records.{recordsIn}
 use Rattle.trees.proofs.Bounds.{whole-below-sixteen}
 use Rattle.weights.specs.Count.{weight}
 use Rattle.lineages.specs.InOrder.{GenesInOrder}
-use Rattle.terms.specs.Allowed.{allowedFor}
-use Rattle.terms.proofs.AllMarked.{allMarked, all-judged, all-allowed, every-as-marked}
+use Rattle.terms.specs.Allowed.{allowedFor, everyCluster}
+use Rattle.terms.proofs.AllMarked.{all-judged, all-allowed, every-as-marked}
 use Rattle.splits.specs.BinaryTrees.{Binary, treesOn}
 use Rattle.splits.specs.WellFormed.{TreeOn}
 use Rattle.splits.specs.Least.{best, scoreEntry, splitEntry, filled}
@@ -40,12 +40,12 @@ module _ (rooting : Rooting) (n : ℕ) (genes : List (List ℕ)) (bytes : List �
   onEvery a = best (weight rooting genes) (allowedFor Every n bytes) a
 
   abbrev onMarked : ℕ → Option Binary
-  onMarked a = best (weight rooting genes) (allowedFor Marked n (allMarked n)) a
+  onMarked a = best (weight rooting genes) (allowedFor Marked n (everyCluster n)) a
 
   -- they are equal on each cluster of n species
   pub every-best : (a : ℕ) → a < 2 ^ n → onEvery a ≡ onMarked a
   every-best a l =
-      best-local (weight rooting genes) (allowedFor Every n bytes) (allowedFor Marked n (allMarked n)) a
+      best-local (weight rooting genes) (allowedFor Every n bytes) (allowedFor Marked n (everyCluster n)) a
       (λ x s m. every-as-marked n x (let k = within-le m in omega arith) bytes)
 
   -- the answer
@@ -65,7 +65,7 @@ module _ (rooting : Rooting) (n : ℕ) (genes : List (List ℕ)) (bytes : List �
   module _ {scores splits : List ℕ} {r : Found} {s p : List ℕ} where
     -- so what is solved with every cluster allowed is what is solved with the bytes, and the other way
     pub every-solves :
-        Solves rooting n genes (allowedFor Every n bytes) scores splits r s p ↔ Solves rooting n genes (allowedFor Marked n (allMarked n)) scores splits r s p
+        Solves rooting n genes (allowedFor Every n bytes) scores splits r s p ↔ Solves rooting n genes (allowedFor Marked n (everyCluster n)) scores splits r s p
     every-solves = (
       λ h. record { reply = h .reply ∙ every-found; scoreTable = h .scoreTable ∙ every-scores scores; splitTable = h .splitTable ∙ every-splits splits },
       λ h. record {
@@ -79,11 +79,11 @@ module _ (rooting : Rooting) (n : ℕ) (genes : List (List ℕ)) (bytes : List �
 pub every-finds :
     {rooting : Rooting} {n : ℕ} {genes : List ℕ} {count : ℕ} {scores splits : List ℕ} {r : Found} {s p : List ℕ} (bytes : List ℕ)
     → GenesInOrder rooting n genes count → 2 ^ n ≤ length scores → 2 ^ n ≤ length splits
-    → Solves rooting n (recordsIn count genes) (allowedFor Every n bytes) scores splits r s p → Finds rooting n genes count (allMarked n) scores splits r s p
+    → Solves rooting n (recordsIn count genes) (allowedFor Every n bytes) scores splits r s p → Finds rooting n genes count (everyCluster n) scores splits r s p
 unfolding bestFor
 every-finds {rooting} {n} {genes} {count} {scores} {splits} bytes order scores-fit splits-fit h =
     let marked = every-solves rooting n (recordsIn count genes) bytes .0 h in
-    let passed = accepts rooting n genes count (allMarked n) scores splits (record {
+    let passed = accepts rooting n genes count (everyCluster n) scores splits (record {
       in-order = order;
       allowed-fits = omega (arith, length-replicate {A = ℕ} (2 ^ n) 1);
       scores-fit = scores-fit;
@@ -110,7 +110,7 @@ every-tree w n bytes a one below = let u = some-tree a one below in best-there w
 -- ---- the answer
 
 -- every binary species record competes where all is marked
-pub all-compete : (n : ℕ) (c : List ℕ) → BinarySpecies n c → Candidate n (allMarked n) c
+pub all-compete : (n : ℕ) (c : List ℕ) → BinarySpecies n c → Candidate n (everyCluster n) c
 all-compete n c b = record {
   valid = b .valid;
   binary = b .binary;
@@ -129,7 +129,7 @@ every-answered {rooting} {n} {genes} {r = r} bytes one few h =
   where
     of-best : (t : Binary) → best (weight rooting genes) (allowedFor Every n bytes) (whole n) ≡ some t → AnswerOfAll rooting n genes (foundBy rooting (some t) genes)
     of-best t e =
-        let answer = found-answers rooting n genes (allMarked n) few t (sym (every-best rooting n genes bytes (whole n) (whole-below n)) ∙ e) in
+        let answer = found-answers rooting n genes (everyCluster n) few t (sym (every-best rooting n genes bytes (whole n) (whole-below n)) ∙ e) in
         record {
           number = refl;
           place = refl;

@@ -26,20 +26,20 @@ use Rattle.terms.specs.declared.Found.{Found}
 use Rattle.lineages.proofs.Calls.{genesThen, genes-refused, genes-passed}
 use Rattle.weights.specs.declared.Rooting.{Rooting}
 
+-- 12 for the allowed set and both tables, with other tests behind
+abbrev pub longThen : ℕ → List ℕ → List ℕ → List ℕ → List Test → List Test
+longThen n allowed scores splits rest =
+    lengthTest (length allowed) (2 ^ n) ∷ lengthTest (length scores) (2 ^ n) ∷ lengthTest (length splits) (2 ^ n) ∷ rest
+
 -- what is judged after the shape
 searchRest : Rooting → ℕ → List ℕ → ℕ → List ℕ → List ℕ → List ℕ → List Test
-searchRest rooting n genes count allowed scores splits =
-    lengthTest (length allowed) (2 ^ n) ∷ lengthTest (length scores) (2 ^ n) ∷ lengthTest (length splits) (2 ^ n)
-    ∷ genesThen rooting n genes count (allowedTest n allowed ∷ [])
+searchRest rooting n genes count allowed scores splits = longThen n allowed scores splits (genesThen rooting n genes count (allowedTest n allowed ∷ []))
 
 -- ---- 12
 
-module _ (rooting : Rooting) (n : ℕ) (genes : List ℕ) (count : ℕ) (allowed scores splits : List ℕ) where
-  long-passed :
-      LongEnough (2 ^ n) allowed scores splits
-      → verdict (searchRest rooting n genes count allowed scores splits)
-      ≡ verdict (genesThen rooting n genes count (allowedTest n allowed ∷ []))
-  unfolding searchRest verdict lengthTest
+module _ (n : ℕ) (allowed scores splits : List ℕ) (rest : List Test) where
+  pub long-passed : LongEnough (2 ^ n) allowed scores splits → verdict (longThen n allowed scores splits rest) ≡ verdict rest
+  unfolding verdict lengthTest
   long-passed l =
       rw (
         le-ltb (length allowed) (2 ^ n) (l .allowed-long),
@@ -47,13 +47,13 @@ module _ (rooting : Rooting) (n : ℕ) (genes : List ℕ) (count : ℕ) (allowed
         le-ltb (length splits) (2 ^ n) (l .splits-long),
       )
 
-  short-refused : (LongEnough (2 ^ n) allowed scores splits → ⊥) → verdict (searchRest rooting n genes count allowed scores splits) ≡ said 12 0
-  unfolding searchRest verdict lengthTest
+  pub short-refused : (LongEnough (2 ^ n) allowed scores splits → ⊥) → verdict (longThen n allowed scores splits rest) ≡ said 12 0
+  unfolding verdict lengthTest
   short-refused f = go (decLe (2 ^ n) (length allowed)) (decLe (2 ^ n) (length scores)) (decLe (2 ^ n) (length splits))
     where
       go :
           Dec (2 ^ n ≤ length allowed) → Dec (2 ^ n ≤ length scores) → Dec (2 ^ n ≤ length splits)
-          → verdict (searchRest rooting n genes count allowed scores splits) ≡ said 12 0
+          → verdict (longThen n allowed scores splits rest) ≡ said 12 0
       go (no a) b c = rw (lt-ltb (length allowed) (2 ^ n) (omega arith))
       go (yes a) (no b) c = rw (le-ltb (length allowed) (2 ^ n) a, lt-ltb (length scores) (2 ^ n) (omega arith))
       go (yes a) (yes b) (no c) = rw (le-ltb (length allowed) (2 ^ n) a, le-ltb (length scores) (2 ^ n) b, lt-ltb (length splits) (2 ^ n) (omega arith))
@@ -71,7 +71,8 @@ module _ (rooting : Rooting) (n : ℕ) (genes : List ℕ) (count : ℕ) (allowed
     -- behind the lengths the records and the allowed bytes do
     long-told : verdict (searchTests rooting n genes count allowed scores splits)
         ≡ verdict (genesThen rooting n genes count (allowedTest n allowed ∷ []))
-    long-told = shape-told ∙ long-passed rooting n genes count allowed scores splits long
+    unfolding searchRest
+    long-told = shape-told ∙ long-passed n allowed scores splits (genesThen rooting n genes count (allowedTest n allowed ∷ [])) long
 
     pub checked :
         {judged : Reply} {allowance : Allowance} → GenesJudged rooting n genes count judged → judged .number ≡ 0
@@ -121,8 +122,12 @@ module _ (rooting : Rooting) (n : ℕ) (genes : List ℕ) (count : ℕ) (allowed
   module _ (shaped : Shaped n genes count) where
     pub finds-short : (LongEnough (2 ^ n) allowed scores splits → ⊥) → r ≡ without 12 0 → scoresAfter ≡ scores → splitsAfter ≡ splits
         → Finds rooting n genes count allowed scores splits r scoresAfter splitsAfter
+    unfolding searchRest
     finds-short f p q s =
-        finds-refused (shape-told rooting n genes count allowed scores splits shaped ∙ short-refused rooting n genes count allowed scores splits f) (λ z. omega arith) p q s
+        finds-refused
+        (shape-told rooting n genes count allowed scores splits shaped
+        ∙ short-refused n allowed scores splits (genesThen rooting n genes count (allowedTest n allowed ∷ [])) f)
+        (λ z. omega arith) p q s
 
     module _ (long : LongEnough (2 ^ n) allowed scores splits) {judged : Reply} (told : GenesJudged rooting n genes count judged) where
       pub finds-bad : (judged .number ≡ 0 → ⊥) → r ≡ without (judged .number) (judged .place) → scoresAfter ≡ scores → splitsAfter ≡ splits

@@ -14,7 +14,7 @@ use Rattle.weights.proofs.Sums.{score-append}
 use Rattle.splits.specs.BinaryTrees.{each}
 use Rattle.terms.specs.declared.Found.{Found}
 use Rattle.search.specs.Promise.{Finds}
-use Rattle.search.specs.Candidates.{Candidate, Answer, SameAllowed}
+use Rattle.search.specs.Candidates.{Candidate, AnswerBy, SameAllowed}
 use Rattle.search.specs.LeastAmong.{LeastAmong, LeastNumber, NumberOf}
 use Rattle.search.proofs.HowMany.{some-member, number-same, number-le}
 use Rattle.search.proofs.Demand.{answer}
@@ -126,9 +126,7 @@ score-of-lots rooting records [] c = omega (arith, score-append rooting [] [] c)
 score-of-lots rooting records (l ∷ lots) c = omega (arith, score-append rooting (records l) (each records lots) c, score-of-lots rooting records lots c)
 
 -- the score of an answer is the least score
-pub answer-is-least :
-    {rooting : Rooting} {n : ℕ} {genes : List (List ℕ)} {allowed : List ℕ} {r : Found} → Answer rooting n genes allowed r
-    → LeastNumber (Candidate n allowed) (score rooting genes) (r .score)
+pub answer-is-least : {number : List ℕ → ℕ} {n : ℕ} {allowed : List ℕ} {r : Found} → AnswerBy number n allowed r → LeastNumber (Candidate n allowed) number (r .score)
 answer-is-least {r = r} a = record {
   holder = r .numbers;
   least = record { competes = a .competes; least = λ d k. let e = a .counted in let p = a .least d k in omega arith };

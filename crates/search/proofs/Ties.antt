@@ -28,7 +28,8 @@ use Rattle.search.specs.LeastAmong.{LeastFor, AllOf, NumberOf}
 use Rattle.search.specs.declared.tied.Tied.{Tied}
 use Rattle.splits.proofs.RecordsOfTrees.{same-record-same-tree, score-of-record}
 use Rattle.search.proofs.BestTrees.{every-among, among-every}
-use Rattle.search.proofs.Demand.{tree-competes, competitor, competitor-over, competitor-score, competes-wider}
+use Rattle.search.proofs.AnyWeights.{tree-competes, competitor, competitor-over, competes-wider}
+use Rattle.search.proofs.Demand.{competitor-score}
 use Rattle.search.proofs.Demand.{accepted-of, accepted-says, answer, fourteen-exactly}
 use Rattle.search.proofs.Accepted.{accepted}
 use Rattle.search.proofs.HowMany.{once-map, number-le, number-some, number-one}
@@ -61,7 +62,7 @@ module _ (rooting : Rooting) (n : ℕ) (genes : List (List ℕ)) (allowed : List
       → Least (weight rooting genes) (allowedIn n allowed) (whole n) t
   recorded-least t v h = record {
     on = v;
-    over = among-every (allowedIn n allowed) (clustersIn t) (λ x m. h .competes .over x (record-among (clustersIn t) m));
+    over = among-every (allowedIn n allowed) (clustersIn t) (λ x m. h .competes .over x (record-among 16 (clustersIn t) m));
     least = λ u o e.
         omega (
           arith,

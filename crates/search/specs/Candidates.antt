@@ -46,12 +46,16 @@ pub record EarlierRecord (n : ℕ) (c d : List ℕ) : Type 0 where
   pub later-recorded : recordOf (clustersIn later) ≡ d
   pub earlier : Earlier tree later
 
--- "no binary tree over them scores less"; of equals it is the first
-pub record Answer (rooting : Rooting) (n : ℕ) (genes : List (List ℕ)) (allowed : List ℕ) (r : Found) : Type 0 where
+-- "no binary tree over them scores less"; of equals it is the first: whatever scores the records
+pub record AnswerBy (scores : List ℕ → ℕ) (n : ℕ) (allowed : List ℕ) (r : Found) : Type 0 where
   pub competes : Candidate n allowed (r .numbers)
-  pub counted : score rooting genes (r .numbers) ≡ r .score
-  pub least : (c : List ℕ) → Candidate n allowed c → r .score ≤ score rooting genes c
-  pub first : (c : List ℕ) → Candidate n allowed c → score rooting genes c ≡ r .score → (r .numbers ≡ c) ⊎ EarlierRecord n (r .numbers) c
+  pub counted : scores (r .numbers) ≡ r .score
+  pub least : (c : List ℕ) → Candidate n allowed c → r .score ≤ scores c
+  pub first : (c : List ℕ) → Candidate n allowed c → scores c ≡ r .score → (r .numbers ≡ c) ⊎ EarlierRecord n (r .numbers) c
+
+-- the same for the scores over gene trees
+abbrev pub Answer : Rooting → ℕ → List (List ℕ) → List ℕ → Found → Type 0
+Answer rooting n genes allowed r = AnswerBy (score rooting genes) n allowed r
 
 -- "the least one over all clusters" (#114): there is a tree, no binary species tree scores less, and of equals it is the first
 pub record AnswerOfAll (rooting : Rooting) (n : ℕ) (genes : List (List ℕ)) (r : Found) : Type 0 where

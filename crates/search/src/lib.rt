@@ -15,8 +15,8 @@ ghost use Rattle.trees.specs.Decides.{Decides};
 ghost use Rattle.search.specs.Promise.{Finds};
 ghost use Rattle.search.specs.Work.{LongEnough};
 
-// Whether 2^n entries are there in the allowed set and in both tables.
-fn long_enough(entries: usize, allowed: &[u8], scores: &[u32], splits: &[u16]) -> bool
+// Whether 2^n entries are there in the allowed set and in both tables. `stand` calls it too.
+pub fn long_enough(entries: usize, allowed: &[u8], scores: &[u32], splits: &[u16]) -> bool
     ensures { λ r. ⌜ Decides r (LongEnough entries (now (allowed .entry)) (now (scores .entry)) (now (splits .entry))) ⌝ }
 {
     if allowed.len() < entries {

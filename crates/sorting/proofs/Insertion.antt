@@ -1,5 +1,5 @@
 -- Insertion into the places of a record, step by step, and a record filled cluster by cluster.
-use Prim.Native.Nat.{ℕ, zero, suc, _+_, _-_, _≤_, _<_, min, max}
+use Prim.Native.Nat.{ℕ, zero, suc, _+_, _-_, _*_, _≤_, _<_, min, max}
 use mathlib.Core.Path.{_≡_, refl, sym, ap, ap₂, _∙_}
 use mathlib.Core.List.{List, [], _∷_, _++_, append-assoc}
 use native.Mathlib.Numerals.{add-one}
@@ -7,7 +7,7 @@ use native.Mathlib.Omega.{arith}
 use lib.ListN.{length, getD, take, drop, set, replicate, length-drop, length-set, drop-of-length-le}
 use lib.Seq.{drop-cons, take-suc-set, drop-set-lt, set-split, set-getD, take-at, drop-drop, drop-append-add, length-take-le, getD-take}
 use Rattle.trees.specs.Lists.{insert, sorted}
-use Rattle.trees.specs.Records.{recordOf}
+use Rattle.trees.specs.Records.{recordFor}
 use Rattle.trees.proofs.Order.{length-sorted}
 
 -- ---- one insertion
@@ -182,12 +182,12 @@ drop-zeros (suc k) (suc n) =
     let e : n - k ≡ suc n - suc k = omega arith in drop-zeros k n ∙ ap (λ (m : ℕ). replicate m 0) e
 
 -- put behind their count in place of zeros, the clusters make the record
-pub zeros-filled : (n : ℕ) (cs : List ℕ) → n ≤ length cs
-    → n ∷ (sorted (take n cs) ++ drop (n + 1) (n ∷ replicate 31 0)) ≡ recordOf (take n cs)
-unfolding recordOf
-zeros-filled n cs listed =
+pub zeros-filled : (b n : ℕ) (cs : List ℕ) → n ≤ length cs
+    → n ∷ (sorted (take n cs) ++ drop (n + 1) (n ∷ replicate (2 * b - 1) 0)) ≡ recordFor b (take n cs)
+unfolding recordFor
+zeros-filled b n cs listed =
     let e = length-take-le n cs listed in
-    let zeros : drop (n + 1) (n ∷ replicate 31 0) ≡ replicate (31 - n) 0 =
-    ap (λ (k : ℕ). drop k (n ∷ replicate 31 0)) (add-one n) ∙ drop-zeros n 31 in
+    let zeros : drop (n + 1) (n ∷ replicate (2 * b - 1) 0) ≡ replicate (2 * b - 1 - n) 0 =
+    ap (λ (k : ℕ). drop k (n ∷ replicate (2 * b - 1) 0)) (add-one n) ∙ drop-zeros n (2 * b - 1) in
     ap (λ (d : List ℕ). n ∷ (sorted (take n cs) ++ d)) zeros
-    ∙ ap (λ (k : ℕ). k ∷ (sorted (take n cs) ++ replicate (31 - k) 0)) (sym e)
+    ∙ ap (λ (k : ℕ). k ∷ (sorted (take n cs) ++ replicate (2 * b - 1 - k) 0)) (sym e)

@@ -1,18 +1,18 @@
 -- The records of binary trees are the valid binary records, one for each tree, and a tree's score is its record's.
-use Prim.Native.Nat.{ℕ, _+_, _-_, _*_, _^_, _≤_, _<_, min, max}
+use Prim.Native.Nat.{ℕ, _+_, _-_, _*_, _^_, _≤_, _<_}
 use mathlib.Core.Path.{_≡_, refl, sym, ap, ap₂, _∙_, subst}
 use mathlib.Core.List.{List, [], _∷_, map, List·Memᴰ, List·Memᴰ·head as here}
-use native.Mathlib.Decide.{decLe}
 use native.Mathlib.Omega.{arith}
 use lib.ListN.{length}
 use Rattle.clusters.specs.Sets.{Within, whole, size, lowest}
 use Rattle.clusters.proofs.Members.{has-of-within, has-of-apart}
 use Rattle.clusters.proofs.Sets.{within-antisym, within-le, within-apart, apart-within, minus-apart}
-use Rattle.trees.specs.Lists.{Among, sorted, insert, total}
+use Rattle.trees.specs.Lists.{Among, total}
 use Rattle.trees.specs.Records.{count, listed, recordOf, ValidOn, BinaryOn}
 use Rattle.trees.specs.Tree.{Tree, clusters}
 use Rattle.trees.specs.Drawn.{drawn}
 use Rattle.trees.proofs.Bounds.{whole-below-sixteen}
+use Rattle.trees.proofs.Totals.{total-sorted}
 use Rattle.trees.proofs.Counts.{binary-of-clusters}
 use Rattle.trees.proofs.Recorded.{count-record, listed-record, record-same, among-record, record-among, valid-of-drawn}
 use Rattle.trees.proofs.Drawing.{drawn-on, drawn-record}
@@ -33,15 +33,15 @@ use Rattle.weights.specs.declared.Rooting.{Rooting}
 record-of-drawing : {a : ℕ} {t : Binary} → TreeOn a t → a < 2 ^ 16 → recordOf (clustersIn t) ≡ recordOf (clusters (drawing t))
 record-of-drawing {a} {t} v l =
     let wide : a < 2 ^ 32 = omega arith in
-    record-same (clustersIn t) (recordOf (clusters (drawing t))) (valid-of-drawn (drawing-on v wide) l .form) (tree-once v)
-    (λ x h. record-among (clusters (drawing t)) (drawing-among v wide h))
-    (λ x h. among-drawing v wide (among-record (clusters (drawing t)) h))
+    record-same (clustersIn t) (valid-of-drawn {b = 16} (drawing-on v wide) l) (tree-once v)
+    (λ x h. record-among 16 (clusters (drawing t)) (drawing-among v wide h))
+    (λ x h. among-drawing v wide (among-record 16 (clusters (drawing t)) h))
 
 pub tree-valid : {a : ℕ} {t : Binary} → TreeOn a t → a < 2 ^ 16 → ValidOn a (recordOf (clustersIn t))
 tree-valid {a} {t} v l = rw (record-of-drawing v l) (valid-of-drawn (drawing-on v (omega arith)) l)
 
 pub tree-binary : {a : ℕ} {t : Binary} → TreeOn a t → BinaryOn a (recordOf (clustersIn t))
-tree-binary {a} {t} v = ap (λ n. n + 1) (count-record (clustersIn t)) ∙ tree-clusters v
+tree-binary {a} {t} v = ap (λ n. n + 1) (count-record 16 (clustersIn t)) ∙ tree-clusters v
 
 -- ---- the clusters of a binary tree determine it
 
@@ -130,43 +130,32 @@ pub record TreeOfRecord (s : ℕ) (r : List ℕ) : Type 0 where
 pub same-record-same-tree : {a : ℕ} {t u : Binary} → TreeOn a t → TreeOn a u → recordOf (clustersIn t) ≡ recordOf (clustersIn u) → t ≡ u
 same-record-same-tree {a} {t} {u} v w e =
     same-clusters-same-tree v w
-    (λ x h. among-record (clustersIn u) (subst (λ r. Among x (listed r)) e (record-among (clustersIn t) h)))
-    (λ x h. among-record (clustersIn t) (subst (λ r. Among x (listed r)) (sym e) (record-among (clustersIn u) h)))
+    (λ x h. among-record 16 (clustersIn u) (subst (λ r. Among x (listed r)) e (record-among 16 (clustersIn t) h)))
+    (λ x h. among-record 16 (clustersIn t) (subst (λ r. Among x (listed r)) (sym e) (record-among 16 (clustersIn u) h)))
 
 pub tree-of-record : {s : ℕ} {r : List ℕ} → s < 2 ^ 16 → ValidOn s r → BinaryOn s r → TreeOfRecord s r
 tree-of-record {s} {r} l v b =
     let d : Tree = drawn (listed r) s in
     let o = drawn-on v l in
     let e = drawn-record v l in
-    let full : length (clusters d) + 1 ≡ 2 * size s = ap (λ n. n + 1) (sym (count-record (clusters d)) ∙ ap count e) ∙ b in
+    let full : length (clusters d) + 1 ≡ 2 * size s = ap (λ n. n + 1) (sym (count-record 16 (clusters d)) ∙ ap count e) ∙ b in
     let two-ways = binary-of-clusters o full in
     let low = subst (λ a. TreeOn a (lowTree d)) (o .all) (lowTree-on d two-ways (o .once) (subst (λ a. a < 2 ^ 32) (sym (o .all)) (omega arith))) in
-    let same : recordOf (clustersIn (lowTree d)) ≡ r = record-same (clustersIn (lowTree d)) r (v .form) (tree-once low)
-    (λ x h. subst (λ q. Among x (listed q)) e (record-among (clusters d) (among-lowTree d two-ways x h)))
-    (λ x h. lowTree-among d two-ways x (among-record (clusters d) (subst (λ q. Among x (listed q)) (sym e) h))) in
+    let same : recordOf (clustersIn (lowTree d)) ≡ r = record-same (clustersIn (lowTree d)) v (tree-once low)
+    (λ x h. subst (λ q. Among x (listed q)) e (record-among 16 (clusters d) (among-lowTree d two-ways x h)))
+    (λ x h. lowTree-among d two-ways x (among-record 16 (clusters d) (subst (λ q. Among x (listed q)) (sym e) h))) in
     record { tree = lowTree d; on = low; recorded = same; only = λ u w k. same-record-same-tree low w (same ∙ sym k) }
 
 -- ---- the score of a tree is the score of its record
 
-total-insert : (w : ℕ → ℕ) (x : ℕ) (l : List ℕ) → total (map w (insert x l)) ≡ w x + total (map w l)
-unfolding total insert
-total-insert w x [] = refl
-total-insert w x (y ∷ l) = go (decLe x y) (total-insert w (max x y) l)
-  where
-    go : Dec (x ≤ y) → total (map w (insert (max x y) l)) ≡ w (max x y) + total (map w l)
-        → w (min x y) + total (map w (insert (max x y) l)) ≡ w x + (w y + total (map w l))
-    go (yes h) ih = omega (arith, ap w {x = min x y} {y = x} (omega arith), ap w {x = max x y} {y = y} (omega arith))
-    go (no h) ih = omega (arith, ap w {x = min x y} {y = y} (omega (arith, h)), ap w {x = max x y} {y = x} (omega (arith, h)))
-
-total-sorted : (w : ℕ → ℕ) (l : List ℕ) → total (map w (sorted l)) ≡ total (map w l)
-unfolding total sorted
-total-sorted w [] = refl
-total-sorted w (x ∷ l) = total-insert w x (sorted l) ∙ ap (λ n. w x + n) (total-sorted w l)
+-- for any weights of clusters
+pub total-of-record : (w : ℕ → ℕ) (t : Binary) → total (map w (listed (recordOf (clustersIn t)))) ≡ scoreOf w t
+unfolding scoreOf
+total-of-record w t = ap (λ l. total (map w l)) (listed-record 16 (clustersIn t)) ∙ total-sorted w (clustersIn t)
 
 pub score-of-record : (rooting : Rooting) (genes : List (List ℕ)) (t : Binary) → score rooting genes (recordOf (clustersIn t)) ≡ scoreOf (weight rooting genes) t
 unfolding score scoreOf
-score-of-record rooting genes t =
-    ap (λ l. total (map (λ a. weight rooting genes a) l)) (listed-record (clustersIn t)) ∙ total-sorted (λ a. weight rooting genes a) (clustersIn t)
+score-of-record rooting genes t = total-of-record (λ a. weight rooting genes a) t
 
 -- ---- the same for n species
 

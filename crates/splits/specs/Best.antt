@@ -15,7 +15,11 @@ use Rattle.weights.specs.declared.Rooting.{Rooting}
 unfoldable pub bestFor : Rooting → ℕ → List (List ℕ) → List ℕ → ℕ → Option Binary
 bestFor rooting n genes allowed a = best (weight rooting genes) (allowedIn n allowed) a
 
--- "The search returns the score and the record of its tree"; "14 | no binary tree over the allowed clusters | 0"
+-- "The search returns the score and the record of its tree"; "14 | no binary tree over the allowed clusters | 0"; for any weights
+abbrev pub foundOf : (ℕ → ℕ) → Option Binary → Found
+foundOf w (some t) = record { number = 0; place = 0; score = scoreOf w t; numbers = recordOf (clustersIn t) }
+foundOf w none = record { number = 14; place = 0; score = 0; numbers = replicate 32 0 }
+
+-- the same for the weights of gene trees
 abbrev pub foundBy : Rooting → Option Binary → List (List ℕ) → Found
-foundBy rooting (some t) genes = record { number = 0; place = 0; score = scoreOf (weight rooting genes) t; numbers = recordOf (clustersIn t) }
-foundBy rooting none genes = record { number = 14; place = 0; score = 0; numbers = replicate 32 0 }
+foundBy rooting found genes = foundOf (weight rooting genes) found

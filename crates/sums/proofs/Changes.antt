@@ -10,7 +10,7 @@ use lib.Seq.{getD-set-same, getD-set-other}
 use borrow.Author.Tests.{eq-eqb, ne-eqb}
 use Rattle.weights.specs.Lineages.{oneIf}
 use Rattle.weights.specs.Subsets.{many, often, modulus}
-use Rattle.weights.proofs.SumOfLists.{many-nil, many-cons, many-append, many-map, many-total}
+use Rattle.weights.proofs.SumOfLists.{many-nil, many-cons, many-append, many-mapped}
 use Rattle.weights.proofs.Shown.{ClearedTo, cleared-end}
 use Rattle.sums.specs.Work.{Changed}
 
@@ -26,7 +26,7 @@ often-both x l k = many-append (λ y. eqb x y) l k
 
 -- in what a function makes of a list
 pub often-map : (x : ℕ) (f : ℕ → ℕ) (l : List ℕ) → often x (map f l) ≡ many (λ y. eqb x (f y)) l
-often-map x f l = many-map (λ y. eqb x y) f l ∙ sym (many-total (λ y. eqb x (f y)) l)
+often-map x f l = many-mapped (λ y. eqb x y) f l
 
 -- ---- one change
 

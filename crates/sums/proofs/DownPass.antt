@@ -13,12 +13,13 @@ use Rattle.clusters.proofs.Members.{has-dec, some-has, within-of-has, has-of-wi
 use Rattle.clusters.proofs.Sets.{within-trans, within-le, within-true, within-false, within-refl, apart-sym, apart-within, minus-has, minus-within, minus-apart}
 use Rattle.clusters.proofs.Sizes.{size-some, size-minus, size-le}
 use Rattle.trees.specs.Lists.{Among, NoneTwice}
-use Rattle.trees.specs.Records.{count, listed, Form}
+use Rattle.trees.specs.Records.{count, listed, FormFor}
 use Rattle.trees.specs.Drawn.{children}
+use Rattle.trees.proofs.Breadth.{small-in-breadth}
 use Rattle.trees.proofs.Places.{Placed, among-place}
 use Rattle.trees.proofs.GeneRecords.{places-rise, places-le}
 use Rattle.trees.proofs.Children.{Hierarchy, hierarchy-of-valid, Child, among-children, children-among, child-apart, within-child}
-use Rattle.weights.specs.Work.{Countable}
+use Rattle.weights.specs.Work.{CountableFor}
 use Rattle.weights.proofs.Checked.{listed-at}
 use Rattle.sums.specs.Work.{ChildrenIn}
 
@@ -26,11 +27,11 @@ use Rattle.sums.specs.Work.{ChildrenIn}
 
 -- a cluster that is no smaller than the one before place j is that one, or no smaller than the one there
 next-place :
-    {g : List ℕ} (j : ℕ) {y : ℕ} → Form g → 1 < j → j ≤ count g → Among y (listed g) → getD g (j - 1) 0 ≤ y → (y ≡ getD g (j - 1) 0) ⊎ (getD g j 0 ≤ y)
-next-place {g} j {y} f two last m l = go (decLe j (p .place)) (decLt (p .place) (j - 1))
+    {b : ℕ} {g : List ℕ} (j : ℕ) {y : ℕ} → FormFor b g → 1 < j → j ≤ count g → Among y (listed g) → getD g (j - 1) 0 ≤ y → (y ≡ getD g (j - 1) 0) ⊎ (getD g j 0 ≤ y)
+next-place {b} {g} j {y} f two last m l = go (decLe j (p .place)) (decLt (p .place) (j - 1))
   where
-    p : Placed g (count g) (f .thirty-two) (f .counted) y
-    p = among-place g (count g) (f .thirty-two) (f .counted) y m
+    p : Placed g (count g) (f .sized) (f .counted) y
+    p = among-place g (count g) (f .sized) (f .counted) y m
 
     go : Dec (j ≤ p .place) → Dec (p .place < j - 1) → (y ≡ getD g (j - 1) 0) ⊎ (getD g j 0 ≤ y)
     go (yes up) d = inr (omega (arith, places-le j (p .place) f (omega arith) up (p .last), p .there))
@@ -38,9 +39,9 @@ next-place {g} j {y} f two last m l = go (decLe j (p .place)) (decLt (p .place) 
     go (no low) (no far) = let at : p .place ≡ j - 1 = omega (arith, low, far) in inl (sym (p .there) ∙ ap (λ (k : ℕ). getD g k 0) at)
 
 -- none is smaller than the first
-first-least : {g : List ℕ} {y : ℕ} → Form g → Among y (listed g) → getD g 1 0 ≤ y
-first-least {g} {y} f m =
-    let p = among-place g (count g) (f .thirty-two) (f .counted) y m in
+first-least : {b : ℕ} {g : List ℕ} {y : ℕ} → FormFor b g → Among y (listed g) → getD g 1 0 ≤ y
+first-least {b} {g} {y} f m =
+    let p = among-place g (count g) (f .sized) (f .counted) y m in
     omega (arith, places-le 1 (p .place) f (omega arith) (p .first) (p .last), p .there)
 
 -- a number put before the last ones of a list that are in use
@@ -52,13 +53,13 @@ drop-set-here l n x less =
 
 -- ---- the pass
 
--- the clusters of the record from the j-th on are passed: the children among them are stored from the first on, and their species are not left
-pub record DownTo (g : List ℕ) (p i : ℕ) (sets : List ℕ) (first left j : ℕ) : Type 0 where
+-- the clusters of the record of breadth b from the j-th on are passed: the children among them are stored from the first on, and their species are not left
+pub record DownTo (b : ℕ) (g : List ℕ) (p i : ℕ) (sets : List ℕ) (first left j : ℕ) : Type 0 where
   pub some : 1 ≤ j
   pub place : j ≤ i
-  pub sixteen : length sets ≡ 16
+  pub sized : length sets ≡ b
   pub room : size left ≤ first
-  pub few : first ≤ 16
+  pub few : first ≤ b
   pub once : NoneTwice (drop first sets)
   pub are : (x : ℕ) → Among x (drop first sets) → Child (listed g) p x × (getD g j 0 ≤ x)
   pub all : (x : ℕ) → Child (listed g) p x → getD g j 0 ≤ x → Among x (drop first sets)
@@ -66,7 +67,7 @@ pub record DownTo (g : List ℕ) (p i : ℕ) (sets : List ℕ) (first left j : �
   pub apart : (x : ℕ) → Among x (drop first sets) → Apart left x
   pub rest : (k : ℕ) → Has p k → (Has left k → ⊥) → (x : ℕ) × Among x (drop first sets) × Has x k
 
-module _ {g : List ℕ} (can : Countable g) {i : ℕ} (one : 1 ≤ i) (last : i ≤ count g) where
+module _ {b : ℕ} {g : List ℕ} (can : CountableFor b g) {i : ℕ} (one : 1 ≤ i) (last : i ≤ count g) where
   drawn : Hierarchy (can .species) (listed g)
   drawn = hierarchy-of-valid (can .valid) (can .small)
 
@@ -74,13 +75,13 @@ module _ {g : List ℕ} (can : Countable g) {i : ℕ} (one : 1 ≤ i) (last : i 
   own = listed-at i (can .valid .form) one last
 
   -- nothing is passed yet
-  pub down-start : (sets : List ℕ) → length sets ≡ 16 → DownTo g (getD g i 0) i sets 16 (getD g i 0) i
+  pub down-start : (sets : List ℕ) → length sets ≡ b → DownTo b g (getD g i 0) i sets b (getD g i 0) i
   unfolding NoneTwice
   down-start sets long = record {
     some = one;
     place = omega arith;
-    sixteen = long;
-    room = size-le 16 (omega (arith, within-le (can .valid .inside (getD g i 0) own .1), can .small));
+    sized = long;
+    room = size-le b (omega (arith, within-le (can .valid .inside (getD g i 0) own .1), small-in-breadth b (can .small)));
     few = omega arith;
     once = rw none tt;
     are = λ x m. absurd (List·Memᴰ·not-nil (rw none at m));
@@ -90,11 +91,11 @@ module _ {g : List ℕ} (can : Countable g) {i : ℕ} (one : 1 ≤ i) (last : i 
     rest = λ k h off. absurd (off h);
   }
     where
-      none : drop 16 sets ≡ []
-      none = drop-of-length-le sets {i = 16} (omega (arith, long))
+      none : drop b sets ≡ []
+      none = drop-of-length-le sets {i = b} (omega (arith, long))
 
-  module _ {sets : List ℕ} {first left j : ℕ} (now : DownTo g (getD g i 0) i sets first left j) (more : 1 < j) where
-    form : Form g
+  module _ {sets : List ℕ} {first left j : ℕ} (now : DownTo b g (getD g i 0) i sets first left j) (more : 1 < j) where
+    form : FormFor b g
     form = can .valid .form
 
     abbrev x : ℕ
@@ -145,11 +146,11 @@ module _ {g : List ℕ} (can : Countable g) {i : ℕ} (one : 1 ≤ i) (last : i 
             absurd (has-of-apart x (y .0) k (child-apart drawn c (d .0) (λ e. omega (arith, below, d .1))) h (y .2))
 
     -- the cluster is passed over
-    pub down-passed : within (getD g (j - 1) 0) left ≡ false → DownTo g (getD g i 0) i sets first left (j - 1)
+    pub down-passed : within (getD g (j - 1) 0) left ≡ false → DownTo b g (getD g i 0) i sets first left (j - 1)
     down-passed e = record {
       some = omega arith;
       place = omega (arith, now .place);
-      sixteen = now .sixteen;
+      sized = now .sized;
       room = now .room;
       few = now .few;
       once = now .once;
@@ -169,14 +170,14 @@ module _ {g : List ℕ} (can : Countable g) {i : ℕ} (one : 1 ≤ i) (last : i 
       w : Within x left
       w = within-true x left e
 
-      -- fewer than sixteen are stored
+      -- there is room for it
       pub down-room : 1 ≤ first
       down-room = omega (arith, size-some some-x, size-minus left x w, now .room)
 
       front : drop (first - 1) (set sets (first - 1) x) ≡ x ∷ drop first sets
       front =
           let next : first - 1 + 1 ≡ first = omega (arith, down-room) in
-          drop-set-here sets (first - 1) x (omega (arith, down-room, now .few, now .sixteen)) ∙ ap (λ (k : ℕ). x ∷ drop k sets) next
+          drop-set-here sets (first - 1) x (omega (arith, down-room, now .few, now .sized)) ∙ ap (λ (k : ℕ). x ∷ drop k sets) next
 
       cases : {y : ℕ} → Among y (drop (first - 1) (set sets (first - 1) x)) → (y ≡ x) ⊎ Among y (drop first sets)
       cases {y} m = List·Memᴰ·cases-cons (subst (λ (l : List ℕ). Among y l) front m)
@@ -186,12 +187,12 @@ module _ {g : List ℕ} (can : Countable g) {i : ℕ} (one : 1 ≤ i) (last : i 
       stored {y} (inr m) = subst (λ (l : List ℕ). Among y l) (sym front) (there m)
 
       -- the next place
-      pub down-taken : DownTo g (getD g i 0) i (set sets (first - 1) (getD g (j - 1) 0)) (first - 1) (left - getD g (j - 1) 0) (j - 1)
+      pub down-taken : DownTo b g (getD g i 0) i (set sets (first - 1) (getD g (j - 1) 0)) (first - 1) (left - getD g (j - 1) 0) (j - 1)
       unfolding NoneTwice
       down-taken = record {
         some = omega arith;
         place = omega (arith, now .place);
-        sixteen = length-set sets (first - 1) x ∙ now .sixteen;
+        sized = length-set sets (first - 1) x ∙ now .sized;
         room = omega (arith, size-some some-x, size-minus left x w, now .room);
         few = omega (arith, now .few);
         once = subst (λ (l : List ℕ). NoneTwice l) (sym front) (λ m. omega (arith, below, now .are x m .1), now .once);
@@ -222,7 +223,7 @@ module _ {g : List ℕ} (can : Countable g) {i : ℕ} (one : 1 ≤ i) (last : i 
           gone k h f (no a) b = let y = now .rest k h a in (y .0, stored (inr (y .1)), y .2)
 
   -- all are passed
-  pub down-end : {sets : List ℕ} {first left j : ℕ} → DownTo g (getD g i 0) i sets first left j → j ≤ 1 → ChildrenIn (listed g) (getD g i 0) (drop first sets)
+  pub down-end : {sets : List ℕ} {first left j : ℕ} → DownTo b g (getD g i 0) i sets first left j → j ≤ 1 → ChildrenIn (listed g) (getD g i 0) (drop first sets)
   down-end {sets} {first} {left} {j} now done = record {
     once = now .once;
     are = λ y m. children-among (listed g) (getD g i 0) (now .are y m .0);

@@ -8,7 +8,7 @@ use lib.Dec.{eqb}
 use lib.ListN.{length, getD, drop, drop-of-length-le}
 use lib.Seq.{drop-cons}
 use Rattle.clusters.specs.Sets.{Within, union}
-use Rattle.clusters.proofs.Sets.{within-le, union-within, union-assoc}
+use Rattle.clusters.proofs.Sets.{within-le, union-within, union-comm, union-assoc, union-of-within}
 use Rattle.weights.specs.Subsets.{many, often, odds, evens}
 use Rattle.weights.proofs.SumOfLists.{many-cons, many-same}
 use Rattle.weights.proofs.SumOfUnions.{many-odds, many-evens}
@@ -36,6 +36,10 @@ module _ {entries joined c : ℕ} {l : List ℕ} (p : Parts entries joined (c �
 
   joined-fits : union joined c < entries
   joined-fits = omega (arith, within-le within-of, p .fits)
+
+-- what is joined has an entry
+pub joined-below : {entries joined : ℕ} {l : List ℕ} → Parts entries joined l → joined < entries
+joined-below p = omega (arith, within-le (p .joined-in), p .fits)
 
 -- ---- what is joined
 
@@ -111,6 +115,26 @@ joins-next false j c l one with-it without =
       even-parted z j c l,
     ))
 
+-- a set that lies within what is joined: of the unions with it and those without it all cancel, but for what is joined itself
+joins-held :
+    (odd : Bool) (j c : ℕ) (l : List ℕ) {f g : List ℕ} → Within c j → Changed (either odd (j ∷ []) []) (either odd [] (j ∷ [])) f g → Joins odd j (c ∷ l) f g
+joins-held odd j c l {f} {g} w one = go odd one
+  where
+    same : union j c ≡ j
+    same = union-comm j c ∙ union-of-within c w
+
+    odd-held : (z : ℕ) → often z (map (λ x. union j x) (odds (c ∷ l))) ≡ often z (j ∷ []) + often z (map (λ x. union j x) (evens l)) + often z (map (λ x. union j x) (odds l))
+    odd-held z =
+        odd-parted z j c l
+        ∙ ap (λ (k : ℕ). often z (k ∷ []) + often z (map (λ x. union k x) (evens l)) + often z (map (λ x. union j x) (odds l))) same
+
+    even-held : (z : ℕ) → often z (map (λ x. union j x) (evens (c ∷ l))) ≡ often z (map (λ x. union j x) (odds l)) + often z (map (λ x. union j x) (evens l))
+    even-held z = even-parted z j c l ∙ ap (λ (k : ℕ). often z (map (λ x. union k x) (odds l)) + often z (map (λ x. union j x) (evens l))) same
+
+    go : (odd : Bool) → Changed (either odd (j ∷ []) []) (either odd [] (j ∷ [])) f g → Joins odd j (c ∷ l) f g
+    go true d = changed-as d (λ z. omega (arith, odd-held z, even-held z, often-none z))
+    go false d = changed-as d (λ z. omega (arith, odd-held z, even-held z, often-none z))
+
 -- ---- the sets from a place on
 
 module _ (sets : List ℕ) (i : ℕ) where
@@ -134,6 +158,11 @@ module _ (sets : List ℕ) (i : ℕ) where
         subst (λ (r : List ℕ). Joins odd j r f k) (sym here-and-on)
         (joins-next odd j (getD sets i 0) (drop (i + 1) sets) (subst (λ (x : ℕ). Changed (either odd (x ∷ []) []) (either odd [] (x ∷ [])) f g) e one)
         (subst (λ (x : ℕ). Joins (not odd) x (drop (i + 1) sets) g h) e with-it) without)
+
+    -- where the set here lies within what is joined
+    pub joins-held-here :
+        (odd : Bool) (j : ℕ) {f g : List ℕ} → Within (getD sets i 0) j → Changed (either odd (j ∷ []) []) (either odd [] (j ∷ [])) f g → Joins odd j (drop i sets) f g
+    joins-held-here odd j {f} {g} w one = subst (λ (r : List ℕ). Joins odd j r f g) (sym here-and-on) (joins-held odd j (getD sets i 0) (drop (i + 1) sets) w one)
 
     -- with what is joined it has an entry
     pub fits-here : {entries j : ℕ} → Parts entries j (drop i sets) → union j (getD sets i 0) < entries

@@ -3,6 +3,7 @@ pub mod Changes
 pub mod Joins
 pub mod DownPass
 pub mod RootedChanges
+pub mod Grouping
 pub mod UnrootedChanges
 pub mod TreeChanges
 pub mod Steps

@@ -1,5 +1,5 @@
 -- What the parts that make the sums ask of one another: what one table has more and less than another, and which gene records have entries for all their sets.
-use Prim.Native.Nat.{ℕ, _+_, _-_, _*_, _%_, _≤_, _<_}
+use Prim.Native.Nat.{ℕ, _+_, _-_, _*_, _%_, _^_, _≤_, _<_}
 use mathlib.Core.Path.{_≡_}
 use mathlib.Core.Bool.{Bool, true, false, not}
 use mathlib.Core.List.{List, _∷_, List·Memᴰ}
@@ -7,10 +7,11 @@ use lib.Dec.{eqb}
 use lib.ListN.{length, getD, take, drop}
 use Rattle.clusters.specs.Sets.{Within, size}
 use Rattle.trees.specs.Lists.{Among, NoneTwice, keep}
-use Rattle.trees.specs.Records.{count, listed, largest, recordsIn, AllValid}
+use Rattle.trees.specs.Records.{count, listed, largest, recordsIn, wideRecordsIn, AllValidFor, AllValid}
 use Rattle.trees.specs.Valid.{among}
 use Rattle.trees.specs.Drawn.{children}
 use Rattle.trees.specs.Unrooted.{mayUnroot}
+use Rattle.weights.specs.Stand.{Parted}
 use Rattle.weights.specs.Subsets.{often, modulus, gathered, odds, evens}
 use Rattle.weights.specs.Work.{Countable, complements}
 use Rattle.weights.specs.declared.Rooting.{Rooting}
@@ -40,6 +41,12 @@ pub record Summable (entries : ℕ) (g : List ℕ) : Type 0 where
 abbrev pub AllSummable : ℕ → List (List ℕ) → Type 0
 AllSummable entries genes = (g : List ℕ) → List·Memᴰ g genes → Summable entries g
 
+-- the groups of n species of a stand, and an entry for each set of them
+pub record Grouped (n : ℕ) (groups : List ℕ) (entries : ℕ) : Type 0 where
+  pub few : n ≤ 16
+  pub long : n ≤ length groups
+  pub all-sets : entries ≡ 2 ^ n
+
 -- the children of p, each once, in some order
 pub record ChildrenIn (cs : List ℕ) (p : ℕ) (l : List ℕ) : Type 0 where
   pub once : NoneTwice l
@@ -53,13 +60,17 @@ pub record Parts (entries joined : ℕ) (l : List ℕ) : Type 0 where
   pub joined-in : Within joined of
   pub each-in : (x : ℕ) → Among x l → Within x of
 
--- what the nodes of some clusters add: with a root, the unions of an odd number of children of each that has more than one species
-unfoldable pub nodePlus : List ℕ → List ℕ → List ℕ
-nodePlus cs ps = gathered (λ p. odds (children cs p)) (keep (λ p. not (eqb (size p) 1)) ps)
+-- what the nodes of some clusters give, those that have more than one species
+unfoldable pub ofNodes : (ℕ → List ℕ) → List ℕ → List ℕ
+ofNodes give ps = gathered give (keep (λ p. not (eqb (size p) 1)) ps)
 
--- and what they take off
-unfoldable pub nodeMinus : List ℕ → List ℕ → List ℕ
-nodeMinus cs ps = gathered (λ p. p ∷ evens (children cs p)) (keep (λ p. not (eqb (size p) 1)) ps)
+-- with a root a node adds the unions of an odd number of its children
+abbrev pub nodePlus : List ℕ → ℕ → List ℕ
+nodePlus cs p = odds (children cs p)
+
+-- and takes off itself and the unions of an even number
+abbrev pub nodeMinus : List ℕ → ℕ → List ℕ
+nodeMinus cs p = p ∷ evens (children cs p)
 
 -- without a root: what a cluster but the whole adds, itself where it is a single species, else the whole
 abbrev pub ownPlus : ℕ → ℕ → ℕ
@@ -105,3 +116,14 @@ pub record Weighable (rooting : Rooting) (n : ℕ) (genes : List ℕ) (count : �
   pub genes-long : 32 * count ≤ length genes
   pub valid : AllValid n (recordsIn count genes)
   pub enter : rooting ≡ Unrooted → (g : List ℕ) → List·Memᴰ g (recordsIn count genes) → mayUnroot n g ≡ true
+
+-- a stand whose weights can be made by sums (#110): the groups of its species, which part its individuals, and gene records on these, few, lent whole, each valid
+pub record StandWeighable (n : ℕ) (groups : List ℕ) (genes : List ℕ) (count : ℕ) : Type 0 where
+  pub individuals : ℕ
+  pub few-species : n ≤ 16
+  pub few-individuals : individuals ≤ 32
+  pub groups-long : n ≤ length groups
+  pub parted : Parted individuals (take n groups)
+  pub few-genes : count ≤ 4096
+  pub genes-long : 64 * count ≤ length genes
+  pub valid : AllValidFor 32 individuals (wideRecordsIn count genes)

@@ -1,6 +1,7 @@
 // The weights of all clusters at once, by sums over subsets: what each gene tree adds and takes off at some sets, summed up over all parts of every set.
 mod entries;
 mod rooted;
+pub mod stand;
 mod unrooted;
 mod zeta;
 
@@ -64,7 +65,7 @@ fn count_sets(genes: &[u16], count: usize, lost: &mut [u16])
 
 // Entry 0 becomes 0. Every other sum gains the second table's entry of the species outside its set, which for `fill` is the number of gene trees that have none of the set's,
 // and loses the number of all gene trees, modulo 2^32.
-fn tell(count: usize, sums: &mut [u32], lost: &[u16])
+pub(crate) fn tell(count: usize, sums: &mut [u32], lost: &[u16])
     requires { ⌜ count ≤ 4096 ⌝ }
     requires { ⌜ 1 ≤ length (now sums) ⌝ }
     requires { ⌜ length (now sums) ≡ length (now lost) ⌝ }

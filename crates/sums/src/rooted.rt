@@ -9,7 +9,7 @@ ghost use Rattle.trees.specs.Records.{count, listed};
 ghost use Rattle.weights.specs.Subsets.{odds, evens, plusBy, minusBy};
 ghost use Rattle.weights.specs.Work.{Countable};
 ghost use Rattle.weights.specs.declared.Rooting.the-variants.{Rooted};
-ghost use Rattle.sums.specs.Work.{either, Changed, Summable, ChildrenIn, Parts, nodePlus, nodeMinus};
+ghost use Rattle.sums.specs.Work.{either, Changed, Summable, ChildrenIn, Parts, ofNodes, nodePlus, nodeMinus};
 
 // The children of a cluster: the sets from the first on.
 struct Children {
@@ -41,14 +41,20 @@ fn children_of(g: &[u16], i: usize) -> Children
 }
 
 // The unions of some of the sets from the i-th on with what is joined already: one more at those of an odd number, one less at those of an even number, or the other way round.
-fn add_unions(sets: &[u32], i: usize, joined: u32, odd: bool, sums: &mut [u32])
+pub(crate) fn add_unions(sets: &[u32], i: usize, joined: u32, odd: bool, sums: &mut [u32])
     requires { ⌜ Parts (length (now sums)) joined (drop i (now sets)) ⌝ }
     ensures { λ _. ⌜ Changed (map (λ x. union joined x) (either odd (odds (drop i (now (sets .entry)))) (evens (drop i (now (sets .entry)))))) (map (λ x. union joined x) (either odd (evens (drop i (now (sets .entry)))) (odds (drop i (now (sets .entry)))))) (now (sums .entry)) (now (sums .exit)) ⌝ }
 {
     if sets.len() <= i {
         return;
     }
-    let more = clusters::union(joined, sets[i]);
+    let next = sets[i];
+    // Each union with such a set is also one of one set more or less, and cancels; but with it alone it is what is joined.
+    if clusters::within(next, joined) {
+        change(odd, joined as usize, sums);
+        return;
+    }
+    let more = clusters::union(joined, next);
     change(odd, more as usize, sums);
     add_unions(sets, i + 1, more, !odd, sums);
     add_unions(sets, i + 1, joined, odd, sums);
@@ -59,7 +65,7 @@ fn add_node(g: &[u16], i: usize, sums: &mut [u32])
     requires { ⌜ Summable (length (now sums)) (now g) ⌝ }
     requires { ⌜ 1 ≤ i ⌝ }
     requires { ⌜ i ≤ count (now g) ⌝ }
-    ensures { λ _. ⌜ Changed (nodePlus (listed (now (g .entry))) (getD (now (g .entry)) i 0 ∷ [])) (nodeMinus (listed (now (g .entry))) (getD (now (g .entry)) i 0 ∷ [])) (now (sums .entry)) (now (sums .exit)) ⌝ }
+    ensures { λ _. ⌜ Changed (ofNodes (nodePlus (listed (now (g .entry)))) (getD (now (g .entry)) i 0 ∷ [])) (ofNodes (nodeMinus (listed (now (g .entry)))) (getD (now (g .entry)) i 0 ∷ [])) (now (sums .entry)) (now (sums .exit)) ⌝ }
 {
     let p = g[i] as u32;
     if clusters::size(p) == 1 {

@@ -2,7 +2,7 @@
 use Prim.Native.Nat.{ℕ, _^_}
 use mathlib.Core.Bool.{Bool, true, _||_, not}
 use mathlib.Core.List.{List}
-use lib.ListN.{getD}
+use lib.ListN.{getD, replicate}
 use lib.Dec.{eqb, leb, ltb}
 use Rattle.clusters.specs.Sets.{whole, size}
 use Rattle.roster.specs.Roster.{least}
@@ -18,6 +18,10 @@ allowedIn n bytes a = eqb (size a) 1 || eqb a (whole n) || eqb (getD bytes a 0) 
 abbrev pub allowedFor : Allowance → ℕ → List ℕ → ℕ → Bool
 allowedFor Every n bytes = λ a. true
 allowedFor Marked n bytes = allowedIn n bytes
+
+-- "over all clusters" (#114), as an allowed set of n species: 2^n bytes of 1
+abbrev pub everyCluster : ℕ → List ℕ
+everyCluster n = replicate (2 ^ n) 1
 
 -- the first of the 2^n bytes that is not 0 or 1; 2^n where there is none
 unfoldable pub firstStrange : ℕ → List ℕ → ℕ

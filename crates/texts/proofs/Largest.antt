@@ -94,7 +94,7 @@ module _ {r : List ℕ} {a : ℕ} (h : Listed r a) where
         above : (y : ℕ) → Among y (listed r) → Within y a → (y ≡ a → ⊥) → Within x y → x ≡ y
         above y m w n v =
             let f = h .valid .form in
-            let p = among-place r (count r) (f .thirty-two) (f .counted) y m in
+            let p = among-place r (count r) (f .sized) (f .counted) y m in
             let q : Inner r a i y = record { among = m; inside = w; other = n; holds = has-of-within x y i v (l .inner .holds) } in
             let b = l .most (p .place) (p .first) (let d = p .last in omega arith) (subst (λ (z : ℕ). Inner r a i z) (sym (p .there)) q) in
             let c = within-le v in
@@ -106,7 +106,7 @@ module _ {r : List ℕ} {a : ℕ} (h : Listed r a) where
       pub larger-next : {c s : ℕ} → s ≡ single i → c ≡ getD r places 0 → (properly c a && within s c) ≡ true → Largest r a i c (places + 1)
       larger-next {c} {s} d e t = record {
         inner = record {
-          among = subst (λ (z : ℕ). Among z (listed r)) (sym e) (place-among r (count r) (h .valid .form .thirty-two) (h .valid .form .counted) places one last);
+          among = subst (λ (z : ℕ). Among z (listed r)) (sym e) (place-among r (count r) (h .valid .form .sized) (h .valid .form .counted) places one last);
           inside = p .0;
           other = p .1;
           holds = has-of-single c i (rw d at (within-true s c (both (properly c a) t .1)));

@@ -12,7 +12,7 @@ use Rattle.labels.specs.Labels.{doubled}
 use Rattle.labels.specs.Bytes.{isPrintable}
 use Rattle.labels.specs.Writing.{Name, mayBeBare, labelOf}
 use Rattle.trees.specs.Lists.{keep, some, upTo}
-use Rattle.trees.specs.Valid.{every, among, rising, singlesFrom, nested, valid, validGene}
+use Rattle.trees.specs.Valid.{every, among, rising, singlesFrom, nested, validFor, validGeneFor, validGene}
 use Rattle.trees.specs.Drawn.{properly, maximal, placed, byLowest, children, drawnTo, drawn}
 use Rattle.trees.proofs.Booleans.{both}
 use Rattle.trees.proofs.UpTo.{map-upTo}
@@ -65,7 +65,7 @@ unfolding Each every
 quoted-names-named = (behind-quotes 39 refl, all-behind (97 ∷ 98 ∷ 99 ∷ 100 ∷ 101 ∷ 102 ∷ 103 ∷ 104 ∷ 105 ∷ 106 ∷ 107 ∷ 108 ∷ 109 ∷ 110 ∷ 111 ∷ []) refl)
 
 pub one-by-one-valid : validGene 16 oneByOne ≡ true
-unfolding validGene valid every among some rising singlesFrom nested has within apart single
+unfolding validGeneFor validFor every among some rising singlesFrom nested has within apart single
 one-by-one-valid = refl
 
 pub longest-reached : length (written quotedNames oneByOne) ≡ 543

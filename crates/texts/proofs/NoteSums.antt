@@ -1,17 +1,17 @@
 -- The bytes of the notes behind the nodes of a record's tree: as many as those of the record's clusters, place by place.
-use Prim.Native.Nat.{ℕ, zero, suc, _+_, _*_, _/_, _^_, _≤_, _<_, min, max}
+use Prim.Native.Nat.{ℕ, zero, suc, _+_, _*_, _/_, _^_, _≤_, _<_}
 use mathlib.Core.Path.{_≡_, refl, sym, ap, _∙_}
 use mathlib.Core.List.{List, [], _∷_, map, List·Memᴰ·head as here, List·Memᴰ·tail as there}
 use native.Mathlib.Nat.{mul-suc, pow-suc}
-use native.Mathlib.Decide.{decLe, decLt}
+use native.Mathlib.Decide.{decLt}
 use native.Mathlib.Omega.{arith}
 use lib.ListN.{length, getD, take, drop, length-drop}
 use lib.Seq.{take-suc, getD-drop}
-use Rattle.trees.specs.Lists.{Among, insert, sorted, total}
+use Rattle.trees.specs.Lists.{Among, sorted, total}
 use Rattle.trees.specs.Tree.{clusters}
 use Rattle.trees.specs.Records.{count, listed, Form, ValidOn}
 use Rattle.trees.specs.Drawn.{drawn}
-use Rattle.trees.proofs.Totals.{total-append}
+use Rattle.trees.proofs.Totals.{total-append, total-sorted}
 use Rattle.trees.proofs.Recorded.{listed-record}
 use Rattle.trees.proofs.Drawing.{drawn-record}
 use Rattle.printing.specs.Words.{decimal}
@@ -24,28 +24,11 @@ use Rattle.texts.specs.Work.{noteAt, Notes, notesTo}
 abbrev pub noteBytes : (ℕ → List ℕ) → List ℕ → ℕ
 noteBytes notes l = total (map (λ a. length (notes a)) l)
 
--- ---- in any order
-
-total-insert : (w : ℕ → ℕ) (x : ℕ) (l : List ℕ) → total (map w (insert x l)) ≡ w x + total (map w l)
-unfolding total insert
-total-insert w x [] = refl
-total-insert w x (y ∷ l) = go (decLe x y) (total-insert w (max x y) l)
-  where
-    go : Dec (x ≤ y) → total (map w (insert (max x y) l)) ≡ w (max x y) + total (map w l)
-        → w (min x y) + total (map w (insert (max x y) l)) ≡ w x + (w y + total (map w l))
-    go (yes h) ih = omega (arith, ap w {x = min x y} {y = x} (omega arith), ap w {x = max x y} {y = y} (omega arith))
-    go (no h) ih = omega (arith, ap w {x = min x y} {y = y} (omega (arith, h)), ap w {x = max x y} {y = x} (omega (arith, h)))
-
-total-sorted : (w : ℕ → ℕ) (l : List ℕ) → total (map w (sorted l)) ≡ total (map w l)
-unfolding total sorted
-total-sorted w [] = refl
-total-sorted w (x ∷ l) = total-insert w x (sorted l) ∙ ap (λ n. w x + n) (total-sorted w l)
-
 -- the tree that a record draws has the notes of the record's clusters
 pub drawn-notes : (notes : ℕ → List ℕ) {s : ℕ} {r : List ℕ} → ValidOn s r → s < 2 ^ 16 → noteBytes notes (clusters (drawn (listed r) s)) ≡ noteBytes notes (listed r)
 drawn-notes notes {s} {r} v b =
     let cs = clusters (drawn (listed r) s) in
-    let same : sorted cs ≡ listed r = sym (listed-record cs) ∙ ap (λ (k : List ℕ). listed k) (drawn-record v b) in
+    let same : sorted cs ≡ listed r = sym (listed-record 16 cs) ∙ ap (λ (k : List ℕ). listed k) (drawn-record v b) in
     sym (total-sorted (λ a. length (notes a)) cs) ∙ ap (λ (l : List ℕ). noteBytes notes l) same
 
 -- ---- place by place
@@ -62,7 +45,7 @@ module _ (counts : List ℕ) (notes : ℕ → List ℕ) (l : List ℕ) where
 
 pub listed-notes : {counts r : List ℕ} {notes : ℕ → List ℕ} → Form r → Notes counts r notes → noteBytes notes (listed r) ≡ notesTo counts (count r)
 listed-notes {counts} {r} {notes} f given =
-    notes-to counts notes (drop 1 r) (count r) (let l = length-drop 1 r in let c = f .counted in let d = f .thirty-two in omega arith)
+    notes-to counts notes (drop 1 r) (count r) (let l = length-drop 1 r in let c = f .counted in let d = f .sized in omega arith)
     (λ i h.
     let next : 1 + i ≡ suc i = omega arith in
     ap notes (getD-drop 1 r i 0 ∙ ap (λ (k : ℕ). getD r k 0) next) ∙ given .each (suc i) (omega arith) (omega arith))

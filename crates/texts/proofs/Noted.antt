@@ -26,7 +26,7 @@ use Rattle.texts.specs.Work.{noteAt, Notes, placeOf, noteIn, notesTo}
 pub notes-agree :
     {counts r : List ℕ} {notes notes′ : ℕ → List ℕ} → Form r → Notes counts r notes → Notes counts r notes′ → (a : ℕ) → Among a (listed r) → notes a ≡ notes′ a
 notes-agree {counts} {r} {notes} {notes′} f given given′ a m =
-    let p = among-place r (count r) (f .thirty-two) (f .counted) a m in
+    let p = among-place r (count r) (f .sized) (f .counted) a m in
     ap notes (sym (p .there)) ∙ given .each (p .place) (p .first) (p .last) ∙ sym (given′ .each (p .place) (p .first) (p .last)) ∙ ap notes′ (p .there)
 
 -- in a rising list a number stands at one place
@@ -46,8 +46,8 @@ notes-in counts {r} f = record { each = each }
     each : (i : ℕ) → 1 ≤ i → i ≤ count r → noteAt counts (suc (placeOf (getD r i 0) (listed r))) ≡ noteAt counts i
     each i one most =
         let n : i - 1 + 1 ≡ i = omega arith in
-        let at = listed-place r (count r) (f .thirty-two) (f .counted) (i - 1) (omega arith) ∙ ap (λ (k : ℕ). getD r k 0) n in
-        let p = place-rising (listed r) (f .rising) (i - 1) (let l = listed-length r (count r) (f .thirty-two) (f .counted) in omega arith) in
+        let at = listed-place r (count r) (f .sized) (f .counted) (i - 1) (omega arith) ∙ ap (λ (k : ℕ). getD r k 0) n in
+        let p = place-rising (listed r) (f .rising) (i - 1) (let l = listed-length r (count r) (f .sized) (f .counted) in omega arith) in
         let q : suc (i - 1) ≡ i = omega arith in
         ap (λ (k : ℕ). noteAt counts k) (ap suc (ap (λ (b : ℕ). placeOf b (listed r)) (sym at) ∙ p) ∙ q)
 
@@ -58,7 +58,7 @@ note-placed counts {r} {i} {a} f one most e = ap (λ (b : ℕ). noteIn counts r 
 -- a cluster of the record that stands at none of the places passed stands at one that comes
 pub place-ahead : {r : List ℕ} {a i : ℕ} → Form r → Among a (listed r) → ((k : ℕ) → k < i → 1 ≤ k → getD r k 0 ≡ a → ⊥) → i ≤ count r
 place-ahead {r} {a} {i} f m passed =
-    let p = among-place r (count r) (f .thirty-two) (f .counted) a m in
+    let p = among-place r (count r) (f .sized) (f .counted) a m in
     go (decLe i (p .place)) (λ l. passed (p .place) l (p .first) (p .there)) (p .last)
   where
     go : {k : ℕ} → Dec (i ≤ k) → (k < i → ⊥) → k ≤ count r → i ≤ count r
@@ -82,7 +82,7 @@ note-short (k ∷ counts) i = let l = decimal-length (getD (k ∷ counts) i 0) i
 
 pub notes-short : {counts r : List ℕ} {notes : ℕ → List ℕ} → Form r → Notes counts r notes → (a : ℕ) → Among a (listed r) → length (notes a) ≤ 21
 notes-short {counts} {r} {notes} f given a m =
-    let p = among-place r (count r) (f .thirty-two) (f .counted) a m in
+    let p = among-place r (count r) (f .sized) (f .counted) a m in
     let e = ap (λ (b : ℕ). length (notes b)) (p .there) in
     let d = ap length (given .each (p .place) (p .first) (p .last)) in
     let l = note-short counts (p .place) in

@@ -15,8 +15,9 @@ use Rattle.clusters.proofs.Sets.{within-refl, within-trans, within-true, true-w
 use Rattle.clusters.proofs.Sizes.{size-single, size-within-lt}
 use Rattle.clusters.proofs.LowestSpecies.{lowest-apart}
 use Rattle.trees.specs.Lists.{Among, NoneTwice, Rising, keep, some}
-use Rattle.trees.specs.Records.{listed, ValidOn}
+use Rattle.trees.specs.Records.{listed, ValidFor}
 use Rattle.trees.specs.Drawn.{properly, maximal, children}
+use Rattle.trees.proofs.Breadth.{Small, small-of-digits}
 use Rattle.trees.proofs.Listing.{keep-among, among-keep, some-of, of-some, none-twice-keep}
 use Rattle.trees.proofs.Order.{rising-none-twice}
 use Rattle.trees.proofs.Nodes.{Inside, AllNested}
@@ -46,9 +47,9 @@ pub record Hierarchy (s : ℕ) (cs : List ℕ) : Type 0 where
   pub inside : Inside cs s
   pub nested : AllNested cs
 
-pub hierarchy-of-valid : {s : ℕ} {r : List ℕ} → ValidOn s r → s < 2 ^ 16 → Hierarchy s (listed r)
-hierarchy-of-valid {s} {r} v b = record {
-  below = omega arith;
+pub hierarchy-of-valid : {b s : ℕ} {r : List ℕ} → ValidFor b s r → Small b s → Hierarchy s (listed r)
+hierarchy-of-valid {b} {s} {r} v small = record {
+  below = small-of-digits b small;
   once = rising-none-twice (listed r) (v .form .rising);
   singles = v .singles;
   all = v .all;

@@ -15,11 +15,12 @@ use Rattle.clusters.proofs.Sets.{within-single, union-zero}
 use Rattle.clusters.proofs.Sizes.{size-some, size-within-lt}
 use Rattle.clusters.proofs.LowestSpecies.{single-lowest}
 use Rattle.trees.specs.Lists.{Among, NoneTwice}
-use Rattle.trees.specs.Records.{listed, recordOf, ValidOn}
+use Rattle.trees.specs.Records.{listed, recordFor, ValidFor}
 use Rattle.trees.specs.Tree.{Tree, Forest, leaves, leavesOf, cluster, clusterOf, clusters, clustersOf, On}
 use Rattle.trees.specs.Tree.Tree.{leaf, node}
 use Rattle.trees.specs.Tree.Forest.{last, more}
 use Rattle.trees.specs.Drawn.{children, bare, forestOver, nodeOver, drawnBy, drawnTo, drawn}
+use Rattle.trees.proofs.Breadth.{Small}
 use Rattle.trees.proofs.Listing.{none-twice-append, none-twice-one}
 use Rattle.trees.proofs.Nodes.{leaf-has, leafOf-has, clusters-once}
 use Rattle.trees.proofs.Recorded.{record-same}
@@ -180,11 +181,11 @@ drawn-leaf cs a e =
 -- ---- the tree that a valid record draws
 
 -- it is on the record's species
-pub drawn-on : {s : ℕ} {r : List ℕ} → ValidOn s r → s < 2 ^ 16 → On s (drawn (listed r) s)
-drawn-on v b = drawn-draws (hierarchy-of-valid v b) (v .all) .on
+pub drawn-on : {b s : ℕ} {r : List ℕ} → ValidFor b s r → Small b s → On s (drawn (listed r) s)
+drawn-on v small = drawn-draws (hierarchy-of-valid v small) (v .all) .on
 
 -- and the record is its record
-pub drawn-record : {s : ℕ} {r : List ℕ} → ValidOn s r → s < 2 ^ 16 → recordOf (clusters (drawn (listed r) s)) ≡ r
-drawn-record {s} {r} v b =
-    let d = drawn-draws (hierarchy-of-valid v b) (v .all) in
-    record-same (clusters (drawn (listed r) s)) r (v .form) (clusters-once (drawn (listed r) s) (d .on .once)) (d .fewer) (λ x h. d .every x h (v .inside x h .1))
+pub drawn-record : {b s : ℕ} {r : List ℕ} → ValidFor b s r → Small b s → recordFor b (clusters (drawn (listed r) s)) ≡ r
+drawn-record {b} {s} {r} v small =
+    let d = drawn-draws (hierarchy-of-valid v small) (v .all) in
+    record-same (clusters (drawn (listed r) s)) v (clusters-once (drawn (listed r) s) (d .on .once)) (d .fewer) (λ x h. d .every x h (v .inside x h .1))

@@ -23,7 +23,7 @@ steps-of-rising (x ∷ []) h k b = absurd (omega arith)
 steps-of-rising (x ∷ y ∷ l) h zero b = h .0
 steps-of-rising (x ∷ y ∷ l) h (suc k) b = steps-of-rising (y ∷ l) (h .1) k (omega arith)
 
-module _ (r : List ℕ) (m : ℕ) (long : length r ≡ 32) (few : m ≤ 31) where
+module _ {size : ℕ} (r : List ℕ) (m : ℕ) (long : length r ≡ size) (few : m ≤ size - 1) where
   pub rising-of-places : ((i : ℕ) → 1 ≤ i → i < m → getD r i 0 < getD r (i + 1) 0) → Rising (take m (drop 1 r))
   rising-of-places f = rising-of-steps (take m (drop 1 r)) step
     where
@@ -47,19 +47,19 @@ module _ (r : List ℕ) (m : ℕ) (long : length r ≡ 32) (few : m ≤ 31) wher
 
   -- ---- zeros
 
-  behind-length : length (drop (1 + m) r) ≡ 31 - m
+  behind-length : length (drop (1 + m) r) ≡ size - 1 - m
   behind-length = simp length-drop (omega arith)
 
-  pub zeros-of-places : ((i : ℕ) → m < i → i < 32 → getD r i 0 ≡ 0) → drop (1 + m) r ≡ replicate (31 - m) 0
-  zeros-of-places f = ext-getD 0 (drop (1 + m) r) (replicate (31 - m) 0) (behind-length ∙ sym (length-replicate (31 - m) 0)) each
+  pub zeros-of-places : ((i : ℕ) → m < i → i < size → getD r i 0 ≡ 0) → drop (1 + m) r ≡ replicate (size - 1 - m) 0
+  zeros-of-places f = ext-getD 0 (drop (1 + m) r) (replicate (size - 1 - m) 0) (behind-length ∙ sym (length-replicate (size - 1 - m) 0)) each
     where
-      each : (i : ℕ) → i < length (drop (1 + m) r) → getD (drop (1 + m) r) i 0 ≡ getD (replicate (31 - m) 0) i 0
+      each : (i : ℕ) → i < length (drop (1 + m) r) → getD (drop (1 + m) r) i 0 ≡ getD (replicate (size - 1 - m) 0) i 0
       each i h =
-          let b : i < 31 - m = omega (arith, behind-length) in
-          getD-drop (1 + m) r i 0 ∙ f (1 + m + i) (omega arith) (omega arith) ∙ sym (getD-replicate (31 - m) i 0 0 b)
+          let b : i < size - 1 - m = omega (arith, behind-length) in
+          getD-drop (1 + m) r i 0 ∙ f (1 + m + i) (omega arith) (omega arith) ∙ sym (getD-replicate (size - 1 - m) i 0 0 b)
 
-  pub places-of-zeros : drop (1 + m) r ≡ replicate (31 - m) 0 → (i : ℕ) → m < i → i < 32 → getD r i 0 ≡ 0
+  pub places-of-zeros : drop (1 + m) r ≡ replicate (size - 1 - m) 0 → (i : ℕ) → m < i → i < size → getD r i 0 ≡ 0
   places-of-zeros e i past end =
       let k : 1 + m + (i - (1 + m)) ≡ i = omega arith in
       ap (λ (n : ℕ). getD r n 0) (sym k) ∙ sym (getD-drop (1 + m) r (i - (1 + m)) 0) ∙ ap (λ (l : List ℕ). getD l (i - (1 + m)) 0) e
-      ∙ getD-replicate (31 - m) (i - (1 + m)) 0 0 (omega arith)
+      ∙ getD-replicate (size - 1 - m) (i - (1 + m)) 0 0 (omega arith)

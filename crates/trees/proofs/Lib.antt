@@ -1,5 +1,6 @@
 pub mod Booleans
 pub mod Bounds
+pub mod Breadth
 pub mod Children
 pub mod Counts
 pub mod Drawing

@@ -1,5 +1,5 @@
 -- A tree is determined by its record, up to the order of children and what was written behind nodes.
-use Prim.Native.Nat.{ℕ, _^_, _≤_, _<_}
+use Prim.Native.Nat.{ℕ, _≤_, _<_}
 use mathlib.Core.Path.{_≡_, refl, sym, ap, _∙_, subst}
 use mathlib.Core.Logic.{_⊎_, inl, inr}
 use mathlib.Core.List.{List, [], _∷_, _++_, List·Memᴰ, List·Memᴰ·head as here, List·Memᴰ·tail as there, List·Memᴰ·not-nil, List·Memᴰ·cases-cons, List·Memᴰ·append-cases, List·Memᴰ·eq-of-singleton, Memᴰ·cast, Memᴰ·append-left, Memᴰ·append-right}
@@ -8,7 +8,7 @@ use Rattle.clusters.specs.Sets.{Has, Within, Apart, union}
 use Rattle.clusters.proofs.Members.{has-single, single-has}
 use Rattle.clusters.proofs.Sets.{within-refl, within-trans, within-antisym, within-union-left, within-union-right, apart-sym, apart-within, within-apart}
 use Rattle.trees.specs.Lists.{Among, NoneTwice}
-use Rattle.trees.specs.Records.{listed, recordOf}
+use Rattle.trees.specs.Records.{listed, recordFor}
 use Rattle.trees.specs.Tree.{Tree, Forest, Behind, leaves, leavesOf, cluster, clusterOf, clusters, clustersOf, On}
 use Rattle.trees.specs.Tree.Tree.{leaf, node}
 use Rattle.trees.specs.Tree.Forest.{last, more}
@@ -18,6 +18,7 @@ use Rattle.trees.specs.Drawn.Alike.{leaves as like-leaves, nodes}
 use Rattle.trees.specs.Drawn.AlikeAll.{none, next}
 use Rattle.trees.proofs.Listing.{none-twice-left, none-twice-right, none-twice-parts}
 use Rattle.trees.proofs.Nodes.{children-apart, cluster-some, clusters-inside, whole-among, clusters-once}
+use Rattle.trees.proofs.Breadth.{Small, small-in-breadth}
 use Rattle.trees.proofs.Recorded.{among-record, record-among, valid-of-drawn}
 use Rattle.trees.proofs.Drawing.{drawn-on, drawn-record}
 
@@ -320,11 +321,13 @@ unfolding Agree
 alike-of-clusters {s} {t} {u} o q f g = agree-alike t u (o .once) (q .once) (f, g)
 
 -- "the tree unique up to the order of children"
-pub alike-of-record : {s : ℕ} {t u : Tree} → On s t → On s u → recordOf (clusters t) ≡ recordOf (clusters u) → Alike t u
-alike-of-record {s} {t} {u} o q e =
-    alike-of-clusters o q (λ x h. among-record (clusters u) (subst (λ (r : List ℕ). Among x (listed r)) e (record-among (clusters t) h)))
-    (λ x h. among-record (clusters t) (subst (λ (r : List ℕ). Among x (listed r)) (sym e) (record-among (clusters u) h)))
+pub alike-of-record : {s : ℕ} {t u : Tree} (b : ℕ) → On s t → On s u → recordFor b (clusters t) ≡ recordFor b (clusters u) → Alike t u
+alike-of-record {s} {t} {u} b o q e =
+    alike-of-clusters o q (λ x h. among-record b (clusters u) (subst (λ (r : List ℕ). Among x (listed r)) e (record-among b (clusters t) h)))
+    (λ x h. among-record b (clusters t) (subst (λ (r : List ℕ). Among x (listed r)) (sym e) (record-among b (clusters u) h)))
 
 -- a tree is alike to the one that its record draws
-pub alike-drawn : {s : ℕ} {t : Tree} → On s t → s < 2 ^ 16 → Alike t (drawn (listed (recordOf (clusters t))) s)
-alike-drawn o b = let v = valid-of-drawn o b in alike-of-record o (drawn-on v b) (sym (drawn-record v b))
+pub alike-drawn : {s : ℕ} {t : Tree} (b : ℕ) → On s t → Small b s → Alike t (drawn (listed (recordFor b (clusters t))) s)
+alike-drawn {s} {t} b o small =
+    let v = valid-of-drawn {b = b} o (small-in-breadth b small) in
+    alike-of-record b o (drawn-on v small) (sym (drawn-record v small))

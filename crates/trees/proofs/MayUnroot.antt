@@ -178,12 +178,12 @@ few-lost-same s e back (inr k) =
 -- whether a drawn tree is binary save that the root may have three children, its record says
 pub rooted-of-record : {s : ℕ} {t : Tree} {g : List ℕ} → On s t → recordOf (clusters t) ≡ g → RootedAnyhow t ↔ FewLost s (listed g)
 rooted-of-record {s} {t} {g} o e = subst (λ (g : List ℕ). RootedAnyhow t ↔ FewLost s (listed g)) e (
-  λ r. few-lost-same s (sym same) (λ x m. among-record (clusters t) m) (rooted-told o .0 r),
-  λ k. rooted-told o .1 (few-lost-same s same (λ x m. record-among (clusters t) m) k),
+  λ r. few-lost-same s (sym same) (λ x m. among-record 16 (clusters t) m) (rooted-told o .0 r),
+  λ k. rooted-told o .1 (few-lost-same s same (λ x m. record-among 16 (clusters t) m) k),
 )
   where
     same : length (listed (recordOf (clusters t))) ≡ length (clusters t)
-    same = ap length (listed-record (clusters t)) ∙ length-sorted (clusters t)
+    same = ap length (listed-record 16 (clusters t)) ∙ length-sorted (clusters t)
 
 -- "Only complete trees enter, binary save that the root may have three children" (#106): the records that pass the test are exactly the records of such trees
 pub may-unroot-exactly :

@@ -29,7 +29,7 @@ among-at other (List·Memᴰ·tail m) =
 
 -- ---- the clusters of a record
 
-module _ (r : List ℕ) (m : ℕ) (long : length r ≡ 32) (few : m ≤ 31) where
+module _ {size : ℕ} (r : List ℕ) (m : ℕ) (long : length r ≡ size) (few : m ≤ size - 1) where
   pub listed-length : length (take m (drop 1 r)) ≡ m
   listed-length = simp (length-take, length-drop) (omega arith)
 

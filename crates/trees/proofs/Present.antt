@@ -1,5 +1,5 @@
 -- Which clusters a record lists, place by place.
-use Prim.Native.Nat.{ℕ, _+_, _≤_, _<_}
+use Prim.Native.Nat.{ℕ, _+_, _-_, _≤_, _<_}
 use mathlib.Core.Path.{_≡_, sym, subst}
 use mathlib.Core.List.{List, Memᴰ·cast}
 use native.Mathlib.Omega.{arith}
@@ -13,7 +13,7 @@ use Rattle.trees.proofs.Places.{place-among, among-place}
 pub has-of-single : (s i : ℕ) → Within (single i) s → Has s i
 has-of-single s i w = has-of-within (single i) s i w (single-has i)
 
-module _ (r : List ℕ) (m : ℕ) (long : length r ≡ 32) (few : m ≤ 31) where
+module _ {size : ℕ} (r : List ℕ) (m : ℕ) (long : length r ≡ size) (few : m ≤ size - 1) where
   -- what holds at the places from 1 to m holds of all clusters
   pub all-of-places : (P : ℕ → Type 0) → ((i : ℕ) → i < m + 1 → 1 ≤ i → P (getD r i 0)) → (a : ℕ) → Among a (take m (drop 1 r)) → P a
   all-of-places P f a h =

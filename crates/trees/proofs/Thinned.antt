@@ -8,7 +8,7 @@ use lib.Pow.{pow-mono}
 use Rattle.clusters.specs.Sets.{Has, single, union}
 use Rattle.trees.specs.Lists.{Among, NoneTwice, Sublist}
 use Rattle.trees.specs.Lists.Sublist.{ends, kept, added}
-use Rattle.trees.specs.Records.{listed, recordOf, largest, ValidOn, GeneValid}
+use Rattle.trees.specs.Records.{listed, recordFor, largest, ValidFor, GeneValidFor}
 use Rattle.trees.specs.Tree.{Tree, Forest, Behind, On, leaves, leavesOf, cluster, clusterOf, clusters, clustersOf}
 use Rattle.trees.specs.Tree.Tree.{leaf, node}
 use Rattle.trees.specs.Tree.Forest.{last, more}
@@ -17,7 +17,7 @@ use Rattle.trees.proofs.Listing.{append-passes, sublist-append, sublist
 use Rattle.trees.proofs.Nodes.{has-leaf, clusters-once, cluster-some}
 use Rattle.trees.proofs.LostNodes.{root-left}
 use Rattle.trees.proofs.Matched.{fewer-le}
-use Rattle.trees.proofs.Recorded.{length-listed, record-form, among-record, record-among, valid-of-drawn}
+use Rattle.trees.proofs.Recorded.{length-listed, breadth-some, record-form, among-record, record-among, valid-of-drawn}
 use Rattle.trees.proofs.GeneRecords.{largest-of-valid, gene-of-valid}
 
 -- ---- what is left of a record
@@ -30,24 +30,25 @@ pub record Left (s : ℕ) (r cs : List ℕ) : Type 0 where
   pub all : Among s cs
 
 -- their record is valid on the same species
-pub left-valid : {s : ℕ} {r cs : List ℕ} → ValidOn s r → Left s r cs → ValidOn s (recordOf cs)
-left-valid {s} {r} {cs} v l = record {
-  form = record-form cs (l .once) (let most = v .form .counted in omega (arith, fewer-le cs (listed r) (l .once) (l .fewer), length-listed r (v .form)));
-  singles = λ i h. record-among cs (l .singles i h);
-  all = record-among cs (l .all);
-  inside = λ a m. v .inside a (l .fewer a (among-record cs m));
-  nested = λ a b m k. v .nested a b (l .fewer a (among-record cs m)) (l .fewer b (among-record cs k));
+pub left-valid : {b s : ℕ} {r cs : List ℕ} → ValidFor b s r → Left s r cs → ValidFor b s (recordFor b cs)
+left-valid {b} {s} {r} {cs} v l = record {
+  form = record-form cs (l .once)
+      (let most = v .form .counted in omega (arith, breadth-some v, fewer-le cs (listed r) (l .once) (l .fewer), length-listed r (v .form)));
+  singles = λ i h. record-among b cs (l .singles i h);
+  all = record-among b cs (l .all);
+  inside = λ a m. v .inside a (l .fewer a (among-record b cs m));
+  nested = λ a c m k. v .nested a c (l .fewer a (among-record b cs m)) (l .fewer c (among-record b cs k));
 }
 
 -- and it is the first one thinned
-pub left-thinned : {s : ℕ} {r cs : List ℕ} → ValidOn s r → Left s r cs → Thinned r (recordOf cs)
-left-thinned {s} {r} {cs} v l = record {
+pub left-thinned : {b s : ℕ} {r cs : List ℕ} → ValidFor b s r → Left s r cs → Thinned r (recordFor b cs)
+left-thinned {b} {s} {r} {cs} v l = record {
   same-species = largest-of-valid (left-valid v l) ∙ sym (largest-of-valid v);
-  fewer = λ x m. l .fewer x (among-record cs m);
+  fewer = λ x m. l .fewer x (among-record b cs m);
 }
 
 -- what is left of a valid gene record is a valid gene record
-pub gene-left : {n : ℕ} {r cs : List ℕ} → GeneValid n r → Left (largest r) r cs → GeneValid n (recordOf cs) × Thinned r (recordOf cs)
+pub gene-left : {b n : ℕ} {r cs : List ℕ} → GeneValidFor b n r → Left (largest r) r cs → GeneValidFor b n (recordFor b cs) × Thinned r (recordFor b cs)
 gene-left g l = (gene-of-valid (left-valid (g .valid) l) (g .of-roster), left-thinned (g .valid) l)
 
 -- ---- what is left of a drawn tree
@@ -135,36 +136,36 @@ module _ (weak : Behind → Bool) where
   belowOf-of-all f =
       subst (Sublist (leftBelowOf weak f)) (belowOf-all (λ b. false) (λ b. refl) f) (belowOf-fewer (λ b. false) weak (λ b e. absurd (false≢true e)) f)
 
--- ---- a drawn tree on at most 16 species
+-- ---- a drawn tree on at most b species
 
-module _ {n s : ℕ} {t : Tree} (few : n ≤ 16) (o : On s t) (below : s < 2 ^ n) where
-  small : s < 2 ^ 16
-  small = omega (arith, pow-mono {i = n} {j = 16} few)
+module _ {b n s : ℕ} {t : Tree} (few : n ≤ b) (o : On s t) (below : s < 2 ^ n) where
+  drawn-valid : ValidFor b s (recordFor b (clusters t))
+  drawn-valid = valid-of-drawn o (omega (arith, pow-mono {i = n} {j = b} few))
 
-  drawn-left : (weak : Behind → Bool) → Left s (recordOf (clusters t)) (clustersLeft weak t)
+  drawn-left : (weak : Behind → Bool) → Left s (recordFor b (clusters t)) (clustersLeft weak t)
   drawn-left weak = record {
     once = sublist-once (left-of-all weak t) (clusters-once t (o .once));
-    fewer = λ x m. record-among (clusters t) (sublist-among (left-of-all weak t) x m);
+    fewer = λ x m. record-among b (clusters t) (sublist-among (left-of-all weak t) x m);
     singles = λ i h. sublist-among (below-in-left weak t) (single i) (below-single weak t i (has-leaf t i (rw (o .all) h)));
     all = rw (← o .all) (root-left weak t);
   }
 
-  left-on : (weak : Behind → Bool) → ValidOn s (recordOf (clustersLeft weak t))
-  left-on weak = left-valid (valid-of-drawn o small) (drawn-left weak)
+  left-on : (weak : Behind → Bool) → ValidFor b s (recordFor b (clustersLeft weak t))
+  left-on weak = left-valid drawn-valid (drawn-left weak)
 
   -- whatever inner nodes lose their clusters, what is left is a valid gene record
-  pub drawn-left-valid : (weak : Behind → Bool) → GeneValid n (recordOf (clustersLeft weak t))
+  pub drawn-left-valid : (weak : Behind → Bool) → GeneValidFor b n (recordFor b (clustersLeft weak t))
   drawn-left-valid weak = gene-of-valid (left-on weak) (rw (← o .all) (cluster-some t), below)
 
   -- on the tree's species, with some of its clusters
-  pub drawn-thinned : (weak : Behind → Bool) → Thinned (recordOf (clusters t)) (recordOf (clustersLeft weak t))
-  drawn-thinned weak = left-thinned (valid-of-drawn o small) (drawn-left weak)
+  pub drawn-thinned : (weak : Behind → Bool) → Thinned (recordFor b (clusters t)) (recordFor b (clustersLeft weak t))
+  drawn-thinned weak = left-thinned drawn-valid (drawn-left weak)
 
   -- "never leaves a cluster that a lower one dropped" (#113): where more nodes are weak, the record is thinner
   pub weaker-thinned :
       (weak weaker : Behind → Bool) → ((b : Behind) → weak b ≡ true → weaker b ≡ true)
-      → Thinned (recordOf (clustersLeft weak t)) (recordOf (clustersLeft weaker t))
+      → Thinned (recordFor b (clustersLeft weak t)) (recordFor b (clustersLeft weaker t))
   weaker-thinned weak weaker also = record {
     same-species = largest-of-valid (left-on weaker) ∙ sym (largest-of-valid (left-on weak));
-    fewer = λ x m. record-among (clustersLeft weak t) (sublist-among (left-fewer weak weaker also t) x (among-record (clustersLeft weaker t) m));
+    fewer = λ x m. record-among b (clustersLeft weak t) (sublist-among (left-fewer weak weaker also t) x (among-record b (clustersLeft weaker t) m));
   }

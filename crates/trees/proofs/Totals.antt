@@ -1,10 +1,11 @@
 -- Sums over a list.
-use Prim.Native.Nat.{ℕ, _+_, _≤_}
+use Prim.Native.Nat.{ℕ, _+_, _≤_, min, max}
 use mathlib.Core.Path.{_≡_, refl, sym, ap, ap₂, _∙_}
 use mathlib.Core.Logic.{_⊎_, inl, inr}
 use mathlib.Core.List.{List, [], _∷_, _++_, map, List·Memᴰ, List·Memᴰ·head as here, List·Memᴰ·tail as there, List·Memᴰ·not-nil, List·Memᴰ·cases-cons}
+use native.Mathlib.Decide.{decLe}
 use native.Mathlib.Omega.{arith}
-use Rattle.trees.specs.Lists.{total}
+use Rattle.trees.specs.Lists.{insert, sorted, total}
 
 pub total-append : {A : Type 0} (w : A → ℕ) (l k : List A) → total (map w (l ++ k)) ≡ total (map w l) + total (map w k)
 unfolding total
@@ -25,6 +26,23 @@ one-le-total f (y ∷ l) x m = go (List·Memᴰ·cases-cons m) (one-le-total f l
     go : (x ≡ y) ⊎ List·Memᴰ x l → (List·Memᴰ x l → f x ≤ total (map f l)) → f x ≤ f y + total (map f l)
     go (inl e) later = omega (arith, ap f e)
     go (inr k) later = omega (arith, later k)
+
+-- ---- in any order
+
+total-insert : (w : ℕ → ℕ) (x : ℕ) (l : List ℕ) → total (map w (insert x l)) ≡ w x + total (map w l)
+unfolding total insert
+total-insert w x [] = refl
+total-insert w x (y ∷ l) = go (decLe x y) (total-insert w (max x y) l)
+  where
+    go : Dec (x ≤ y) → total (map w (insert (max x y) l)) ≡ w (max x y) + total (map w l)
+        → w (min x y) + total (map w (insert (max x y) l)) ≡ w x + (w y + total (map w l))
+    go (yes h) ih = omega (arith, ap w {x = min x y} {y = x} (omega arith), ap w {x = max x y} {y = y} (omega arith))
+    go (no h) ih = omega (arith, ap w {x = min x y} {y = y} (omega (arith, h)), ap w {x = max x y} {y = x} (omega (arith, h)))
+
+pub total-sorted : (w : ℕ → ℕ) (l : List ℕ) → total (map w (sorted l)) ≡ total (map w l)
+unfolding total sorted
+total-sorted w [] = refl
+total-sorted w (x ∷ l) = total-insert w x (sorted l) ∙ ap (λ n. w x + n) (total-sorted w l)
 
 -- ---- sums that are compared part by part
 

@@ -159,4 +159,4 @@ module _ {s : ℕ} {cs : List ℕ} (h : Hierarchy s cs) (a : ℕ) {p x y : ℕ} 
 pub record-resolved :
     {s : ℕ} {t : Tree} → s < 2 ^ 16 → On s t → RootedAnyhow t → (p : ℕ) → Among p (listed (recordOf (clusters t)))
     → Resolved (listed (recordOf (clusters t))) s p
-record-resolved small o rooted = rooted-resolved (hierarchy-of-valid (valid-of-drawn o small) small) .0 (alike-rooted (alike-drawn o small) rooted)
+record-resolved small o rooted = rooted-resolved (hierarchy-of-valid (valid-of-drawn {b = 16} o small) small) .0 (alike-rooted (alike-drawn 16 o small) rooted)

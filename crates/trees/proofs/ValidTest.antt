@@ -1,4 +1,4 @@
--- The tests of a record decide what they test: `valid` says whether `ValidOn` holds, and `binary` whether `BinaryOn` does.
+-- The tests of a record decide what they test: `validFor` says whether `ValidFor` holds, and `binary` whether `BinaryOn` does.
 use Prim.Native.Nat.{ℕ, zero, suc, _+_, _-_, _*_, _/_, _%_, _^_, _≤_, _<_}
 use mathlib.Core.Path.{_≡_, refl, sym, ap, ap₂, _∙_, subst}
 use mathlib.Core.Logic.{_⊎_, inl, inr}
@@ -13,8 +13,8 @@ use Rattle.clusters.specs.Sets.{Has, Within, Apart, has, within, apart, single,
 use Rattle.clusters.proofs.Members.{has-below}
 use Rattle.clusters.proofs.Sets.{within-true, true-within, apart-true, true-apart}
 use Rattle.trees.specs.Lists.{Among, Below, Rising, some}
-use Rattle.trees.specs.Records.{count, listed, Nested, ValidOn, BinaryOn}
-use Rattle.trees.specs.Valid.{every, among, belowFirst, rising, singlesFrom, nested, valid, binary}
+use Rattle.trees.specs.Records.{count, listed, Nested, ValidFor, BinaryOn}
+use Rattle.trees.specs.Valid.{every, among, belowFirst, rising, singlesFrom, nested, validFor, binary}
 use Rattle.trees.specs.Decides.{Decides}
 use Rattle.trees.proofs.Booleans.{both, or-left, or-right}
 
@@ -77,10 +77,10 @@ tells-ltb a b = record { holds = ltb-true a b; told = lt-ltb a b }
 pub tells-within : (a b : ℕ) → Tells (within a b) (Within a b)
 tells-within a b = record { holds = within-true a b; told = true-within a b }
 
-tells-apart : (a b : ℕ) → Tells (apart a b) (Apart a b)
+pub tells-apart : (a b : ℕ) → Tells (apart a b) (Apart a b)
 tells-apart a b = record { holds = apart-true a b; told = true-apart a b }
 
-tells-has : (a i : ℕ) → Tells (has a i) (Has a i)
+pub tells-has : (a i : ℕ) → Tells (has a i) (Has a i)
 unfolding has Has
 tells-has a i = tells-eqb (a / 2 ^ i % 2) 1
 
@@ -159,7 +159,7 @@ zeros-of : (l : List ℕ) → ((x : ℕ) → Among x l → x ≡ 0) → l ≡ re
 zeros-of [] f = refl
 zeros-of (x ∷ l) f = ap₂ _∷_ (f x (here refl)) (zeros-of l (λ y h. f y (there h)))
 
-of-zeros : {x : ℕ} (n : ℕ) → Among x (replicate n 0) → x ≡ 0
+pub of-zeros : {x : ℕ} (n : ℕ) → Among x (replicate n 0) → x ≡ 0
 of-zeros zero h = absurd (List·Memᴰ·not-nil h)
 of-zeros {x} (suc n) h = go (List·Memᴰ·cases-cons h) (λ k. of-zeros n k)
   where
@@ -169,58 +169,58 @@ of-zeros {x} (suc n) h = go (List·Memᴰ·cases-cons h) (λ k. of-zeros n k)
 
 -- ---- the record
 
-module _ {s : ℕ} (r : List ℕ) (small : s < 65536) where
+module _ (b s : ℕ) (r : List ℕ) where
   -- the parts of the test, in its order
   Parts : Type 0
   Parts =
-      (((((((length r ≡ 32) × (count r ≤ 31)) × Rising (listed r)) × ((x : ℕ) → Among x (drop (1 + count r) r) → x ≡ 0))
-      × ((i : ℕ) → 0 ≤ i → i < 0 + 16 → Has s i → Among (single i) (listed r)))
+      (((((((length r ≡ 2 * b) × (count r ≤ 2 * b - 1)) × Rising (listed r)) × ((x : ℕ) → Among x (drop (1 + count r) r) → x ≡ 0))
+      × ((i : ℕ) → 0 ≤ i → i < 0 + b → Has s i → Among (single i) (listed r)))
       × Among s (listed r))
       × ((a : ℕ) → Among a (listed r) → (1 ≤ a) × Within a s))
       × ((a b : ℕ) → Among a (listed r) → Among b (listed r) → Nested a b)
 
-  tells-parts : Tells (valid s r) Parts
-  unfolding valid Parts
+  tells-parts : Tells (validFor b s r) Parts
+  unfolding validFor Parts
   tells-parts =
       tells-and
       (tells-and
       (tells-and
       (tells-and
-      (tells-and (tells-and (tells-and (tells-eqb (length r) 32) (tells-leb (count r) 31)) (tells-rising (listed r)))
+      (tells-and (tells-and (tells-and (tells-eqb (length r) (2 * b)) (tells-leb (count r) (2 * b - 1))) (tells-rising (listed r)))
       (tells-every (λ x. eqb x 0) (drop (1 + count r) r) (λ x. tells-eqb x 0)))
-      (tells-singles 16 0 s (listed r)))
+      (tells-singles b 0 s (listed r)))
       (tells-among s (listed r)))
       (tells-every (λ a. leb 1 a && within a s) (listed r) (λ a. tells-and (tells-leb 1 a) (tells-within a s))))
       (tells-nested (listed r))
 
-  valid-of-parts : Parts → ValidOn s r
+  valid-of-parts : s < 2 ^ b → Parts → ValidFor b s r
   unfolding Parts
-  valid-of-parts p =
-      let long : length r ≡ 32 = p .0 .0 .0 .0 .0 .0 .0 in
-      let few : count r ≤ 31 = p .0 .0 .0 .0 .0 .0 .1 in
-      let behind : length (drop (1 + count r) r) ≡ 31 - count r = simp length-drop (omega arith) in
+  valid-of-parts below p =
+      let long : length r ≡ 2 * b = p .0 .0 .0 .0 .0 .0 .0 in
+      let few : count r ≤ 2 * b - 1 = p .0 .0 .0 .0 .0 .0 .1 in
+      let behind : length (drop (1 + count r) r) ≡ 2 * b - 1 - count r = simp length-drop (omega arith) in
       record {
         form = record {
-          thirty-two = long;
+          sized = long;
           counted = few;
           rising = p .0 .0 .0 .0 .0 .1;
           zeros = zeros-of (drop (1 + count r) r) (p .0 .0 .0 .0 .1) ∙ ap (λ (n : ℕ). replicate n 0) behind;
         };
-        singles = λ i h. p .0 .0 .0 .1 i (omega arith) (has-below 16 small h) h;
+        singles = λ i h. p .0 .0 .0 .1 i (omega arith) (omega (arith, has-below b below h)) h;
         all = p .0 .0 .1;
         inside = p .0 .1;
         nested = p .1;
       }
 
-  parts-of-valid : ValidOn s r → Parts
+  parts-of-valid : ValidFor b s r → Parts
   unfolding Parts
   parts-of-valid v = (
     (
       (
         (
           (
-            ((v .form .thirty-two, v .form .counted), v .form .rising),
-            λ x h. of-zeros (31 - count r) (subst (λ (l : List ℕ). Among x l) (v .form .zeros) h),
+            ((v .form .sized, v .form .counted), v .form .rising),
+            λ x h. of-zeros (2 * b - 1 - count r) (subst (λ (l : List ℕ). Among x l) (v .form .zeros) h),
           ),
           λ i low high h. v .singles i h,
         ),
@@ -231,9 +231,9 @@ module _ {s : ℕ} (r : List ℕ) (small : s < 65536) where
     v .nested,
   )
 
-  -- the test is true exactly when the record is valid
-  pub valid-decides : Tells (valid s r) (ValidOn s r)
-  valid-decides = tells-also valid-of-parts parts-of-valid tells-parts
+-- the test is true exactly when the record is valid
+pub valid-decides : {b s : ℕ} (r : List ℕ) → s < 2 ^ b → Tells (validFor b s r) (ValidFor b s r)
+valid-decides {b} {s} r below = tells-also (valid-of-parts b s r below) (parts-of-valid b s r) (tells-parts b s r)
 
 -- the test is true exactly when the record has as many clusters as a binary tree's
 pub binary-decides : (s : ℕ) (r : List ℕ) → Tells (binary s r) (BinaryOn s r)
@@ -251,8 +251,8 @@ reply-is-test false {test} d n = go test (λ e. n (d .holds e))
     go true f = absurd (f refl)
     go false f = refl
 
-pub valid-reply : {s : ℕ} (b : Bool) (r : List ℕ) → s < 65536 → Decides b (ValidOn s r) → b ≡ valid s r
-valid-reply b r small d = reply-is-test b (valid-decides r small) d
+pub valid-reply : {s : ℕ} (b : ℕ) (reply : Bool) (r : List ℕ) → s < 2 ^ b → Decides reply (ValidFor b s r) → reply ≡ validFor b s r
+valid-reply b reply r below d = reply-is-test reply (valid-decides {b = b} r below) d
 
 pub binary-reply : (b : Bool) (s : ℕ) (r : List ℕ) → Decides b (BinaryOn s r) → b ≡ binary s r
 binary-reply b s r d = reply-is-test b (binary-decides s r) d

@@ -5,3 +5,8 @@
 pub struct Record {
     pub numbers: [u16; 32],
 }
+
+// The record of a tree on individuals, of which there are up to 32: the same, twice as long.
+pub struct WideRecord {
+    pub numbers: [u32; 64],
+}

@@ -10,7 +10,8 @@ use Rattle.clusters.proofs.Members.{within-of-has, has-of-within, single-has}
 use Rattle.clusters.proofs.Sets.{within-refl, within-trans, within-dec}
 use Rattle.clusters.proofs.Sizes.{size-some, size-apart, size-within, size-single}
 use Rattle.trees.specs.Lists.{Among, NoneTwice}
-use Rattle.trees.specs.Records.{listed, Nested, ValidOn}
+use Rattle.trees.specs.Records.{listed, Nested, ValidFor}
+use Rattle.trees.proofs.Breadth.{Small}
 use Rattle.trees.proofs.Order.{rising-none-twice}
 use Rattle.trees.proofs.Children.{together, has-together, AllApart, all-apart}
 use Rattle.trees.proofs.UnrootingChildren.{outside-species}
@@ -61,7 +62,7 @@ drawn-le-size cs a c once some nested within-c =
 
 -- ---- a valid gene record
 
-module _ {s : ℕ} {g : List ℕ} (v : ValidOn s g) where
+module _ {b s : ℕ} {g : List ℕ} (v : ValidFor b s g) where
   -- 01's count is at most the size of any set that holds the maximal ones
   pub drawn-le : (a c : ℕ) → ((x : ℕ) → Top (listed g) a x → Within x c) → kDrawn (listed g) a ≤ size c
   drawn-le a c =
@@ -86,7 +87,7 @@ module _ {s : ℕ} {g : List ℕ} (v : ValidOn s g) where
   unfolding extra
   extra-of-holder rooting a w = omega (arith, k-of-holder rooting a w)
 
-  module _ (small : s < 2 ^ 16) where
+  module _ (small : Small b s) where
     -- k is at most the size of any set that holds the clusters within A
     k-le-size : (rooting : Rooting) (a c : ℕ) → ((x : ℕ) → Within x a → Within x s → Within x c) → kBy rooting g a ≤ size c
     k-le-size Rooted a c f = omega (arith, k-never-more v small a, drawn-le a c (λ x t. f x (t .inside) (v .inside x (t .among) .1)))

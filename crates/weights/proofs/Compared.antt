@@ -8,12 +8,13 @@ use native.Mathlib.Omega.{arith}
 use Rattle.clusters.specs.Sets.{Has, within, single, union}
 use Rattle.clusters.proofs.Members.{has-union, has-single}
 use Rattle.clusters.proofs.Sets.{within-true, true-within, union-within, single-within}
-use Rattle.trees.specs.Records.{listed, ValidOn, BinaryOn}
+use Rattle.trees.specs.Records.{listed, ValidFor, BinaryOn}
 use Rattle.trees.specs.Tree.{Tree, Forest, cluster, clusterOf, Binary, OneBinary}
 use Rattle.trees.specs.Tree.Tree.{leaf, node}
 use Rattle.trees.specs.Tree.Forest.{last, more}
 use Rattle.trees.specs.Drawn.{drawn}
 use Rattle.trees.proofs.Booleans.{never-both}
+use Rattle.trees.proofs.Breadth.{Small}
 use Rattle.trees.proofs.Bounds.{binary-drawn}
 use Rattle.trees.proofs.Drawing.{drawn-on, drawn-record}
 use Rattle.weights.specs.Count.{kDrawn, kOf, oneOr}
@@ -136,13 +137,13 @@ mutual
 
 -- ---- a valid gene record
 
-module _ {s : ℕ} {g : List ℕ} (v : ValidOn s g) (small : s < 2 ^ 16) (a : ℕ) where
+module _ {b s : ℕ} {g : List ℕ} (v : ValidFor b s g) (small : Small b s) (a : ℕ) where
   k-lineages : kOf (listed g) a ≡ lineages a (drawn (listed g) s)
-  k-lineages = ap (λ (r : List ℕ). kOf (listed r) a) (sym (drawn-record v small)) ∙ k-of-record a (drawn-on v small)
+  k-lineages = ap (λ (r : List ℕ). kOf (listed r) a) (sym (drawn-record v small)) ∙ k-of-record b a (drawn-on v small)
 
   -- 01's count is that of the tree that the record draws
   pub drawn-lineages : kDrawn (listed g) a ≡ lineagesDrawn a (drawn (listed g) s)
-  drawn-lineages = ap (λ (r : List ℕ). kDrawn (listed r) a) (sym (drawn-record v small)) ∙ drawn-of-record a (drawn-on v small)
+  drawn-lineages = ap (λ (r : List ℕ). kDrawn (listed r) a) (sym (drawn-record v small)) ∙ drawn-of-record b a (drawn-on v small)
 
   -- the count of #101 is never more than 01's
   pub k-never-more : kOf (listed g) a ≤ kDrawn (listed g) a

@@ -14,7 +14,7 @@ use Rattle.clusters.proofs.Members.{has-dec, has-and, and-has, some-has, within
 use Rattle.clusters.proofs.Sets.{within-refl, within-trans, within-antisym, within-le, minus-has, has-minus, minus-within, minus-some}
 use Rattle.clusters.proofs.Parts.{part-and, and-part}
 use Rattle.trees.specs.Lists.{Among, NoneTwice}
-use Rattle.trees.specs.Records.{listed, largest, Nested, ValidOn}
+use Rattle.trees.specs.Records.{listed, largest, Nested, ValidFor, ValidOn}
 use Rattle.trees.specs.Valid.{among}
 use Rattle.trees.proofs.Listing.{none-twice-one}
 use Rattle.trees.proofs.Order.{rising-none-twice}
@@ -55,7 +55,7 @@ never-apart x y i h k (inr w) = w
 
 -- ---- a valid gene record
 
-module _ {s : ℕ} {g : List ℕ} (v : ValidOn s g) where
+module _ {b s : ℕ} {g : List ℕ} (v : ValidFor b s g) where
   -- each has a species and lies within the whole set
   pub unrooted-inside : (x : ℕ) → Among x (unrootedClusters g) → (1 ≤ x) × Within x s
   unrooted-inside x m = go (without-root v m)

@@ -8,7 +8,7 @@ use native.Mathlib.Omega.{arith}
 use Rattle.clusters.specs.Sets.{Within, Apart, within, single, union}
 use Rattle.clusters.proofs.Sets.{single-some, within-true, within-false, true-within, within-trans, within-refl, within-antisym, apart-sym, within-union-left, within-union-right}
 use Rattle.trees.specs.Lists.{Among, NoneTwice, sorted}
-use Rattle.trees.specs.Records.{listed, recordOf}
+use Rattle.trees.specs.Records.{listed, recordFor}
 use Rattle.trees.specs.Tree.{Tree, Forest, leaves, leavesOf, cluster, clusterOf, clusters, clustersOf, On}
 use Rattle.trees.specs.Tree.Tree.{leaf, node}
 use Rattle.trees.specs.Tree.Forest.{last, more}
@@ -349,10 +349,10 @@ k-counted-down {s} {t} a o =
     go false h j = j
 
 -- and so is k of the clusters that its record lists
-pub k-of-record : {s : ℕ} {t : Tree} (a : ℕ) → On s t → kOf (listed (recordOf (clusters t))) a ≡ lineages a t
-k-of-record {s} {t} a o =
+pub k-of-record : {s : ℕ} {t : Tree} (b a : ℕ) → On s t → kOf (listed (recordFor b (clusters t))) a ≡ lineages a t
+k-of-record {s} {t} b a o =
     let once = clusters-once t (o .once) in
-    ap (λ (l : List ℕ). kOf l a) (listed-record (clusters t))
+    ap (λ (l : List ℕ). kOf l a) (listed-record b (clusters t))
     ∙ k-same (sorted (clusters t)) (clusters t) a (tree-clusters t (o .once)) (rising-none-twice (sorted (clusters t)) (rising-sorted (clusters t) once)) once
     (λ x h. among-sorted (clusters t) h) (λ x h. sorted-among (clusters t) h)
     ∙ k-counted-down a o

@@ -9,7 +9,7 @@ use lib.ListN.{length-append}
 use Rattle.clusters.specs.Sets.{Within, Apart, within, single, union}
 use Rattle.clusters.proofs.Sets.{within-true, within-false, apart-within, apart-sym, within-apart, within-trans, within-refl, within-antisym}
 use Rattle.trees.specs.Lists.{Among, NoneTwice, sorted}
-use Rattle.trees.specs.Records.{listed, recordOf}
+use Rattle.trees.specs.Records.{listed, recordFor}
 use Rattle.trees.specs.Tree.{Tree, Forest, leaves, leavesOf, cluster, clusterOf, clusters, clustersOf, On}
 use Rattle.trees.specs.Tree.Tree.{leaf, node}
 use Rattle.trees.specs.Tree.Forest.{last, more}
@@ -137,10 +137,10 @@ pub drawn-counted-down : {s : ℕ} {t : Tree} (a : ℕ) → On s t → kDrawn (c
 drawn-counted-down {s} {t} a o = drawn-down a t (o .once)
 
 -- and so is that of the clusters that its record lists
-pub drawn-of-record : {s : ℕ} {t : Tree} (a : ℕ) → On s t → kDrawn (listed (recordOf (clusters t))) a ≡ lineagesDrawn a t
-drawn-of-record {s} {t} a o =
+pub drawn-of-record : {s : ℕ} {t : Tree} (b a : ℕ) → On s t → kDrawn (listed (recordFor b (clusters t))) a ≡ lineagesDrawn a t
+drawn-of-record {s} {t} b a o =
     let once = clusters-once t (o .once) in
-    ap (λ (l : List ℕ). kDrawn l a) (listed-record (clusters t))
+    ap (λ (l : List ℕ). kDrawn l a) (listed-record b (clusters t))
     ∙ drawn-same (sorted (clusters t)) (clusters t) a (rising-none-twice (sorted (clusters t)) (rising-sorted (clusters t) once)) once
     (λ x h. among-sorted (clusters t) h) (λ x h. sorted-among (clusters t) h)
     ∙ drawn-counted-down a o

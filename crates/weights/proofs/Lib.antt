@@ -3,6 +3,7 @@
 pub mod Tops
 pub mod CountedDrawn
 pub mod Joining
+pub mod Groups
 pub mod CountedDown
 pub mod Compared
 pub mod UnrootedClusters
@@ -10,6 +11,7 @@ pub mod Complements
 pub mod Bounds
 pub mod UnrootedLess
 pub mod Sums
+pub mod StandWeights
 pub mod Lost
 pub mod Dropped
 pub mod Pass
@@ -20,6 +22,8 @@ pub mod RunningSums
 pub mod Shown
 pub mod Star
 pub mod SumOfLists
+pub mod KeptWithin
+pub mod Renamed
 pub mod SumOfUnions
 pub mod SumOfRooted
 pub mod SumOfPairs
@@ -27,3 +31,4 @@ pub mod SumOfBinary
 pub mod SumOfUnrooted
 pub mod Zeta
 pub mod SumOfWeights
+pub mod SumOfStand

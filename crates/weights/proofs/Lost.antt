@@ -1,5 +1,5 @@
 -- Gene trees that lost species (#104): one with no cluster within A adds nothing to the weight of A, any other k - 1; and of A only the species of the gene tree count.
-use Prim.Native.Nat.{ℕ, _+_, _-_, _^_, _≤_, _<_}
+use Prim.Native.Nat.{ℕ, _+_, _-_, _^_, _≤_, _<_, min}
 use mathlib.Core.Path.{_≡_, refl, ap, ap₂}
 use mathlib.Core.Logic.{_↔_}
 use mathlib.Core.Bool.{Bool, _&&_}
@@ -12,9 +12,10 @@ use Rattle.clusters.proofs.Members.{some-has, has-and, and-has, within-of-has, 
 use Rattle.clusters.proofs.Sets.{single-within}
 use Rattle.clusters.proofs.Sizes.{size-zero}
 use Rattle.trees.specs.Lists.{Among, some}
-use Rattle.trees.specs.Records.{listed, largest, GeneValid}
+use Rattle.trees.specs.Records.{listed, largest, GeneValidFor}
 use Rattle.trees.specs.Valid.{among, every}
 use Rattle.trees.specs.Drawn.{maximal, children}
+use Rattle.trees.proofs.Breadth.{Small}
 use Rattle.trees.proofs.ValidTest.{tells-within}
 use Rattle.trees.proofs.GeneRecords.{gene-small}
 use Rattle.weights.specs.Count.{maximalWithin, holdsMaximal, kOf, oneOr, extra, weight}
@@ -50,8 +51,8 @@ k-of-same-within cs a b h =
 abbrev pub NoneWithin : List ℕ → ℕ → Type 0
 NoneWithin g a = (x : ℕ) → Among x (listed g) → Within x a → ⊥
 
-module _ {n : ℕ} {g : List ℕ} (few : n ≤ 16) (v : GeneValid n g) (a : ℕ) where
-  small : largest g < 2 ^ 16
+module _ {b n : ℕ} {g : List ℕ} (few : n ≤ min b 32) (v : GeneValidFor b n g) (a : ℕ) where
+  small : Small b (largest g)
   small = gene-small few v
 
   -- no cluster lies within A exactly when the tree has no species of A

@@ -21,7 +21,7 @@ use Rattle.trees.proofs.Booleans.{unless}
 use Rattle.trees.proofs.Order.{rising-below}
 use Rattle.trees.proofs.Children.{Hierarchy, hierarchy-of-valid, Child, among-children, within-child}
 use Rattle.weights.specs.Count.{holdsMaximal, kOf, oneOr}
-use Rattle.weights.specs.Work.{Countable}
+use Rattle.weights.specs.Work.{CountableFor}
 use Rattle.weights.proofs.Joining.{Joins, Clusters, tells-joins, joining, joining-none, joining-append, joining-counted, joining-passed, passed-inside, k-either}
 use Rattle.weights.proofs.Checked.{listed-fits, listed-at}
 
@@ -180,7 +180,7 @@ unfolding every
 passing-start g a = record { place = omega arith; few = omega arith; counted = sym (joining-none (listed g) a); held = refl; left = loose-start a }
 
 -- one cluster on: within A, not within A and not counted, or counted
-module _ {g : List ℕ} {a k loose : ℕ} {all : Bool} {i : ℕ} (can : Countable g) (now : Passing g a k loose all i) (more : i < count g) where
+module _ {b : ℕ} {g : List ℕ} {a k loose : ℕ} {all : Bool} {i : ℕ} (can : CountableFor b g) (now : Passing g a k loose all i) (more : i < count g) where
   inside : i < length (listed g)
   inside = omega (arith, length-take (count g) (drop 1 g), listed-fits (can .valid .form))
 

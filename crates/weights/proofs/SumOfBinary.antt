@@ -146,7 +146,7 @@ module _ {s : ℕ} {g : List ℕ} (v : ValidOn s g) (small : s < 2 ^ 16) (a : �
   inner-drawn =
       many-kept (λ x. within x a) (λ p. not (eqb (size p) 1)) (listed g)
       ∙ many-members (largeIn a) (listed g) (clusters t) (rising-none-twice (listed g) (v .form .rising)) (clusters-once t (drawn-on v small .once))
-      (λ x m. among-record (clusters t) (rw (drawn-record v small) m)) (λ x m. rw (drawn-record v small) at (record-among (clusters t) m))
+      (λ x m. among-record 16 (clusters t) (rw (drawn-record v small) m)) (λ x m. rw (drawn-record v small) at (record-among 16 (clusters t) m))
     where
       t : Tree
       t = drawn (listed g) s

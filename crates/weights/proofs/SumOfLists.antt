@@ -46,6 +46,10 @@ unfolding total
 many-total test [] = many-nil test
 many-total test (x ∷ l) = many-cons test x l ∙ ap (λ (n : ℕ). oneIf (test x) + n) (many-total test l)
 
+-- so of what a function makes of a list those pass whose image does
+pub many-mapped : (test : ℕ → Bool) (f : ℕ → ℕ) (l : List ℕ) → many test (map f l) ≡ many (λ x. test (f x)) l
+many-mapped test f l = many-map test f l ∙ sym (many-total (λ x. test (f x)) l)
+
 -- two tests that agree on the list
 pub many-same : (test other : ℕ → Bool) (l : List ℕ) → ((x : ℕ) → Among x l → test x ≡ other x) → many test l ≡ many other l
 unfolding many

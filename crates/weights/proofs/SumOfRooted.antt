@@ -12,10 +12,11 @@ use Rattle.clusters.specs.Sets.{Within, within, union, size}
 use Rattle.clusters.proofs.Sets.{within-trans, within-true, true-within, within-false, union-within, union-some-left}
 use Rattle.clusters.proofs.Sizes.{size-some, size-within-lt}
 use Rattle.trees.specs.Lists.{Among, keep, some, total}
-use Rattle.trees.specs.Records.{listed, largest, ValidOn}
+use Rattle.trees.specs.Records.{listed, largest, ValidFor}
 use Rattle.trees.specs.Valid.{every}
 use Rattle.trees.specs.Drawn.{children}
 use Rattle.trees.proofs.Booleans.{unless}
+use Rattle.trees.proofs.Breadth.{Small}
 use Rattle.trees.proofs.Listing.{among-keep, some-of, of-some}
 use Rattle.trees.proofs.Totals.{total-same}
 use Rattle.trees.proofs.Children.{Hierarchy, hierarchy-of-valid, among-children, children-among, children-two}
@@ -29,7 +30,7 @@ use Rattle.weights.proofs.Joining.{Joins, Clusters, tells-joins, tells-
 use Rattle.weights.proofs.SumOfLists.{many-cons, many-total, many-same, many-kept, many-gathered, among-gathered, total-add}
 use Rattle.weights.proofs.SumOfUnions.{odds-less-evens, odds-are, evens-are}
 
-module _ {s : ℕ} {g : List ℕ} (v : ValidOn s g) (small : s < 2 ^ 16) where
+module _ {b s : ℕ} {g : List ℕ} (v : ValidFor b s g) (small : Small b s) where
   tree : Hierarchy s (listed g)
   tree = hierarchy-of-valid v small
 

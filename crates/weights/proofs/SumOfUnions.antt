@@ -14,11 +14,7 @@ use Rattle.trees.proofs.Order.{rising-sorted, among-sorted, sorted-among, sorte
 use Rattle.trees.proofs.Redrawing.{either-side}
 use Rattle.weights.specs.Lineages.{oneIf}
 use Rattle.weights.specs.Subsets.{many, odds, evens}
-use Rattle.weights.proofs.SumOfLists.{many-nil, many-cons, many-append, many-map, many-total, many-same, many-none}
-
--- how many of the unions with c pass
-many-union : (test : ℕ → Bool) (c : ℕ) (l : List ℕ) → many test (map (λ x. union c x) l) ≡ many (λ x. test (union c x)) l
-many-union test c l = many-map test (λ x. union c x) l ∙ sym (many-total (λ x. test (union c x)) l)
+use Rattle.weights.proofs.SumOfLists.{many-nil, many-cons, many-append, many-mapped, many-same, many-none}
 
 -- the unions with one set more in front: it alone, those without it, and those with it
 pub many-odds :
@@ -30,13 +26,13 @@ many-odds test c l =
       arith,
       many-cons test c (odds l ++ map (λ x. union c x) (evens l)),
       many-append test (odds l) (map (λ x. union c x) (evens l)),
-      many-union test c (evens l),
+      many-mapped test (λ x. union c x) (evens l),
     )
 
 -- and those of an even number
 pub many-evens : (test : ℕ → Bool) (c : ℕ) (l : List ℕ) → many test (evens (c ∷ l)) ≡ many test (evens l) + many (λ x. test (union c x)) (odds l)
 unfolding evens
-many-evens test c l = omega (arith, many-append test (evens l) (map (λ x. union c x) (odds l)), many-union test c (odds l))
+many-evens test c l = omega (arith, many-append test (evens l) (map (λ x. union c x) (odds l)), many-mapped test (λ x. union c x) (odds l))
 
 -- ---- inclusion and exclusion
 
@@ -151,6 +147,44 @@ pub unions-reordered :
 unions-reordered l k p q f g =
     unions-trans (unions-sorted l)
     (rw (sorted-same l (sorted k) p (rising-sorted k q) (λ x h. sorted-among k (f x h)) (λ x h. g x (among-sorted k h))) (unions-sym (unions-sorted k)))
+
+-- ---- what is seen of the sets
+
+-- where a function takes a union of two to the union of what it makes of both, the unions of what it makes of a list are what it makes of the unions
+pub record SeenUnions (see : ℕ → ℕ) (l : List ℕ) : Type 0 where
+  pub odd : (test : ℕ → Bool) → many test (odds (map see l)) ≡ many (λ x. test (see x)) (odds l)
+  pub even : (test : ℕ → Bool) → many test (evens (map see l)) ≡ many (λ x. test (see x)) (evens l)
+
+pub unions-seen : (see : ℕ → ℕ) → ((x y : ℕ) → see (union x y) ≡ union (see x) (see y)) → (l : List ℕ) → SeenUnions see l
+unfolding odds evens
+unions-seen see joins [] = record { odd = λ test. many-nil test ∙ sym (many-nil (λ x. test (see x))); even = λ test. many-nil test ∙ sym (many-nil (λ x. test (see x))) }
+unions-seen see joins (c ∷ l) = next (unions-seen see joins l)
+  where
+    with-it : (test : ℕ → Bool) (k : List ℕ) → many (λ x. test (union (see c) (see x))) k ≡ many (λ x. test (see (union c x))) k
+    with-it test k =
+        many-same (λ x. test (union (see c) (see x))) (λ x. test (see (union c x))) k (λ x m. ap test (sym (joins c x)))
+
+    next : SeenUnions see l → SeenUnions see (c ∷ l)
+    next u = record {
+      odd = λ test.
+          omega (
+            arith,
+            many-odds test (see c) (map see l),
+            many-odds (λ x. test (see x)) c l,
+            u .odd test,
+            u .even (λ x. test (union (see c) x)),
+            with-it test (evens l),
+          );
+      even = λ test.
+          omega (
+            arith,
+            many-evens test (see c) (map see l),
+            many-evens (λ x. test (see x)) c l,
+            u .even test,
+            u .odd (λ x. test (union (see c) x)),
+            with-it test (odds l),
+          );
+    }
 
 -- ---- where the unions lie
 

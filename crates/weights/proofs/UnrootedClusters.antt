@@ -8,7 +8,7 @@ use native.Mathlib.Omega.{arith}
 use lib.Dec.{eqb}
 use borrow.Author.Tests.{eqb-true, eqb-false, eq-eqb, ne-eqb, not-true}
 use Rattle.trees.specs.Lists.{Among, NoneTwice, keep, some, upTo, total}
-use Rattle.trees.specs.Records.{listed, largest, recordOf, Form, ValidOn}
+use Rattle.trees.specs.Records.{listed, largest, recordOf, FormFor, ValidFor}
 use Rattle.trees.specs.Valid.{among}
 use Rattle.trees.specs.Tree.{Tree, clusters, On}
 use Rattle.trees.specs.Unrooted.{Redrawn}
@@ -70,9 +70,9 @@ module _ (g : List ℕ) {x : ℕ} where
   among-unrooted m = tells-unrooted .holds (among-keep (λ x. unrootedHas g x) (upTo (suc (largest g))) m .1)
 
   -- and they are all listed
-  pub unrooted-among : Form g → OfUnrooted g x → Among x (unrootedClusters g)
+  pub unrooted-among : {b : ℕ} → FormFor b g → OfUnrooted g x → Among x (unrootedClusters g)
   unfolding unrootedClusters
-  unrooted-among form w =
+  unrooted-among {b} form w =
       keep-among (λ x. unrootedHas g x) (upTo (suc (largest g))) (upTo-among (suc (largest g)) (omega (arith, low w))) (tells-unrooted .told w)
     where
       low : OfUnrooted g x → x ≤ largest g
@@ -90,7 +90,7 @@ unfolding unrootedClusters
 unrooted-once g = none-twice-keep (λ x. unrootedHas g x) (upTo (suc (largest g))) (upTo-once (suc (largest g)))
 
 -- of a valid record, by its whole set
-module _ {s : ℕ} {g : List ℕ} (v : ValidOn s g) {x : ℕ} where
+module _ {b s : ℕ} {g : List ℕ} (v : ValidFor b s g) {x : ℕ} where
   pub without-root : Among x (unrootedClusters g) → WithoutRoot s (listed g) x
   without-root m = subst (λ (s : ℕ). WithoutRoot s (listed g) x) (largest-of-valid v) (among-unrooted g m)
 
@@ -101,22 +101,22 @@ module _ {s : ℕ} {g : List ℕ} (v : ValidOn s g) {x : ℕ} where
 
 module _ {s : ℕ} {t u : Tree} (small : s < 2 ^ 16) (o : On s t) (r : Redrawn t u) where
   whole-of : {v : Tree} → On s v → largest (recordOf (clusters v)) ≡ s
-  whole-of p = largest-of-valid (valid-of-drawn p small)
+  whole-of p = largest-of-valid (valid-of-drawn {b = 16} p small)
 
   -- the drawn clusters for those of the record
   in-record : {v : Tree} {x : ℕ} → On s v → WithoutRoot s (clusters v) x → OfUnrooted (recordOf (clusters v)) x
   in-record {v} {x} p w = subst (λ (s : ℕ). WithoutRoot s (listed (recordOf (clusters v))) x) (sym (whole-of p)) (go w)
     where
       go : WithoutRoot s (clusters v) x → WithoutRoot s (listed (recordOf (clusters v))) x
-      go (inl m) = inl (record-among (clusters v) m)
-      go (inr c) = inr (record { of = c .of; among = record-among (clusters v) (c .among); other = c .other; is = c .is })
+      go (inl m) = inl (record-among 16 (clusters v) m)
+      go (inr c) = inr (record { of = c .of; among = record-among 16 (clusters v) (c .among); other = c .other; is = c .is })
 
   of-record : {v : Tree} {x : ℕ} → On s v → OfUnrooted (recordOf (clusters v)) x → WithoutRoot s (clusters v) x
   of-record {v} {x} p w = go (subst (λ (s : ℕ). WithoutRoot s (listed (recordOf (clusters v))) x) (whole-of p) w)
     where
       go : WithoutRoot s (listed (recordOf (clusters v))) x → WithoutRoot s (clusters v) x
-      go (inl m) = inl (among-record (clusters v) m)
-      go (inr c) = inr (record { of = c .of; among = among-record (clusters v) (c .among); other = c .other; is = c .is })
+      go (inl m) = inl (among-record 16 (clusters v) m)
+      go (inr c) = inr (record { of = c .of; among = among-record 16 (clusters v) (c .among); other = c .other; is = c .is })
 
   -- each set is a cluster of both records without a root, or of neither
   pub redrawn-has : (x : ℕ) → unrootedHas (recordOf (clusters t)) x ≡ unrootedHas (recordOf (clusters u)) x

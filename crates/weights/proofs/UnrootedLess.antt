@@ -162,4 +162,4 @@ pub unrooted-never-more :
     → kBy Unrooted (recordOf (clusters t)) a ≤ kBy Rooted (recordOf (clusters u)) a
 unrooted-never-more {s} {t} {u} small o rooted r a w =
     let p = redrawn-on r o in
-    omega (arith, redrawn-k small o r a, unrooted-le-rooted (valid-of-drawn p small) small (record-resolved small p (redrawn-rooted r rooted)) a w)
+    omega (arith, redrawn-k small o r a, unrooted-le-rooted (valid-of-drawn {b = 16} p small) small (record-resolved small p (redrawn-rooted r rooted)) a w)

@@ -1,4 +1,5 @@
 pub mod Count
+pub mod Stand
 pub mod Lineages
 pub mod Marks
 pub mod Work

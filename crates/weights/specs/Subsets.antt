@@ -10,6 +10,7 @@ use Rattle.trees.specs.Lists.{keep, total, upTo}
 use Rattle.trees.specs.Records.{listed, largest}
 use Rattle.trees.specs.Drawn.{children}
 use Rattle.weights.specs.Count.{unrootedClusters}
+use Rattle.weights.specs.Stand.{speciesIn}
 use Rattle.weights.specs.declared.Rooting.{Rooting}
 use Rattle.weights.specs.declared.Rooting.the-variants.{Rooted, Unrooted}
 
@@ -74,6 +75,10 @@ minusAll rooting genes = gathered (λ g. minusBy rooting g) genes
 -- the whole sets of the gene trees
 abbrev pub wholeSets : List (List ℕ) → List ℕ
 wholeSets genes = map largest genes
+
+-- on a stand (#110) the sets of individuals of a list, each taken to its species
+abbrev pub taken : List ℕ → List ℕ → List ℕ
+taken groups l = map (λ x. speciesIn groups x) l
 
 -- how often a set stands in a list
 abbrev pub often : ℕ → List ℕ → ℕ

@@ -1,24 +1,40 @@
 -- What counting and marking ask of gene records, and the bytes while they are marked.
-use Prim.Native.Nat.{ℕ, _-_, _^_, _≤_, _<_}
+use Prim.Native.Nat.{ℕ, _-_, _*_, _^_, _≤_, _<_, min}
 use mathlib.Core.List.{List, [], _∷_, _++_, map, List·Memᴰ}
-use lib.ListN.{set, take, drop}
+use lib.ListN.{length, set, take, drop}
 use Rattle.clusters.specs.Sets.{Within}
 use Rattle.trees.specs.Lists.{Among, upTo}
-use Rattle.trees.specs.Records.{count, listed, largest, Form, ValidOn}
+use Rattle.trees.specs.Records.{count, listed, largest, Form, ValidFor, wideRecordsIn}
 use Rattle.weights.specs.Count.{complement}
 use Rattle.weights.specs.Marks.{shown, flag}
 use Rattle.weights.specs.declared.Rooting.{Rooting}
 use Rattle.weights.specs.declared.Rooting.the-variants.{Rooted, Unrooted}
 
--- a gene record that can be counted: the valid record of a tree on some set of species
-pub record Countable (g : List ℕ) : Type 0 where
+-- a gene record of breadth b that can be counted: the valid record of a tree on some set of species, which are no more than the breadth and 32
+pub record CountableFor (b : ℕ) (g : List ℕ) : Type 0 where
   pub species : ℕ
-  pub valid : ValidOn species g
-  pub small : species < 2 ^ 16
+  pub valid : ValidFor b species g
+  pub small : species < 2 ^ min b 32
+
+-- the same of 01's records
+abbrev pub Countable : List ℕ → Type 0
+Countable g = CountableFor 16 g
 
 -- every gene record can be counted
+abbrev pub AllCountableFor : ℕ → List (List ℕ) → Type 0
+AllCountableFor b genes = (g : List ℕ) → List·Memᴰ g genes → CountableFor b g
+
+-- the same of 01's records
 abbrev pub AllCountable : List (List ℕ) → Type 0
-AllCountable genes = (g : List ℕ) → List·Memᴰ g genes → Countable g
+AllCountable genes = AllCountableFor 16 genes
+
+-- a stand on which can be counted: the groups of at most 16 species, and at most 4,096 gene records of breadth 32 that can be counted, lent whole
+pub record StandCountable (groups : List ℕ) (n : ℕ) (genes : List ℕ) (count : ℕ) : Type 0 where
+  pub few-species : n ≤ 16
+  pub groups-long : n ≤ length groups
+  pub few-genes : count ≤ 4096
+  pub genes-long : 64 * count ≤ length genes
+  pub countable : AllCountableFor 32 (wideRecordsIn count genes)
 
 -- y is the smallest cluster of a gene record that holds all of b
 pub record SmallestHolder (g : List ℕ) (b y : ℕ) : Type 0 where

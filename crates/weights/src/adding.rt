@@ -8,7 +8,7 @@ ghost use Rattle.trees.specs.Records.{Form, recordsIn};
 ghost use Rattle.weights.specs.Count.{weight, score};
 ghost use Rattle.weights.specs.Work.{AllCountable};
 
-// The weight of a over count gene trees that were checked. `lineages` calls it, behind `shape`, with records that `judge_genes` has passed.
+// The weight of a over count gene trees that were checked. `lineages` and `counts` call it, behind `shape`, with records that `judge_genes` has passed.
 pub fn weigh(rooting: Rooting, genes: &[u16], count: usize, a: u32) -> usize
     requires { ⌜ count ≤ 4096 ⌝ }
     requires { ⌜ 32 * count ≤ length (now genes) ⌝ }
@@ -26,7 +26,8 @@ pub fn weigh(rooting: Rooting, genes: &[u16], count: usize, a: u32) -> usize
     sum
 }
 
-// The score of a species record over count gene trees that were checked. `lineages`, `plain` and `sheet` call it, behind `shape`, with records that `judge_genes` has passed; the species record has passed `is_species_tree`, or `plain` has drawn it.
+// The score of a species record over count gene trees that were checked. `lineages`, `plain`, `sheet` and `counts` call it, behind `shape`, with records that `judge_genes` has passed;
+// the species record has passed `is_species_tree`, or `plain` has drawn it, or `counts` has read it.
 pub fn weigh_tree(rooting: Rooting, genes: &[u16], count: usize, species: &[u16]) -> usize
     requires { ⌜ count ≤ 4096 ⌝ }
     requires { ⌜ 32 * count ≤ length (now genes) ⌝ }

@@ -2,6 +2,7 @@
 pub mod adding;
 mod count;
 pub mod marking;
+pub mod wide;
 
 // How gene trees are counted: with their roots as drawn, or as trees without a root.
 pub enum Rooting {

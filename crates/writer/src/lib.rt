@@ -10,7 +10,8 @@ use roster::refused;
 use trees::Record;
 
 // Writes the text of a valid record on the n names of a roster's table into out, with the count of each cluster behind its node where there are counts, and
-// answers its length. Where it does not fit, out stays as it was: the length is judged before a byte is written. `write` calls it without counts, behind its checks.
+// answers its length. Where it does not fit, out stays as it was: the length is judged before a byte is written. `write` calls it without counts
+// and `counts` with them, each behind its checks.
 pub fn put(table: &[u8], n: usize, numbers: &[u16], counts: &[u32], out: &mut [u8]) -> Reply
     requires { ⌜ ((line : List ℕ) × Given line n (now table)) ⌝ }
     requires { ⌜ GeneValid n (now numbers) ⌝ }

@@ -32,7 +32,7 @@ here :
 here c =
     let start = c .before .before .before .before .before .before in
     let form = start .pre .1 .1 .form in
-    place-among (start .args .tree .now) _ (form .thirty-two) (form .counted) (c .before .before .loop .i) (search needs) (search needs)
+    place-among (start .args .tree .now) _ (form .sized) (form .counted) (c .before .before .loop .i) (search needs) (search needs)
 
 is-allowed-requires : tie.Need-is-allowed-requires Inv-loop μ-loop
 is-allowed-requires c κs =
@@ -55,7 +55,7 @@ returns-2 c =
     let start = c .before .before .before .before .before in
     let form = start .pre .1 .1 .form in
     sym (tells-allowed _ _ .told
-    (all-of-places (start .args .tree .now) _ (form .thirty-two) (form .counted) (λ a. allowedIn (start .args .n) (start .args .allowed .now) a ≡ true)
+    (all-of-places (start .args .tree .now) _ (form .sized) (form .counted) (λ a. allowedIn (start .args .n) (start .args .allowed .now) a ≡ true)
     (λ i last one. c .before .loop .inv .1 i (omega arith) one)))
 
 pub is-over-allowed-spec : {M : Type 1} → statement M

@@ -29,7 +29,7 @@ sub-rest-2 c = omega (arith, next-le (c .before .before .before .before .before 
 among-requires : tie.Need-among-requires
 among-requires c κs =
     let v = c .before .before .before .before .before .before .pre .1 .valid in
-    (v .form .thirty-two, omega (arith, v .form .counted))
+    (v .form .sized, omega (arith, v .form .counted))
 
 returns-2 : tie.Need-returns-2
 returns-2 c =

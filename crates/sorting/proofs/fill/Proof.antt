@@ -16,9 +16,6 @@ loop-holds : tie.Need-loop-holds Inv-loop μ-loop
 loop-holds c =
     let s = c .before .before in filling-starts (s .args .numbers .now) (s .args .clusters .now) (s .args .count) (search needs) (omega arith)
 
-cast-put : tie.Need-cast-put Inv-loop μ-loop
-cast-put c = record { fits = c .before .before .before .before .before .before .pre .1 .1 .1 _ (omega arith) }
-
 loop-again : tie.Need-loop-again Inv-loop μ-loop
 loop-again c =
     let s = c .before .before .before .before .before .before .before .before .before in
@@ -45,7 +42,6 @@ fill-spec =
     (λ c. search needs)
     (λ c. search needs)
     (λ c. search needs)
-    cast-put
     (λ c κs. search needs)
     (λ c. search needs)
     (λ c. search needs)

@@ -3,13 +3,14 @@ use Prim.Native.Nat.{_-_}
 use borrow.Author.Needs.{needs}
 use native.Mathlib.Omega.{arith}
 use Rattle.trees.proofs.Lent.{part-record, record-among}
+use Rattle.weights.specs.Subsets.{plusBy, minusBy}
 use Rattle.sums.proofs.RootedChanges.{summable-same}
 use Rattle.sums.proofs.TreeChanges.{TreesTo, trees-start, trees-next, trees-end}
 use Rattle.sums.proofs.add_trees.Statement.{statement}
 use Rattle.sums.proofs.add_trees.Tie as tie
 
 abbrev Inv-loop : tie.InvT-loop
-Inv-loop rooting genes count sums₀ tree₀ sums tree = TreesTo rooting genes count sums₀ sums tree
+Inv-loop rooting genes count sums₀ tree₀ sums tree = TreesTo 32 (λ g. plusBy rooting g) (λ g. minusBy rooting g) genes count sums₀ sums tree
 
 abbrev μ-loop : tie.MeasureT-loop
 μ-loop rooting genes count sums₀ tree₀ sums tree = count - tree
@@ -23,7 +24,7 @@ add-tree-requires c κs =
 
 loop-again : tie.Need-loop-again Inv-loop μ-loop
 loop-again c =
-    trees-next _ (c .before .before .before .before .before .before .loop .inv) (search needs) (rw part-record at (c .before .before .add-tree .ensures))
+    trees-next (c .before .before .before .before .before .before .loop .inv) (search needs) (rw part-record at (c .before .before .add-tree .ensures))
 
 pub add-trees-spec : {M : Type 1} → statement M
 add-trees-spec =
@@ -31,7 +32,7 @@ add-trees-spec =
     (tie.spec
     Inv-loop
     μ-loop
-    (λ c. trees-start _ _ _ _)
+    (λ c. trees-start _ _ _ _ _ _)
     (λ c. search needs)
     (λ c. search needs)
     (λ c. search needs)
@@ -43,4 +44,4 @@ add-trees-spec =
     (λ c. search needs)
     loop-again
     (λ c. c .before .loop .inv .changed .same)
-    (λ c. trees-end _ (c .before .loop .inv) (omega arith)))
+    (λ c. trees-end (c .before .loop .inv) (omega arith)))

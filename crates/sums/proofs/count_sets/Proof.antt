@@ -1,5 +1,5 @@
 -- `sums::count_sets` meets its contract. The invariant: the gene trees that are left, counted too, give the number of all by their whole set.
-use Prim.Native.Nat.{_-_, _*_, _+_, _≤_, _<_}
+use Prim.Native.Nat.{_-_, _*_, _+_, _<_}
 use mathlib.Core.Path.{_≡_, refl}
 use borrow.Author.Needs.{needs}
 use native.Mathlib.Omega.{arith}
@@ -13,7 +13,7 @@ use Rattle.sums.proofs.count_sets.Statement.{statement}
 use Rattle.sums.proofs.count_sets.Tie as tie
 
 abbrev Inv-loop : tie.InvT-loop
-Inv-loop genes count lost₀ i₀ lost i = TalliedTo genes count lost₀ lost i
+Inv-loop genes count lost₀ i₀ lost i = TalliedTo 32 largest genes count lost₀ lost i
 
 abbrev μ-loop : tie.MeasureT-loop
 μ-loop genes count lost₀ i₀ lost i = count - i
@@ -31,8 +31,10 @@ whole-there :
     (c : tie.In-loop Inv-loop μ-loop) → let start = c .before .before in
     let genes = start .args .genes .now in
     let i = c .before .loop .i in
-    (getD genes (32 * i) 0 ≤ 31) × (getD genes (32 * i + getD genes (32 * i) 0) 0 ≡ largest (take 32 (drop (32 * i) genes)))
-whole-there c = whole-at (c .before .before .args .genes .now) (c .before .loop .i) (next c .countable .valid .form) refl
+    (getD genes (32 * i) 0 < 32) × (getD genes (32 * i + getD genes (32 * i) 0) 0 ≡ largest (take 32 (drop (32 * i) genes)))
+whole-there c =
+    let form = next c .countable .valid .form in
+    whole-at 32 (c .before .before .args .genes .now) (c .before .loop .i) (omega (arith, form .counted)) refl
 
 whole-fits :
     (c : tie.In-loop Inv-loop μ-loop) → let start = c .before .before in
@@ -91,7 +93,7 @@ count-sets-spec =
     (tie.spec
     Inv-loop
     μ-loop
-    (λ c. tallied-start _ _ _)
+    (λ c. tallied-start _ _ _ _ _)
     (λ c. search needs)
     (λ c. search needs)
     shared-slice-read-m

@@ -3,7 +3,7 @@ use mathlib.Core.Path.{sym, _∙_}
 use borrow.Author.Needs.{needs}
 use native.Mathlib.Omega.{arith}
 use lib.Pow.{pow-pos}
-use Rattle.sums.proofs.Filled.{zeros-of, all-summable, lost-small, all-told}
+use Rattle.sums.proofs.Filled.{zeros-of, all-summable, trees-counted, trees-few, weighable-summed, lost-small, all-told}
 use Rattle.sums.proofs.fill.Statement.{statement}
 use Rattle.sums.proofs.fill.Tie as tie
 
@@ -31,7 +31,7 @@ transform-requires c κs =
     let changed = added .add-trees .ensures in
     let tallied = counted .count-sets .ensures in (
       start .pre .0 .few-species,
-      (changed .same ∙ blank .sized, (tallied .same ∙ blank-too .sized, lost-small (start .pre .0) blank blank-too changed tallied)),
+      (changed .same ∙ blank .sized, (tallied .same ∙ blank-too .sized, lost-small (weighable-summed (start .pre .0)) (trees-few (start .pre .0)) blank blank-too changed tallied)),
     )
 
 tell-requires : tie.Need-tell-requires
@@ -57,7 +57,8 @@ returns c =
     let start = cleared .before .before .before .before .before .before in
     let blank = zeros-of (cleared .clear .ensures .0) (start .pre .1 .0) in
     let blank-too = zeros-of (cleared .clear .ensures .1) (start .pre .1 .1) in
-    all-told (start .pre .0) blank blank-too (added .add-trees .ensures) (counted .count-sets .ensures)
+    all-told (weighable-summed (start .pre .0)) (trees-few (start .pre .0)) blank blank-too (added .add-trees .ensures) (counted .count-sets .ensures)
+    (trees-counted (start .pre .0))
     (rw (made .transform .ensures .0, made .transform .ensures .1) at (told .tell .ensures))
 
 pub fill-spec : {M : Type 1} → statement M

@@ -5,7 +5,7 @@ use reference::roster::joined;
 use reference::trees::record;
 
 pub fn borders(c: &mut Cases) {
-    roster_borders(c);
+    roster_borders(c, Cases::judge);
     let read = |c: &mut Cases, line: &[u8], text: &[u8], start| c.read(Kind::Species, line, text, start);
     text_borders(c, read);
     limit_borders(c, read);
@@ -17,7 +17,8 @@ pub fn borders(c: &mut Cases) {
     unresolved_borders(c);
 }
 
-fn roster_borders(c: &mut Cases) {
+/// The borders of a roster, for each way of judging one.
+pub fn roster_borders(c: &mut Cases, judge: impl Fn(&mut Cases, &[u8])) {
     for line in [
         &b""[..], b" ", b"a", b"a ", b" a", b"a  b", b"a  ", b"ab ab!", b"ab!ab", b"a b a", b"a A", b"A a", b"a\r", b"a\tb", b"a\n", b"a_b",
         b"abcdefghijklmno", b"abcdefghijklmnop", b"b abcdefghijklmnop", b"abcdefghijklmnop b", b"abcdefghijklmnop!", b"0 1 2", b"a-b c", b"Z z 9 0",
@@ -25,9 +26,9 @@ fn roster_borders(c: &mut Cases) {
         b"a b c d e f g h i j k l m n o p", b"a b c d e f g h i j k l m n o p q", b"a b c d e f g h i j k l m n o p a",
         b"a b c d e f g h i j k l m n o p abcdefghijklmnopqrs", b"a b c d e f g h i j k l m n o p ", b"a b c d e f g h i j k l m n o p !",
     ] {
-        c.judge(line);
+        judge(c, line);
     }
-    c.judge(&[b'x'; 65_537]);
+    judge(c, &[b'x'; 65_537]);
 }
 
 /// The borders of a text, for each way of reading one.

@@ -77,8 +77,90 @@ impl Cases {
         self.add(b'O', &[escaped(line), numbers(genes), decimal(count), numbers(species), decimal(out)]);
     }
 
+    /// The calls on a stand have both rosters and the mapping first.
+    fn add_on_stand(&mut self, call: u8, texts: [&[u8]; 3], fields: &[Vec<u8>]) {
+        self.add(call, &[&texts.map(escaped)[..], fields].concat());
+    }
+
+    pub fn stand_judge(&mut self, texts: [&[u8]; 3]) {
+        self.add_on_stand(b'I', texts, &[]);
+    }
+
+    pub fn stand_read(&mut self, individuals: &[u8], text: &[u8], start: usize) {
+        self.add(b'N', &[escaped(individuals), escaped(text), decimal(start)]);
+    }
+
+    pub fn stand_weight(&mut self, texts: [&[u8]; 3], genes: &[u32], count: usize, cluster: usize) {
+        self.add_on_stand(b'X', texts, &[folded(genes, 64), decimal(count), decimal(cluster)]);
+    }
+
+    pub fn stand_score(&mut self, texts: [&[u8]; 3], genes: &[u32], count: usize, species: &[u16; 32]) {
+        self.add_on_stand(b'Y', texts, &[folded(genes, 64), decimal(count), numbers(species)]);
+    }
+
+    pub fn stand_search(&mut self, texts: [&[u8]; 3], genes: &[u32], count: usize, allowed: &[u16], tables: [usize; 2]) {
+        let [scores, splits] = tables.map(decimal);
+        self.add_on_stand(b'Z', texts, &[folded(genes, 64), decimal(count), numbers(allowed), scores, splits]);
+    }
+
+    pub fn shelf(&mut self, steps: &Steps) {
+        self.add(b'B', &steps.0);
+    }
+
     pub fn report(&mut self, input: &[u8]) {
         self.add(b'P', &[escaped(input)]);
+    }
+}
+
+/// Steps on one shelf (#112), of which README.md has a table.
+#[derive(Clone, Default)]
+pub struct Steps(Vec<Vec<u8>>);
+
+impl Steps {
+    fn step(&mut self, letter: &str, first: usize, rest: &[u8]) -> &mut Steps {
+        let mut step = format!("{letter} {first}").into_bytes();
+        if !rest.is_empty() {
+            step.push(b' ');
+            step.extend(rest);
+        }
+        self.0.push(step);
+        self
+    }
+
+    pub fn lend(&mut self, length: usize) -> &mut Steps {
+        self.step("l", length, b"")
+    }
+
+    pub fn write(&mut self, index: usize, value: u16) -> &mut Steps {
+        self.step("w", index, &decimal(value as usize))
+    }
+
+    pub fn open(&mut self, n: usize) -> &mut Steps {
+        self.step("o", n, b"")
+    }
+
+    pub fn add(&mut self, bench: usize, r: &[u16; 32]) -> &mut Steps {
+        self.step("a", bench, &numbers(r))
+    }
+
+    pub fn read(&mut self, bench: usize, slot: usize) -> &mut Steps {
+        self.step("r", bench, &decimal(slot))
+    }
+
+    pub fn remove(&mut self, bench: usize, slot: usize) -> &mut Steps {
+        self.step("d", bench, &decimal(slot))
+    }
+
+    pub fn score(&mut self, bench: usize, species: &[u16; 32]) -> &mut Steps {
+        self.step("s", bench, &numbers(species))
+    }
+
+    pub fn search(&mut self, bench: usize, allowed: &[u16]) -> &mut Steps {
+        self.step("f", bench, &numbers(allowed))
+    }
+
+    pub fn again(&mut self, times: usize) -> &mut Steps {
+        self.step("x", times, b"")
     }
 }
 
@@ -108,17 +190,21 @@ fn escaped(bytes: &[u8]) -> Vec<u8> {
     out
 }
 
-/// Numbers in the form of the case file, with repeated numbers and repeated records folded.
 fn numbers(values: &[u16]) -> Vec<u8> {
+    folded(values, 32)
+}
+
+/// Numbers in the form of the case file, with repeated numbers and repeated records, of so many numbers each, folded.
+fn folded<T: Copy + PartialEq + ToString>(values: &[T], length: usize) -> Vec<u8> {
     let mut out = Vec::new();
     let mut at = 0;
     while at < values.len() {
-        if at % 32 == 0 && at >= 32 {
-            let record = &values[at - 32..at];
-            let same = values[at..].chunks(32).take_while(|c| *c == record).count();
+        if at % length == 0 && at >= length {
+            let record = &values[at - length..at];
+            let same = values[at..].chunks(length).take_while(|c| *c == record).count();
             if same > 0 {
                 out.extend(format!("#{same}").bytes());
-                at += 32 * same;
+                at += length * same;
                 continue;
             }
         }
@@ -126,8 +212,8 @@ fn numbers(values: &[u16]) -> Vec<u8> {
             out.push(b' ');
         }
         out.extend(values[at].to_string().bytes());
-        let end = (at / 32 + 1) * 32;
-        let same = values[at..values.len().min(if values.len() % 32 == 0 { end } else { usize::MAX })]
+        let end = (at / length + 1) * length;
+        let same = values[at..values.len().min(if values.len() % length == 0 { end } else { usize::MAX })]
             .iter()
             .take_while(|&&x| x == values[at])
             .count();

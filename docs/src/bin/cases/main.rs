@@ -7,6 +7,8 @@ mod lost;
 mod plain;
 mod quotes;
 mod sheet;
+mod shelf;
+mod stand;
 mod supports;
 mod ties;
 mod unrooted;
@@ -26,6 +28,11 @@ fn main() {
     plain::plain(&mut cases, seeded);
     sheet::sheet(&mut cases, seeded);
     counts::counts(&mut cases, seeded);
+    // those of #110 and #112 are stored as soon as `vectors` reads their letters; until then `cases coming` prints them too
+    if std::env::args().any(|word| word == "coming") {
+        stand::stand(&mut cases, seeded);
+        shelf::shelf(&mut cases, seeded);
+    }
     let mut out = std::io::stdout().lock();
     for line in &cases.lines {
         out.write_all(line).unwrap();

@@ -82,7 +82,7 @@ fn one_name_in_two_forms(c: &mut Cases) {
 }
 
 /// Labels that are good, and labels with each fault, at the border of fifteen and sixteen bytes among them.
-fn border_labels() -> Vec<Vec<u8>> {
+pub fn border_labels() -> Vec<Vec<u8>> {
     let mut labels: Vec<Vec<u8>> = [
         &b"a"[..], b"_", b"_a_", b"a'", b"'a'", b"'a", b"'", b"''", b"'''", b"''''", b"'''''", b"''''''", b"''a", b"''a'", b"'''a'", b"'a'''", b"'a''", b"'a'b", b"'a'b'",
         b"a'b'", b"'a'_", b"'a'''b'", b"'a' ", b"' a", b"' '", b"'' '", b"' a '", b"'  '",

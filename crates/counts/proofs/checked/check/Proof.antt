@@ -9,7 +9,7 @@ use Rattle.roster.proofs.Names.{names-count}
 use Rattle.tokens.specs.declared.answer.Threshold.the-variants.{NoThreshold}
 use Rattle.reader.specs.declared.Kind.the-variants.{Species}
 use Rattle.reader.proofs.Replies.{WasRead, reads-zero}
-use Rattle.counts.proofs.CallFaults.{Passed}
+use Rattle.counts.proofs.CallFaults.{DrawnPassed}
 use Rattle.counts.proofs.Checking.{judged-names, countable, solvable, unread, all-end, call-wrong, call-right, drawn-binary, counts-wrong, counts-right}
 use Rattle.counts.proofs.checked.check.Statement.{statement}
 use Rattle.counts.proofs.checked.check.Tie as tie
@@ -33,26 +33,26 @@ species c = judged-names _ _ (read (c .before) .good) (c .judge .ensures)
 -- behind the second the gene trees, the tables and the tree are in order
 passed :
     (c : tie.Else2) → let args = first c .before .before .before .before .before .before .before .before .before .args in
-    Passed (length (names (args .line .now))) (args .genes .now) (args .count) (first c .before .before .read-into .result .numbers) (args .scores .now)
+    DrawnPassed (length (names (args .line .now))) (args .genes .now) (args .count) (first c .before .before .read-into .result .numbers) (args .scores .now)
     (args .splits .now)
 passed c =
-    let said = c .before .before .judge2 .ensures in
+    let said = c .before .before .judge-drawn .ensures in
     call-right _ _ _ _ _ _ _ (read (first c)) _ (rw (species (c .before .before .before .before .before .before .before)) at said) (omega arith)
 
 returns : tie.Need-returns
 returns c = unread _ _ _ _ _ _ _ _ (c .before .before .before .read-into .ensures .0) (λ z. omega arith) (c .refused .ensures) refl refl
 
-judge-requires-2 : tie.Need-judge-requires-2
-judge-requires-2 c κs =
+judge-drawn-requires : tie.Need-judge-drawn-requires
+judge-drawn-requires c κs =
     let w = read (c .before .before .before .before .before) in
     let args = c .before .before .before .before .before .before .before .before .before .before .before .before .before .before .args in
     let few = names-count speciesMost (args .line .now) (w .good) in
     let is = species (c .before .before .before .before) in
-    (omega arith, (omega arith, w .gene .valid .form .thirty-two))
+    (omega arith, (omega arith, w .gene .valid .form .sized))
 
 returns-2 : tie.Need-returns-2
 returns-2 c =
-    let said = c .before .before .judge2 .ensures in
+    let said = c .before .before .judge-drawn .ensures in
     let is = species (c .before .before .before .before .before .before .before) in
     call-wrong _ _ _ _ _ _ _ (read (c .before .before .before .before .before .before .before .before)) (rw is at said) (λ z. omega arith) refl refl refl
 
@@ -76,7 +76,7 @@ returns-3 c =
     refl
 
 slice-aggregate-distance : tie.Need-slice-aggregate-distance
-slice-aggregate-distance c = let tables = c .before .before .before .before .before in sym (read (first tables) .gene .valid .form .thirty-two)
+slice-aggregate-distance c = let tables = c .before .before .before .before .before in sym (read (first tables) .gene .valid .form .sized)
 
 distance-requires : tie.Need-distance-requires
 distance-requires c κs =
@@ -104,7 +104,7 @@ check-spec =
     returns
     (λ c κs. search needs)
     (λ c. search needs)
-    judge-requires-2
+    judge-drawn-requires
     (λ c. search needs)
     (λ c. search needs)
     returns-2

@@ -24,19 +24,27 @@ loop-holds c = compared-start _ _ _ _ _ (c .before .before .before .pre .1 .1 .1
 shared-slice-read-weigh : tie.Need-shared-slice-read-weigh Inv-loop μ-loop
 shared-slice-read-weigh c = let few = c .before .before .before .loop .inv .few in omega arith
 
--- what the turn makes of its node, and whether the count is right
+-- what the turn makes of its node
 turn :
     (c : tie.After-is-right Inv-loop μ-loop) → let start = c .before .before .before .before .before .before .before .before .before .args in
     Turned (weightIn (start .genes .now) (start .count)) (start .text .now) (start .start) (start .found .now) (start .m)
     (c .before .before .before .before .before .loop .left) (c .before .before .before .next-end .result)
 turn c = turned _ (c .before .before .before .before .before .loop .inv) (search needs) (search needs) _ (c .before .before .before .next-end .ensures)
 
+-- what the count is compared with is the weight of the node's cluster over rooted gene trees
+weighed :
+    (c : tie.After-is-right Inv-loop μ-loop) → let start = c .before .before .before .before .before .before .before .before .before .args in
+    let k = start .m - c .before .before .before .before .before .loop .left in
+    c .before .weigh .result ≡ weightIn (start .genes .now) (start .count) (getD (start .found .now) k 0)
+weighed c = c .before .weigh .ensures
+
+-- whether the count is right
 right :
     (c : tie.After-is-right Inv-loop μ-loop) → let start = c .before .before .before .before .before .before .before .before .before .args in
     let end = c .before .before .before .next-end .result in
     let k = start .m - c .before .before .before .before .before .loop .left in
     c .is-right .result ≡ isRight (weightIn (start .genes .now) (start .count) (getD (start .found .now) k 0)) (given (end .counted) (end .count))
-right c = rw (← c .before .weigh .ensures) (c .is-right .ensures)
+right c = rw (← weighed c) (c .is-right .ensures)
 
 returns : tie.Need-returns Inv-loop μ-loop
 returns c =

@@ -16,7 +16,7 @@ sub-result : tie.Need-sub-result
 sub-result c =
     let start = c .before .before .before .before .before .before .before .before .before .before .before .before .before .before in
     let under =
-    solved-under (start .pre .0 .some-species) (start .pre .0 .weighable .few-species) (c .before .before .before .before .before .before .solve .ensures)
+    solved-under _ (start .pre .0 .some-species) (start .pre .0 .weighable .few-species) (c .before .before .before .before .before .before .solve .ensures)
     (start .args .numbers .now) (start .pre .1)
     in
     omega (arith, c .before .weigh-tree .ensures)

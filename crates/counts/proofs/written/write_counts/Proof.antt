@@ -6,11 +6,10 @@ use borrow.Author.Needs.{needs}
 use Rattle.trees.proofs.GeneRecords.{gene-of-species}
 use Rattle.weights.proofs.Sums.{valid-countable}
 use Rattle.roster.specs.Judged.{speciesMost}
-use Rattle.roster.proofs.Judging.{read-good, read-faulty}
+use Rattle.roster.proofs.Judging.{read-good, read-faulty, read-room}
 use Rattle.writer.specs.Work.{Given}
 use Rattle.writer.proofs.WholeText.{given-few}
-use Rattle.counts.specs.WrittenWork.{TreesJudged}
-use Rattle.counts.proofs.TreesJudging.{TreesInOrder, judged-in-order}
+use Rattle.counts.proofs.TreesJudging.{TreesInOrder, TreesJudged, judged-in-order}
 use Rattle.counts.proofs.Answered.{given-some, given-counts, counts-faulty, counts-judged, counts-put}
 use Rattle.counts.proofs.written.write_counts.Statement.{statement}
 use Rattle.counts.proofs.written.write_counts.Tie as tie
@@ -27,13 +26,24 @@ given c =
     let g = read-good speciesMost (start .args .line .now) (p .result) (p .ensures) (c .before .before .before .if1 .left) in
     record { good = g .0; counted = g .1; tabled = g .2 }
 
--- the gene trees and the species record are in order
+-- what is judged is whether the species record is a tree
+judged :
+    (c : tie.After-judge)
+    → let named = c .before .before .before .before in
+    let start = named .before .before .before .before .before .before .before .before .args in
+    TreesJudged (named .before .before .before .before .parse .result .count) (start .genes .now) (start .count) (start .species .numbers) (c .judge .result)
+judged c = let told = c .judge .ensures in rw (c .before .before .before .is-species-tree .ensures) at told
+
+-- the roster was read before the gene trees and the species record were judged
+abbrev named : tie.Else2 → tie.After-numbers2
+named c = c .before .before .before .before .before .before
+
+-- these are in order
 in-order :
     (c : tie.Else2)
-    → let named = c .before .before .before in
-    let start = named .before .before .before .before .before .before .before .before .args in
-    TreesInOrder (named .before .before .before .before .parse .result .count) (start .genes .now) (start .count) (start .species .numbers)
-in-order c = let g = given (c .before .before .before) in judged-in-order (given-some g) (given-few g) _ _ _ (c .before .before .judge .ensures) (omega arith)
+    → let start = named c .before .before .before .before .before .before .before .before .args in
+    TreesInOrder (named c .before .before .before .before .parse .result .count) (start .genes .now) (start .count) (start .species .numbers)
+in-order c = let g = given (named c) in judged-in-order (given-some g) (given-few g) _ _ _ _ (judged (c .before .before)) (omega arith)
 
 returns : tie.Need-returns
 returns c =
@@ -43,16 +53,16 @@ returns c =
     counts-faulty (s .line .now) (s .genes .now) (s .count) (s .species .numbers) (s .out .now) (f .0) (c .refused .ensures ∙ rw (f .2)) refl
 
 judge-requires : tie.Need-judge-requires
-judge-requires c κs = let g = given c in (given-some g, (given-few g, search needs))
+judge-requires c κs = let g = given (c .before .before .before) in (given-some g, given-few g)
 
 returns-2 : tie.Need-returns-2
 returns-2 c =
-    let named = c .before .before .before in
-    let s = named .before .before .before .before .before .before .before .before .args in
-    let g = given named in
-    let judge = c .before .before .judge in
+    let names = c .before .before .before .before .before .before in
+    let s = names .before .before .before .before .before .before .before .before .args in
+    let g = given names in
+    let judge = c .before .before in
     counts-judged (s .line .now) (s .genes .now) (s .count) (s .species .numbers) (s .out .now) (g .good)
-    (subst (λ (n : ℕ). TreesJudged n (s .genes .now) (s .count) (s .species .numbers) (judge .result)) (g .counted) (judge .ensures))
+    (subst (λ (n : ℕ). TreesJudged n (s .genes .now) (s .count) (s .species .numbers) (judge .judge .result)) (g .counted) (judged judge))
     (c .if2 .taken) refl
 
 weigh-all-requires : tie.Need-weigh-all-requires
@@ -65,8 +75,8 @@ weigh-all-requires c κs =
 put-requires : tie.Need-put-requires
 put-requires c κs =
     let sound = c .before .before .before .before .before .before .before .before in
-    let start = sound .before .before .before .before .before .before .before .before .before .before .before .args in
-    let g = given (sound .before .before .before) in
+    let start = named sound .before .before .before .before .before .before .before .before .args in
+    let g = given (named sound) in
     let o = in-order sound in
     let most = o .tree .form .counted in
     ((start .line .now, g), (gene-of-species (given-some g) (o .tree), λ some. omega arith))
@@ -74,8 +84,8 @@ put-requires c κs =
 returns-3 : tie.Need-returns-3
 returns-3 c =
     let sound = c .before .before .before .before .before .before .before .before .before .before .before in
-    let s = sound .before .before .before .before .before .before .before .before .before .before .before .args in
-    let g = given (sound .before .before .before) in
+    let s = named sound .before .before .before .before .before .before .before .before .args in
+    let g = given (named sound) in
     let weighed = c .before .before .before .before .before .before .before .before .weigh-all in
     counts-put (s .line .now) (s .genes .now) (s .count) (s .species .numbers) (s .out .now) (g .good)
     (subst (λ (n : ℕ). TreesInOrder n (s .genes .now) (s .count) (s .species .numbers)) (g .counted) (in-order sound))
@@ -89,13 +99,16 @@ write-counts-spec =
     (λ c κs. search needs)
     returns
     (λ c. search needs)
+    (λ c κs. (given-few (given c), search needs))
+    (λ c. search needs)
+    (λ c. search needs)
     judge-requires
     returns-2
     (λ c. search needs)
     (λ c. search needs)
     weigh-all-requires
-    (λ c. search needs)
-    (λ c. let long = in-order (c .before .before .before .before .before .before) .tree .form .thirty-two in search needs)
+    (λ c. let p = c .before .before .before .before .before .before .before .before .before .before .before .before .before .before .before .parse in let long = read-room speciesMost _ (p .result) (p .ensures) (omega arith) .0 in search needs)
+    (λ c. let long = in-order (c .before .before .before .before .before .before) .tree .form .sized in search needs)
     (λ c. search needs)
     put-requires
     (λ c. search needs)

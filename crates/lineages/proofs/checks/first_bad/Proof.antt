@@ -11,7 +11,7 @@ use Rattle.lineages.proofs.checks.first_bad.Statement.{statement}
 use Rattle.lineages.proofs.checks.first_bad.Tie as tie
 
 abbrev Inv-loop : tie.InvT-loop
-Inv-loop n genes count i₀ i = PassedTo (λ g. validGene n g) genes count i
+Inv-loop n genes count i₀ i = PassedTo 32 (λ g. validGene n g) genes count i
 
 abbrev μ-loop : tie.MeasureT-loop
 μ-loop n genes count i₀ i = count - i
@@ -44,7 +44,7 @@ first-bad-spec =
     (tie.spec
     Inv-loop
     μ-loop
-    (λ c. passed-start _ _ _)
+    (λ c. passed-start _ _ _ _)
     (λ c. search needs)
     (λ c. search needs)
     (λ c. search needs)

@@ -1,5 +1,6 @@
 -- `records::layout::rising` meets its contract. The invariant: each cluster passed is below the next.
 use Prim.Native.Nat.{ℕ, _+_, _-_, _≤_, _<_}
+use mathlib.Core.Path.{refl}
 use borrow.Author.Count.{below-more}
 use borrow.Author.Needs.{needs}
 use native.Mathlib.Omega.{arith}
@@ -18,7 +19,7 @@ returns : tie.Need-returns Inv-loop μ-loop
 returns c rising =
     let s = c .before .before .before .before .before in
     let turn = c .before .before .before .before .loop in
-    let less = places-of-rising (s .args .r .now) (s .args .m) (s .pre .0) (s .pre .1) rising (turn .i) (omega arith) (omega arith) in
+    let less = places-of-rising (s .args .r .now) (s .args .m) refl (omega arith) rising (turn .i) (omega arith) (omega arith) in
     omega arith
 
 loop-again : tie.Need-loop-again Inv-loop μ-loop
@@ -27,7 +28,7 @@ loop-again c = (search needs, below-more _ _ (c .before .before .before .before 
 returns-2 : tie.Need-returns-2 Inv-loop μ-loop
 returns-2 c =
     let s = c .before .before in
-    rising-of-places (s .args .r .now) (s .args .m) (s .pre .0) (s .pre .1) (λ i one last. c .before .loop .inv .1 i (omega arith) one)
+    rising-of-places (s .args .r .now) (s .args .m) refl (omega arith) (λ i one last. c .before .loop .inv .1 i (omega arith) one)
 
 pub rising-spec : {M : Type 1} → statement M
 rising-spec =

@@ -10,16 +10,16 @@ use Rattle.records.proofs.layout.zeros_behind.Statement.{statement}
 use Rattle.records.proofs.layout.zeros_behind.Tie as tie
 
 abbrev Inv-loop : tie.InvT-loop
-Inv-loop r m i₀ i = (m < i) × ((k : ℕ) → k < i → m < k → getD r k 0 ≡ 0)
+Inv-loop r size m i₀ i = (m < i) × ((k : ℕ) → k < i → m < k → getD r k 0 ≡ 0)
 
 abbrev μ-loop : tie.MeasureT-loop
-μ-loop r m i₀ i = 32 - i
+μ-loop r size m i₀ i = size - i
 
 returns : tie.Need-returns Inv-loop μ-loop
 returns c zeros =
     let s = c .before .before .before .before in
     let turn = c .before .before .before .loop in
-    let zero = places-of-zeros (s .args .r .now) (s .args .m) (s .pre .0) (s .pre .1) zeros (turn .i) (omega arith) (omega arith) in
+    let zero = places-of-zeros (s .args .r .now) (s .args .m) (s .pre .0) (omega arith) zeros (turn .i) (omega arith) (omega arith) in
     omega arith
 
 loop-again : tie.Need-loop-again Inv-loop μ-loop
@@ -28,7 +28,7 @@ loop-again c = (search needs, below-more _ _ (c .before .before .before .loop .i
 returns-2 : tie.Need-returns-2 Inv-loop μ-loop
 returns-2 c =
     let s = c .before .before in
-    zeros-of-places (s .args .r .now) (s .args .m) (s .pre .0) (s .pre .1) (λ i past end. c .before .loop .inv .1 i (omega arith) past)
+    zeros-of-places (s .args .r .now) (s .args .m) (s .pre .0) (omega arith) (λ i past end. c .before .loop .inv .1 i (omega arith) past)
 
 pub zeros-behind-spec : {M : Type 1} → statement M
 zeros-behind-spec =

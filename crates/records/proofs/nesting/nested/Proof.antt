@@ -1,5 +1,6 @@
 -- `records::nesting::nested` meets its contract. The invariants: every cluster passed agrees with all behind it, and the present one with those passed.
 use Prim.Native.Nat.{ℕ, _+_, _-_, _≤_, _<_}
+use mathlib.Core.Path.{refl}
 use mathlib.Core.Logic.{⊎-elim}
 use borrow.Author.Count.{below-more}
 use borrow.Author.Needs.{needs}
@@ -48,11 +49,11 @@ returns c =
     ⊎-elim
     (λ w.
     decides-yes (ltb (s .args .m) i) (lt-ltb (s .args .m) i (w .left))
-    (all-agree (s .args .r .now) (s .args .m) (s .pre .0) (s .pre .1) (λ x one last. c .before .pairs .inv .1 x (omega arith) one)))
+    (all-agree (s .args .r .now) (s .args .m) refl (omega arith) (λ x one last. c .before .pairs .inv .1 x (omega arith) one)))
     (λ w.
     let no = rw (not-true (w .5 .result) (w .6 .taken)) at (w .5 .ensures) in
     decides-no (ltb (s .args .m) i) (le-ltb (s .args .m) i (w .0 .taken))
-    (clash (s .args .r .now) (s .args .m) (s .pre .0) (s .pre .1) i (w .2 .j) (omega arith) (omega arith) (omega arith) no))
+    (clash (s .args .r .now) (s .args .m) refl (omega arith) i (w .2 .j) (omega arith) (omega arith) (omega arith) no))
     (c .pairs-test .came)
 
 pub nested-spec : {M : Type 1} → statement M
@@ -66,12 +67,10 @@ nested-spec =
     (λ c. (search needs, λ x less one. absurd (omega arith)))
     (λ c. search needs)
     (λ c. search needs)
-    (λ c. omega (arith, c .shared-slice-known2 .given (c .before .before .pairs .i)))
     (λ c. search needs)
     (λ c. (search needs, λ y less more. absurd (omega arith)))
     (λ c. search needs)
     (λ c. search needs)
-    (λ c. omega (arith, c .shared-slice-known3 .given (c .before .before .loop .j)))
     (λ c κs. search needs)
     (λ c. search needs)
     (λ c. search needs)

@@ -1,6 +1,6 @@
 -- `records::presence::inside` meets its contract. The invariant: every cluster passed has a species and lies within s.
 use Prim.Native.Nat.{ℕ, _+_, _-_, _≤_, _<_}
-use mathlib.Core.Path.{sym, _∙_}
+use mathlib.Core.Path.{refl, sym, _∙_}
 use borrow.Author.Count.{below-more}
 use borrow.Author.Needs.{needs}
 use native.Mathlib.Omega.{arith}
@@ -22,7 +22,7 @@ returns : tie.Need-returns Inv-loop μ-loop
 returns c all =
     let s = c .before .before .before .before .before in
     let i = c .before .before .before .loop .i in
-    let some = all (getD (s .args .r .now) i 0) (place-among (s .args .r .now) (s .args .m) (s .pre .0) (s .pre .1) i (search needs) (search needs)) in
+    let some = all (getD (s .args .r .now) i 0) (place-among (s .args .r .now) (s .args .m) refl (omega arith) i (search needs) (search needs)) in
     omega arith
 
 loop-again : tie.Need-loop-again Inv-loop μ-loop
@@ -37,13 +37,13 @@ returns-2 : tie.Need-returns-2 Inv-loop μ-loop
 returns-2 c all =
     let s = c .before .before .before .before .before .before .before in
     let i = c .before .before .before .before .before .loop .i in
-    let some = all (getD (s .args .r .now) i 0) (place-among (s .args .r .now) (s .args .m) (s .pre .0) (s .pre .1) i (search needs) (search needs)) in
+    let some = all (getD (s .args .r .now) i 0) (place-among (s .args .r .now) (s .args .m) refl (omega arith) i (search needs) (search needs)) in
     within-false _ _ (sym (c .before .within .ensures) ∙ c .if2 .left) (some .1)
 
 returns-3 : tie.Need-returns-3 Inv-loop μ-loop
 returns-3 c =
     let s = c .before .before .before in
-    all-of-places (s .args .r .now) (s .args .m) (s .pre .0) (s .pre .1) (λ a. (1 ≤ a) × Within a (s .args .s))
+    all-of-places (s .args .r .now) (s .args .m) refl (omega arith) (λ a. (1 ≤ a) × Within a (s .args .s))
     (λ i last one. c .before .loop .inv .1 i (omega arith) one)
 
 pub inside-spec : {M : Type 1} → statement M
@@ -55,7 +55,6 @@ inside-spec =
     (λ c. (search needs, λ k less one. absurd (omega arith)))
     (λ c. search needs)
     (λ c. search needs)
-    (λ c. omega (arith, c .shared-slice-known2 .given (c .before .before .loop .i)))
     returns
     (λ c κs. search needs)
     (λ c. search needs)

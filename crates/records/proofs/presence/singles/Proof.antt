@@ -16,10 +16,10 @@ use Rattle.records.proofs.presence.singles.Statement.{statement}
 use Rattle.records.proofs.presence.singles.Tie as tie
 
 abbrev Inv-loop : tie.InvT-loop
-Inv-loop r m s i₀ i = (k : ℕ) → k < i → Has s k → Among (single k) (take m (drop 1 r))
+Inv-loop r breadth m s i₀ i = (k : ℕ) → k < i → Has s k → Among (single k) (take m (drop 1 r))
 
 abbrev μ-loop : tie.MeasureT-loop
-μ-loop r m s i₀ i = 16 - i
+μ-loop r breadth m s i₀ i = breadth - i
 
 returns : tie.Need-returns Inv-loop μ-loop
 returns c all =
@@ -41,7 +41,9 @@ loop-again c = below-more _ _ (c .before .before .before .before .loop .inv) her
         (c .if1 .came)
 
 returns-2 : tie.Need-returns-2 Inv-loop μ-loop
-returns-2 c i h = c .before .loop .inv i (omega (arith, has-below {i = i} 16 (search needs) h)) h
+returns-2 c i h =
+    let start = c .before .before .before in
+    c .before .loop .inv i (omega (arith, has-below {i = i} (start .args .breadth) (start .pre .1 .1) h)) h
 
 pub singles-spec : {M : Type 1} → statement M
 singles-spec =

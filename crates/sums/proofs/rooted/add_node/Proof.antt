@@ -10,7 +10,7 @@ use Rattle.sums.proofs.rooted.add_node.Tie as tie
 returns : tie.Need-returns
 returns c =
     let start = c .before .before .before .before .before in
-    node-passed _ _ (start .args .sums .now) (omega (arith, c .before .size .ensures, c .if1 .taken))
+    node-passed _ _ _ (start .args .sums .now) (omega (arith, c .before .size .ensures, c .if1 .taken))
 
 cast-change : tie.Need-cast-change
 cast-change c = fits-widen tt (c .before .before .shared-slice-known2 .given _)

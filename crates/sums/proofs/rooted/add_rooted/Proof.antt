@@ -4,12 +4,14 @@ use mathlib.Core.Path.{_∙_}
 use borrow.Author.Needs.{needs}
 use native.Mathlib.Omega.{arith}
 use mir.Facts.{fits-widen}
-use Rattle.sums.proofs.RootedChanges.{NodesTo, nodes-start, nodes-next, nodes-end, summable-same}
+use Rattle.trees.specs.Records.{listed}
+use Rattle.sums.specs.Work.{nodePlus, nodeMinus}
+use Rattle.sums.proofs.RootedChanges.{NodesTo, nodes-start, nodes-next, rooted-done, summable-same}
 use Rattle.sums.proofs.rooted.add_rooted.Statement.{statement}
 use Rattle.sums.proofs.rooted.add_rooted.Tie as tie
 
 abbrev Inv-loop : tie.InvT-loop
-Inv-loop g sums₀ m i₀ sums i = NodesTo g sums₀ sums i
+Inv-loop g sums₀ m i₀ sums i = NodesTo (nodePlus (listed g)) (nodeMinus (listed g)) g sums₀ sums i
 
 abbrev μ-loop : tie.MeasureT-loop
 μ-loop g sums₀ m i₀ sums i = m + 1 - i
@@ -18,7 +20,7 @@ change-requires : tie.Need-change-requires Inv-loop μ-loop
 change-requires c κs = c .before .before .before .before .before .pre .fits
 
 loop-holds : tie.Need-loop-holds Inv-loop μ-loop
-loop-holds c = nodes-start _ _
+loop-holds c = nodes-start _ _ _ _
 
 add-node-requires : tie.Need-add-node-requires Inv-loop μ-loop
 add-node-requires c κs =
@@ -43,7 +45,7 @@ same-length c = c .before .loop .inv .changed .same ∙ c .before .before .befor
 returns : tie.Need-returns Inv-loop μ-loop
 returns c =
     let whole = c .before .before .before .before in
-    nodes-end (whole .before .before .before .before .before .before .pre .countable) (c .before .loop .inv) (omega arith) (whole .change .ensures)
+    rooted-done (whole .before .before .before .before .before .before .pre .countable) (c .before .loop .inv) (omega arith) (whole .change .ensures)
 
 pub add-rooted-spec : {M : Type 1} → statement M
 add-rooted-spec =

@@ -9,7 +9,7 @@ use Rattle.sums.proofs.rooted.children_of.Statement.{statement}
 use Rattle.sums.proofs.rooted.children_of.Tie as tie
 
 abbrev Inv-loop : tie.InvT-loop
-Inv-loop g i sets₀ first₀ left₀ j₀ sets first left j = DownTo g left₀ i sets first left j
+Inv-loop g i sets₀ first₀ left₀ j₀ sets first left j = DownTo 16 g left₀ i sets first left j
 
 abbrev μ-loop : tie.MeasureT-loop
 μ-loop g i sets₀ first₀ left₀ j₀ sets first left j = j

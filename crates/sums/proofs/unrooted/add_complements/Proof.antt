@@ -34,7 +34,7 @@ add-i : tie.Need-add-i Inv-loop μ-loop
 add-i c = let form = c .before .before .before .before .before .before .before .pre .countable .valid .form in omega arith
 
 among-requires : tie.Need-among-requires Inv-loop μ-loop
-among-requires c κs = let form = c .before .before .before .before .before .before .before .pre .countable .valid .form in (form .thirty-two, form .counted)
+among-requires c κs = let form = c .before .before .before .before .before .before .before .pre .countable .valid .form in (form .sized, form .counted)
 
 cast-change : tie.Need-cast-change Inv-loop μ-loop
 cast-change c = omega (arith, whole-below (c .before .before))

@@ -37,7 +37,7 @@ mul-c : tie.Need-mul-c Inv-loop μ-loop
 mul-c c = let f = c .before .before .before .before .before .before .pre .0 .valid .form .counted in search needs
 
 shared-slice-read-c : tie.Need-shared-slice-read-c Inv-loop μ-loop
-shared-slice-read-c c = let f = c .before .before .before .before .before .before .before .pre .0 .valid .form in omega (arith, f .counted, f .thirty-two)
+shared-slice-read-c c = let f = c .before .before .before .before .before .before .before .pre .0 .valid .form in omega (arith, f .counted, f .sized)
 
 loop-again : tie.Need-loop-again Inv-loop μ-loop
 loop-again c =
@@ -66,7 +66,7 @@ child-spec =
     (λ c κs. search needs)
     (λ c. search needs)
     single-requires
-    (λ c. let f = c .before .before .before .before .pre .0 .valid .form .thirty-two in omega arith)
+    (λ c. let f = c .before .before .before .before .pre .0 .valid .form .sized in omega arith)
     (λ c. omega (arith, c .shared-slice-known2 .given 0))
     loop-holds
     mul-c

@@ -23,7 +23,7 @@ loop-holds c =
     (omega arith, place-ahead (h .valid .form) (h .among) (λ k l one e. omega arith), λ k l one e. omega arith)
 
 shared-slice-read-if1 : tie.Need-shared-slice-read-if1 Inv-loop μ-loop
-shared-slice-read-if1 c = let f = c .before .before .pre .valid .form in omega (arith, f .counted, f .thirty-two)
+shared-slice-read-if1 c = let f = c .before .before .pre .valid .form in omega (arith, f .counted, f .sized)
 
 loop-again : tie.Need-loop-again Inv-loop μ-loop
 loop-again c =

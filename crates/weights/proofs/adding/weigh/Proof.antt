@@ -6,12 +6,12 @@ use native.Mathlib.Omega.{arith}
 use lib.ListN.{take, drop}
 use Rattle.weights.specs.Count.{extra}
 use Rattle.trees.proofs.Lent.{part-before, record-among}
-use Rattle.weights.proofs.RunningSums.{WeighedTo, weighed-start, weighed-next, weighed-end, weighed-fits}
+use Rattle.weights.proofs.RunningSums.{WeighedTo, weighed-start, weighed-next, weighed-le, weighed-end, weight-small}
 use Rattle.weights.proofs.adding.weigh.Statement.{statement}
 use Rattle.weights.proofs.adding.weigh.Tie as tie
 
 abbrev Inv-loop : tie.InvT-loop
-Inv-loop rooting genes count a sum₀ i₀ sum i = WeighedTo rooting genes count a sum i
+Inv-loop rooting genes count a sum₀ i₀ sum i = WeighedTo 32 rooting genes count a sum i
 
 abbrev μ-loop : tie.MeasureT-loop
 μ-loop rooting genes count a sum₀ i₀ sum i = count + 1 - i
@@ -36,14 +36,15 @@ counted c =
 add-sum : tie.Need-add-sum Inv-loop μ-loop
 add-sum c =
     let start = c .before .before .before .before .before in
-    let small = weighed-fits _ (c .before .before .before .loop .inv) (start .pre .0) (start .pre .1 .1) (search needs) (counted c) in
+    let small = weight-small (start .args .rooting) (start .args .genes .now) (start .args .a) (start .pre .0) (start .pre .1 .1) in
+    let sum = weighed-le (c .before .before .before .loop .inv) (search needs) (counted c) in
     omega arith
 
 loop-again : tie.Need-loop-again Inv-loop μ-loop
-loop-again c = weighed-next _ (c .before .before .before .loop .inv) (search needs) (counted c)
+loop-again c = weighed-next (c .before .before .before .loop .inv) (search needs) (counted c)
 
 returns : tie.Need-returns Inv-loop μ-loop
-returns c = weighed-end _ (c .before .loop .inv) (omega arith)
+returns c = weighed-end (c .before .loop .inv) (omega arith)
 
 pub weigh-spec : {M : Type 1} → statement M
 weigh-spec =
@@ -51,7 +52,7 @@ weigh-spec =
     (tie.spec
     Inv-loop
     μ-loop
-    (λ c. weighed-start _ _ _ _)
+    (λ c. weighed-start _ _ _ _ _)
     (λ c. search needs)
     (λ c. search needs)
     (λ c. search needs)

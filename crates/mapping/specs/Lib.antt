@@ -1,0 +1,5 @@
+pub mod Mapping
+pub mod Groups
+pub mod Grammar
+pub mod Promise
+pub mod Work

@@ -1,0 +1,5 @@
+pub mod Checks
+pub mod InOrder
+pub mod Promise
+pub mod OneEach
+pub mod Work
