@@ -12,6 +12,25 @@ pub fn counts(c: &mut Cases, s: &mut Seeded) {
     (0..120).for_each(|_| drawn(c, s));
     (0..80).for_each(|_| other_trees(c, s));
     twelve(c, s);
+    farther(c);
+}
+
+/// A fault behind another start, a second gene record at fault, and counts that 32 bits do not hold.
+fn farther(c: &mut Cases) {
+    let (good, bad) = (record(&[1, 2, 3, 4, 7]), record(&[1, 2, 3, 5, 7]));
+    for text in [&b"(x);;((a:0,b:1):0,c:0):0;"[..], b"(x);;((a:0,b:0):0,c:0);", b"(x);;((a:0,b:0)ab:1,'c':0):0;"] {
+        c.check(b"a b c", text, 5, &good, 1, [8, 8]);
+    }
+    let second = [good, bad, bad].concat();
+    for text in [&b"((a:0,b:0):0,c:0):0;"[..], b"((a:0,b:1):0,c:0):0;"] {
+        c.check(b"a b c", text, 0, &second, 3, [8, 8]);
+    }
+    c.write_counts(b"a b c", &second, 3, &good, 64);
+    c.write_counts(b"a b c", &second, 3, &good, 0);
+    for count in ["999999999999", "4294967296", "4294967297", "65536", "65537", "1000"] {
+        let text = format!("((a:0,c:0):{count},b:0):0;");
+        c.check(b"a b c", text.as_bytes(), 0, &good, 1, [8, 8]);
+    }
 }
 
 /// `((a,b),c);` over itself weighs 0 everywhere; `((a,c),b);` over it weighs 1 at a,c.
