@@ -27,6 +27,7 @@ abbrev pub behindCounted : Bool → Part → Part
 behindCounted true other = counted
 behindCounted false other = other
 
+-- the part behind a byte, by the part before it
 abbrev pub behind : Part → ℕ → Part
 behind outside b = behindOutside (eqb b 39) (eqb b 58)
 behind quoted b = behindQuoted (eqb b 39)
@@ -38,10 +39,11 @@ keptBy outside b l = b ∷ l
 keptBy quoted b l = b ∷ l
 keptBy counted b l = l
 
+-- what is left of a text that begins in a part
 unfoldable pub withoutFrom : Part → List ℕ → List ℕ
 withoutFrom part [] = []
 withoutFrom part (b ∷ s) = keptBy (behind part b) b (withoutFrom (behind part b) s)
 
--- the text without its counts
+-- the whole text without them: "Our writer gets a form with these counts" (#114)
 abbrev pub withoutCounts : List ℕ → List ℕ
 withoutCounts s = withoutFrom outside s
