@@ -9,7 +9,7 @@ use Rattle.trees.specs.Tree.{Behind}
 use Rattle.tokens.specs.Tokens.{blanks, skip, number, number_behind, numbers, name, inner_name}
 use Rattle.tokens.specs.Supports.{supported}
 use Rattle.tokens.specs.Values.{written, written_behind}
-use Rattle.branches.specs.Ends.{End, lead, next_end, ends_from, is_count, count_in}
+use Rattle.branches.specs.Ends.{lead, next_end, ends_from, is_count, count_in}
 
 abbrev example : List ℕ
 example = 40 ∷ 39 ∷ 65 ∷ 39 ∷ 58 ∷ 48 ∷ 48 ∷ 55 ∷ 44 ∷ 98 ∷ 58 ∷ 49 ∷ 46 ∷ 53 ∷ 41 ∷ 120 ∷ 58 ∷ 51 ∷ 58 ∷ 57 ∷ 59 ∷ []

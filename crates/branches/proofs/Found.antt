@@ -13,12 +13,12 @@ use Rattle.trees.specs.Tree.{Tree, Forest, Behind}
 use Rattle.trees.specs.Tree.Tree.{leaf, node}
 use Rattle.trees.specs.Thinned.{all_nodes, all_nodes_of}
 use Rattle.tokens.specs.Answers.Answer.{parsed}
-use Rattle.tokens.specs.Tokens.{numbers, name}
+use Rattle.tokens.specs.Tokens.{numbers}
 use Rattle.tokens.specs.Supports.{refuses_fine, unless_fine, supported}
 use Rattle.nodes.specs.Grammar.{Rules, strict, Blanks, Numbers, Inner, Node, Children}
 use Rattle.nodes.specs.Grammar.Blanks.{none, blank}
 use Rattle.nodes.specs.Grammar.Node.{a_leaf, an_inner, a_single}
-use Rattle.nodes.specs.Grammar.Children.{the_last, one_more_lem}
+use Rattle.nodes.specs.Grammar.Children.{the_last, with_more}
 use Rattle.nodes.specs.Worth.{behind_of}
 use Rattle.nodes.proofs.Derivations.{two_wanted}
 use Rattle.nodes.proofs.Rests.{moves-length, name-moves, inner_name-moves, supported-moves}
@@ -211,7 +211,7 @@ among d =
       | an_inner {s₄ = behind} opens (first → l) comma (others → m) inner numbers ↦ l ++ m ++ (behind ∷ [])
       | a_single enough opens (only → l) closes inner numbers ↦ l
       | the_last (only → l) closes ↦ l
-      | one_more_lem (first → l) comma (others → m) ↦ l ++ m
+      | with_more (first → l) comma (others → m) ↦ l ++ m
     ]
 
 -- ---- rule by rule
@@ -247,5 +247,5 @@ module _ (given : Bool) (names : List (List ℕ)) where
             closing-found t f p (beside (found_led l (found (comma_follows comma) l.place)) comma founds) inner behind follows
         | a_single enough opens (only → found) closes inner behind ↦ λ follows p. absurd (two_wanted enough)
         | the_last (only → found) closes ↦ λ p. record { left = _; found = found (closing_follows closes) p; closes = closes }
-        | one_more_lem (first → found) comma (others → founds) ↦ λ p. beside (found (comma_follows comma) p) comma founds
+        | with_more (first → found) comma (others → founds) ↦ λ p. beside (found (comma_follows comma) p) comma founds
       ]

@@ -11,7 +11,7 @@ use Rattle.tokens.specs.Supports.{supported}
 use Rattle.tokens.specs.Values.{written}
 use Rattle.nodes.specs.Grammar.{Rules, Node, Text}
 use Rattle.nodes.specs.Grammar.Node.{a_leaf, an_inner, a_single}
-use Rattle.nodes.specs.Grammar.Children.{the_last, one_more_lem}
+use Rattle.nodes.specs.Grammar.Children.{the_last, with_more}
 use Rattle.nodes.specs.Grammar.Text.{text}
 use Rattle.branches.specs.declared.Ended.{Ended}
 
@@ -25,7 +25,7 @@ behinds d =
       | an_inner {s₄ = behind} opens (first → l) comma (others → m) inner numbers ↦ l ++ m ++ (behind ∷ [])
       | a_single enough opens (only → l) closes inner numbers ↦ l
       | the_last (only → l) closes ↦ l
-      | one_more_lem (first → l) comma (others → m) ↦ l ++ m
+      | with_more (first → l) comma (others → m) ↦ l ++ m
     ]
 
 -- the same of a whole tree

@@ -1,4 +1,6 @@
 // Where the nodes of a tree text end, one after the other, and the count behind each.
+#![tactic(auto)]
+
 ghost use Rattle.std.specs.Prelude.{◌≡◌, List, ℕ, ◌+◌, length, drop};
 ghost use Rattle.std.proofs.Math.Option.{none};
 ghost use Rattle.tokens.specs.Says.{between, Valued, behind_valued};
@@ -11,7 +13,7 @@ use tokens::{BehindRead, Figure, Threshold, Value, next_is};
 
 // A node that ends: the place just behind its closing parenthesis or, for a leaf, its name; whether it has a count, and which, 0 where it has none;
 // and the place behind its numbers, from which on the next node to end is looked for.
-#[derive(Drop)]
+#[derive(Clone, Copy)]
 pub struct Ended {
     pub place: usize,
     pub counted: bool,

@@ -1,4 +1,6 @@
 // The library for C and Rust: each name has the promise of the call that it wraps. include/speciestree.h declares the same.
+#![tactic(auto)]
+
 ghost use Rattle.roster.specs.Judged.{Judged};
 ghost use Rattle.reader.specs.Promise.{Reads};
 ghost use Rattle.reader.specs.declared.Kind.TheVariants.{Species, Gene};

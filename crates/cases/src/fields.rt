@@ -94,7 +94,7 @@ fn grown(v: usize, d: usize) -> usize
 }
 
 // A number, and the place behind its digits.
-#[derive(Drop)]
+#[derive(Clone, Copy)]
 pub struct Numeral {
     pub value: usize,
     pub next: usize,

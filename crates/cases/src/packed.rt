@@ -1,6 +1,5 @@
 // Packed fields: bytes and numbers of which some are put again.
-ghost use Rattle.std.specs.Prelude.{◌≡◌, ◌≤◌, ◌<◌, length};
-ghost use Rattle.io.specs.Counts.{IsPrefixLen};
+ghost use Rattle.std.specs.Prelude.{◌≡◌, ◌≤◌, ◌<◌, length, take};
 
 use crate::fields::{field, least};
 use crate::room;
@@ -41,7 +40,7 @@ fn put(out: &mut [u16], count: usize, token: Token) -> usize
 
 // Puts the numbers of the k-th field of a case, or the bytes where it is text, at the start of out, and answers how many there are.
 pub fn numbers(case: &[u8], k: usize, text: bool, out: &mut [u16]) -> usize
-    ensures { IsPrefixLen result out.new }
+    ensures { (result ≤ length out.new) × (result ≡ length (take result out.new)) }
 {
     let field = field(case, k);
     let mut at = 0;
@@ -63,7 +62,7 @@ pub fn tree(case: &[u8], k: usize) -> Record {
 
 // Puts numbers as bytes at the start of out, as far as there is room, and answers how many there are.
 fn narrow(numbers: &[u16], out: &mut [u8]) -> usize
-    ensures { IsPrefixLen result out.new }
+    ensures { (result ≤ length out.new) × (result ≡ length (take result out.new)) }
 {
     let n = least(numbers.len(), out.len());
     let mut i = 0;
@@ -76,7 +75,7 @@ fn narrow(numbers: &[u16], out: &mut [u8]) -> usize
 
 // The same as bytes.
 pub fn bytes(case: &[u8], k: usize, text: bool, out: &mut [u8]) -> usize
-    ensures { IsPrefixLen result out.new }
+    ensures { (result ≤ length out.new) × (result ≡ length (take result out.new)) }
 {
     let mut space = room::numbers();
     let n = numbers(case, k, text, &mut space);

@@ -6,7 +6,7 @@ ghost use Rattle.std.specs.Prelude.{◌≤◌, ◌<◌, length};
 use crate::fields::{Numeral, behind, byte, decimal, digit, least};
 
 // Where back is 0 the number `value`, and else so many numbers, each the one that stands `back` places before it; and the place behind.
-#[derive(Drop)]
+#[derive(Clone, Copy)]
 pub struct Token {
     pub back: usize,
     pub value: usize,

@@ -123,7 +123,7 @@ half-below n h = omega (arith, pow-suc 2 n)
 pub has-below : {a i : ℕ} (n : ℕ) → a < 2 ^ n → Has a i → i < n
 has-below {a} {i} zero l h = absurd (has-zero i (subst (λ (x : ℕ). Has x i) (lt-one l) h))
 has-below {a} {i = zero} (suc n) l h = omega arith
-has-below {a} {i = suc i} (suc n) l h = let k = has-below n (half-below n l) (has-half a i h) in omega arith
+has-below {a} {i = suc i} (suc n) l h = let k = has-below {a = a / 2} {i = i} n (half-below n l) (has-half a i h) in omega arith
 
 -- ---- one species, and all of them
 

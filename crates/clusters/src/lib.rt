@@ -1,4 +1,6 @@
 // Sets of at most 32 species as numbers: the operations that the layers above need, each by one machine operation.
+#![tactic(auto)]
+
 ghost use Rattle.std.specs.Prelude.{◌≡◌, ◌<◌, ◌≤◌};
 ghost use Rattle.clusters.specs.Sets.{whole, single, union, within, apart, size, lowest};
 

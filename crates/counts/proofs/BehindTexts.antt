@@ -9,7 +9,7 @@ use Rattle.labels.proofs.LabelFronts.{Front, spells-front}
 use Rattle.trees.specs.Tree.{Tree, Forest}
 use Rattle.nodes.specs.Grammar.{strict, Blanks, Node, Children, Text}
 use Rattle.nodes.specs.Grammar.Node.{a_leaf, an_inner, a_single}
-use Rattle.nodes.specs.Grammar.Children.{the_last, one_more_lem}
+use Rattle.nodes.specs.Grammar.Children.{the_last, with_more}
 use Rattle.nodes.specs.Grammar.Text.{text as ended-text}
 use Rattle.nodes.proofs.Derivations.{two_wanted}
 use Rattle.nodes.proofs.Fronts.{strict_placeless, blanks-front, byte-front, node-front, children-front}
@@ -69,7 +69,7 @@ module _ (given : Bool) (names : List (List ℕ)) where
             (ends_append (ends_append p (ends_further over q)) (ends_one (further over (children-behind others))))
         | a_single enough opens (only → p) closes inner behind ↦ absurd (two_wanted enough)
         | the_last (only → p) closes ↦ p
-        | one_more_lem (first → p) comma (others → q) ↦ ends_append p (ends_further (further (node-behind first) (behind-byte 44 comma)) q)
+        | with_more (first → p) comma (others → q) ↦ ends_append p (ends_further (further (node-behind first) (behind-byte 44 comma)) q)
       ]
 
   pub text_ends_of :

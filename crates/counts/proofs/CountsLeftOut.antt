@@ -21,14 +21,13 @@ use Rattle.trees.specs.Records.{listed, largest}
 use Rattle.trees.specs.Drawn.{drawn}
 use Rattle.roster.specs.Roster.{names}
 use Rattle.roster.specs.declared.Reply.{Reply}
-use Rattle.printing.specs.Words.{decimal}
 use Rattle.texts.specs.Writing.{label, note, count_note, node_with, others_with, tree_with, written_with, tree_text, written}
 use Rattle.writer.specs.Promise.{Writes}
 use Rattle.writer.proofs.Derives.{decimal-run}
 use Rattle.writer.proofs.Outcomes.{writes_zero}
 use Rattle.counts.specs.Promise.{weight_in, counts_text, WritesCounts}
 use Rattle.counts.specs.Without.{without_from, without_counts}
-use Rattle.counts.specs.Without.Part.{outside, quoted, counted}
+use Rattle.counts.specs.Without.Part.{quoted, counted}
 use Rattle.counts.proofs.Answered.{counts_zero, counts_there}
 use Rattle.counts.proofs.CountedText.{in_order_small}
 

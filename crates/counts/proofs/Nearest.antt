@@ -82,8 +82,8 @@ module _ (line text : List ℕ) (start : ℕ) (genes : List ℕ) (count : ℕ) (
         let solved = least_solves species (records_in count genes) scores splits in
         let same = finds-once (every-finds [] order.genes_in_order order.scores_fit order.splits_fit solved) finds in
         let far = distances {numbers = []} _ one most solved refl in (
-          c.scoreTable ∙ rw said-nothing (sym far.score_table ∙ same.1),
-          c.splitTable ∙ rw said-nothing (sym far.split_table ∙ same.2),
+          c.score_table ∙ rw said-nothing (sym far.score_table ∙ same.1),
+          c.split_table ∙ rw said-nothing (sym far.split_table ∙ same.2),
           sym (ap (λ (f : Found). f.score) same.0) ∙ solved_least (records_in count genes) one most solved,
         )
 
@@ -94,6 +94,6 @@ module _ (line text : List ℕ) (start : ℕ) (genes : List ℕ) (count : ℕ) (
       let said = said_of line text start genes count scores splits in
       let some : said.number ≡ 0 → ⊥ = λ z. f (number-said line text start genes count scores splits c ∙ z) in (
         ap (λ (r : Reply). r.value) (c.reply ∙ sym (refused-reply _ said.number refl some)),
-        c.scoreTable ∙ sym (refused-kept said.number species some _ scores),
-        c.splitTable ∙ sym (refused-kept said.number species some _ splits),
+        c.score_table ∙ sym (refused-kept said.number species some _ scores),
+        c.split_table ∙ sym (refused-kept said.number species some _ splits),
       )

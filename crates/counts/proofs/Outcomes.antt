@@ -30,7 +30,7 @@ use Rattle.counts.proofs.Yes.{number-said}
 pub checks_once :
     {line text : List ℕ} {start : ℕ} {genes : List ℕ} {count : ℕ} {scores splits : List ℕ} {r r' : Reply} {s s' p p' : List ℕ}
     → Checks line text start genes count scores splits r s p → Checks line text start genes count scores splits r' s' p' → (r ≡ r') × (s ≡ s') × (p ≡ p')
-checks_once c c' = (c.reply ∙ sym c'.reply, c.scoreTable ∙ sym c'.score_table, c.splitTable ∙ sym c'.split_table)
+checks_once c c' = (c.reply ∙ sym c'.reply, c.score_table ∙ sym c'.score_table, c.split_table ∙ sym c'.split_table)
 
 -- ---- the numbers
 

@@ -1,18 +1,16 @@
 -- A text that `check` passes is read by the reader to the record whose score is told, its counts as distances (#114).
 use Prim.Native.Nat.{ℕ, ◌-◌, ◌*◌}
-use mathlib.Core.Path.{◌≡◌, refl, sym, ap, ◌∙◌, subst}
+use mathlib.Core.Path.{◌≡◌, sym, ap, ◌∙◌, subst}
 use mathlib.Core.List.{List, Memᴰ}
 use lib.ListN.{length}
 use Rattle.trees.specs.Tree.{Tree, cluster, clusters}
 use Rattle.trees.specs.Thinned.{all_nodes}
 use Rattle.trees.specs.Records.{record_of}
 use Rattle.roster.specs.declared.Reply.{Reply}
-use Rattle.tokens.specs.Answers.{Answer}
-use Rattle.tokens.specs.Answers.Answer.{parsed}
 use Rattle.tokens.specs.declared.answer.Threshold.TheVariants.{NoThreshold}
 use Rattle.tokens.specs.declared.answer.Value.TheVariants.{Thousandths}
 use Rattle.nodes.specs.Worth.{behind_of, distance_value}
-use Rattle.reader.specs.Promise.{answer_to, Reads}
+use Rattle.reader.specs.Promise.{Reads}
 use Rattle.reader.specs.declared.Kind.TheVariants.{Species}
 use Rattle.reader.specs.declared.Reading.{Reading}
 use Rattle.branches.proofs.Counts.{counted-value}

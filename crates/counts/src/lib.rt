@@ -1,4 +1,6 @@
 // Trees that come with branch counts (#114): checked, and written.
+#![tactic(auto)]
+
 mod checked;
 mod judged;
 mod written;

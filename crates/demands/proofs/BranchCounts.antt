@@ -288,8 +288,8 @@ only-counts_matter line text text' start start' genes count scores splits r r' s
     ∙ sym (ap (λ (a : Answer Tree). distance_of n recs a) answered') in (
       ap (λ (r : Reply). r.number) c.reply ∙ said ∙ sym (ap (λ (r : Reply). r.number) c'.reply),
       ap (λ (r : Reply). r.value) c.reply ∙ ap₂ value_by said far ∙ sym (ap (λ (r : Reply). r.value) c'.reply),
-      c.scoreTable ∙ rw said (sym c'.score_table),
-      c.splitTable ∙ rw said (sym c'.split_table),
+      c.score_table ∙ rw said (sym c'.score_table),
+      c.split_table ∙ rw said (sym c'.split_table),
     )
 
 -- ---- the writer with counts

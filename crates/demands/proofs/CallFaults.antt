@@ -42,7 +42,7 @@ use Rattle.search.proofs.Demand.{found-answers, none_competes}
 use Rattle.counts.specs.Promise.{counts_text, write_counts_tests, WritesCounts}
 use Rattle.demands.specs.CallFaults.{RosterFault, RootingFault, NoTreeFault}
 use Rattle.demands.specs.CallFaults.{WriteFault, WriteCountsFault, WeightFault, ScoreFault, MarkFault, BehindLengths, SearchRest, SearchFault, TiesFault, PlainFault, SheetFault}
-use Rattle.demands.specs.CallFaults.NoTreeFault.{no_tree_lem}
+use Rattle.demands.specs.CallFaults.NoTreeFault.{without_tree}
 use Rattle.demands.proofs.FirstFaults.{Exact, Meets, exact_last, exact_next, refused_at_lem, one_fault, behind-passed}
 use Rattle.demands.proofs.TestFaults.{roster-met, species-met, over_seven_met, count-met, length-met, species_record_met}
 use Rattle.demands.proofs.TestFaults.{records-met, records-passed, rooting-met, record_met, cluster-met, allowed-met}
@@ -229,7 +229,7 @@ tree-met :
     (rooting : Rooting) (n : ℕ) (genes : List (List ℕ)) (allowed : List ℕ) → n ≤ 16
     → Meets (tree_test (best_for rooting n genes allowed (whole n))) (NoTreeFault n allowed)
 tree-met rooting n genes allowed few =
-    record { numbered = λ z. omega arith; found = λ e. no_tree_lem (found (best_for rooting n genes allowed (whole n)) refl e); only = only }
+    record { numbered = λ z. omega arith; found = λ e. without_tree (found (best_for rooting n genes allowed (whole n)) refl e); only = only }
   where
     found : (best : Option Binary) → best_for rooting n genes allowed (whole n) ≡ best → missing best ≡ true → (c : List ℕ) → Candidate n allowed c → ⊥
     found none b e = none_competes rooting n genes allowed few b
@@ -240,7 +240,7 @@ tree-met rooting n genes allowed few =
     is_missing (some t) b f = absurd (f _ (found-answers rooting n genes allowed few t b).competes)
 
     only : {k p : ℕ} → NoTreeFault n allowed k p → (missing (best_for rooting n genes allowed (whole n)) ≡ true) × (k ≡ 14) × (p ≡ 0)
-    only (no_tree_lem f) = (is_missing (best_for rooting n genes allowed (whole n)) refl f, refl, refl)
+    only (without_tree f) = (is_missing (best_for rooting n genes allowed (whole n)) refl f, refl, refl)
 
 -- a reply has the number and the place that the tests say, 14 behind them
 reply-said :

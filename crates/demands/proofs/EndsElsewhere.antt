@@ -13,7 +13,7 @@ use Rattle.trees.specs.Tree.Forest.{last, more}
 use Rattle.trees.specs.Thinned.{all_nodes}
 use Rattle.nodes.specs.Grammar.{Rules, strict, Blanks, Numbers, Inner, Node, Children, Text}
 use Rattle.nodes.specs.Grammar.Node.{a_leaf, an_inner}
-use Rattle.nodes.specs.Grammar.Children.{the_last, one_more_lem}
+use Rattle.nodes.specs.Grammar.Children.{the_last, with_more}
 use Rattle.nodes.specs.Grammar.Text.{text as ended-text}
 use Rattle.nodes.proofs.Derivations.{two_wanted, over_node}
 use Rattle.nodes.proofs.Fronts.{strict_placeless, BlanksAnd, blanks-front, byte-front, numbers-front, inner-front}
@@ -159,7 +159,7 @@ module _ (given : Bool) (names : List (List ℕ)) where
           anywhere = λ rest'.
               let d = before_two (NodeAt k t xs) x (c.bytes ++ y.bytes) rest' in
               let e = y.anywhere rest' in (
-                one_more_lem d.0 (before_two (BlanksAnd 44) c y.bytes rest') e.0,
+                with_more d.0 (before_two (BlanksAnd 44) c y.bytes rest') e.0,
                 ap₂ ◌++◌ (d.1 ∙ sym (with_two xs (c.bytes ++ y.bytes) rest')) e.1 ∙ sym (map-append (λ y. y ++ rest') (all_with (c.bytes ++ y.bytes) xs) ys),
               );
         },

@@ -35,7 +35,7 @@ use Rattle.gather.specs.GeneTrees.Gathered.{gathered, stopped}
 use Rattle.gather.proofs.GeneTrees.{Turns, gathered_so, stopped_so}
 use Rattle.demands.specs.GeneTrees.{OnSome, RecordsOf}
 use Rattle.demands.specs.Input.{TreesTo, TreesStand}
-use Rattle.demands.specs.Input.TreesTo.{no_tree_yet, one_more_lem}
+use Rattle.demands.specs.Input.TreesTo.{no_tree_yet, with_more}
 use Rattle.demands.specs.ProgramFaults.{MoreBehind, TreesFault}
 use Rattle.demands.specs.ProgramFaults.TreesFault.{refused_tree, tree_513}
 
@@ -68,7 +68,7 @@ module _ (line txt : List ℕ) (at : ℕ) where
   unfolding blanks
   more_behind trees inside = record {
     at = at;
-    trees_to_lem = trees;
+    trees_reach = trees;
     gap = blanks_from;
     inside = inside;
     no_blank = subst (λ (b : ℕ). is_blank b ≡ false) (get_or-drop at txt (blanks (drop at txt)) 0) (run-behind is_blank refl (drop at txt));
@@ -83,7 +83,7 @@ records_of trees = map (λ (t : Tree). record_of (clusters t)) trees
 -- the trees that were read stand up to an offset
 record ReadTo (line txt : List ℕ) (genes : List (List ℕ)) (at : ℕ) : Type 0 where
   trees : List Tree
-  trees_to_lem : TreesTo line txt trees at
+  trees_reach : TreesTo line txt trees at
   records : genes ≡ records_of trees
 
 as_many : {line txt : List ℕ} {genes : List (List ℕ)} {at : ℕ} (r : ReadTo line txt genes at) → length genes ≡ length r.trees
@@ -95,7 +95,7 @@ stopped-gathered e = let z : ◌≡◌ {A = ℕ} 0 1 = cc in omega arith
 -- each tree that stands there has each of its species once, and these are some of the roster's
 pub each_on : {line txt : List ℕ} {at : ℕ} {trees : List Tree} → TreesTo line txt trees at → (t : Tree) → Memᴰ t trees → OnSome (length (names line)) t
 each_on no_tree_yet t m = absurd (Memᴰ.not-nil m)
-each_on {line} (one_more_lem {trees = trees} {t = u} before d j) t m = go (Memᴰ.append_cases trees m) (λ k. each_on before t k)
+each_on {line} (with_more {trees = trees} {t = u} before d j) t m = go (Memᴰ.append_cases trees m) (λ k. each_on before t k)
   where
     go : Memᴰ t trees ⊎ Memᴰ t (u ∷ []) → (Memᴰ t trees → OnSome (length (names line)) t) → OnSome (length (names line)) t
     go (inl k) h = h k
@@ -103,7 +103,7 @@ each_on {line} (one_more_lem {trees = trees} {t = u} before d j) t m = go (Mem�
 
 -- the trees that stand in a text have these records
 pub standing_records : {line txt : List ℕ} {trees : List Tree} → TreesStand line txt trees → RecordsOf (length (names line)) (records_of trees) trees
-standing_records s = record { records = refl; on = each_on s.trees_to_lem }
+standing_records s = record { records = refl; on = each_on s.trees_reach }
 
 -- the trees that were gathered from a text
 pub record GatheredFrom (line txt : List ℕ) (genes : List (List ℕ)) : Type 0 where
@@ -115,7 +115,7 @@ pub record GatheredFrom (line txt : List ℕ) (genes : List (List ℕ)) : Type 0
 -- turn by turn: what is read stands there, to the end, or up to a fault
 turns : (line txt : List ℕ) (shift : ℕ) → Turns line txt (ReadTo line txt) (GatheredFrom line txt) (λ number place. TreesFault line txt shift number (shift + place))
 unfolding Reads
-turns line txt shift = record { begins = record { trees = []; trees_to_lem = no_tree_yet; records = refl }; reads = reads; ends = ends; many = many; refuses = refuses }
+turns line txt shift = record { begins = record { trees = []; trees_reach = no_tree_yet; records = refl }; reads = reads; ends = ends; many = many; refuses = refuses }
   where
     reads :
         {genes : List (List ℕ)} {at : ℕ} {t : Tree} {rest : List ℕ} {q : ℕ} → ReadTo line txt genes at → begun txt at < length txt
@@ -125,7 +125,7 @@ turns line txt shift = record { begins = record { trees = []; trees_to_lem = no_
         let a = accepted-derives Gene NoThreshold line txt (begun txt at) e in
         record {
           trees = now.trees ++ (t ∷ []);
-          trees_to_lem = one_more_lem now.trees_to_lem (draws-behind-blanks line txt at a.draws) (behind-blanks line txt at a.place);
+          trees_reach = with_more now.trees_reach (draws-behind-blanks line txt at a.draws) (behind-blanks line txt at a.place);
           records =
               ap (λ (l : List (List ℕ)). l ++ (record_of (clusters t) ∷ [])) now.records
               ∙ sym (map-append (λ (t : Tree). record_of (clusters t)) now.trees (t ∷ []));
@@ -136,24 +136,24 @@ turns line txt shift = record { begins = record { trees = []; trees_to_lem = no_
       trees = now.trees;
       stand = record {
         end = at;
-        trees_to_lem = now.trees_to_lem;
+        trees_reach = now.trees_reach;
         only_blanks = subst (λ (l : List ℕ). Blanks (drop at txt) l) (drop_of_length-le txt {i = begun txt at} over) (blanks_from line txt at);
       };
-      records = record { records = now.records; on = each_on now.trees_to_lem };
+      records = record { records = now.records; on = each_on now.trees_reach };
       few = few;
     }
 
     many :
         {genes : List (List ℕ)} {at : ℕ} → ReadTo line txt genes at → length genes ≡ genes_most → begun txt at < length txt
         → TreesFault line txt shift 17 (shift + begun txt at)
-    many {at = at} now full inside = tree_513 (more_behind line txt at now.trees_to_lem inside) (sym (as_many now) ∙ full)
+    many {at = at} now full inside = tree_513 (more_behind line txt at now.trees_reach inside) (sym (as_many now) ∙ full)
 
     refuses :
         {genes : List (List ℕ)} {at number place : ℕ} → ReadTo line txt genes at → length genes < genes_most → begun txt at < length txt
         → answer_to Gene NoThreshold line txt (begun txt at) ≡ refused number place → TreesFault line txt shift number (shift + place)
     refuses {at = at} {number} {place} now room inside e =
         let some = refusal_some narrow Gene NoThreshold line txt (begun txt at) e in
-        refused_tree (reading_of NoThreshold (begun txt at) (refused number place)) (more_behind line txt at now.trees_to_lem inside) (omega (arith, as_many now))
+        refused_tree (reading_of NoThreshold (begun txt at) (refused number place)) (more_behind line txt at now.trees_reach inside) (omega (arith, as_many now))
         (ap (reading_of NoThreshold (begun txt at)) (sym e)) (λ z. omega arith)
 
 pub gathered_from : (line txt : List ℕ) (genes : List (List ℕ)) → gather line txt ≡ gathered genes → GatheredFrom line txt genes
@@ -224,19 +224,19 @@ module _ (line txt : List ℕ) where
   comes : {trees : List Tree} {at : ℕ} → TreesTo line txt trees at → length trees ≤ genes_most → Comes trees at
   unfolding walk
   comes no_tree_yet h = record { k = 513; turns_left = refl; same = refl }
-  comes (one_more_lem {trees} {at} {next} {t} before d j) h = go (comes before (omega (arith, length-append trees (t ∷ []))))
+  comes (with_more {trees} {at} {next} {t} before d j) h = go (comes before (omega (arith, length-append trees (t ∷ []))))
     where
       go : Comes trees at → Comes (trees ++ (t ∷ [])) next
       go c = turn c.k refl
         where
           turn : (k : ℕ) → c.k ≡ k → Comes (trees ++ (t ∷ [])) next
-          turn zero e = absurd (omega (arith, c.turns-left, length-append trees (t ∷ [])))
+          turn zero e = absurd (omega (arith, c.turns_left, length-append trees (t ∷ [])))
           turn (suc k) e =
               let r = reads_from_begun line txt at d j in
               let few : length (records_of trees) < genes_most = omega (arith, length-map trees (λ (t : Tree). record_of (clusters t)), length-append trees (t ∷ [])) in
               record {
                 k = k;
-                turns_left = omega (arith, c.turns-left, length-append trees (t ∷ []));
+                turns_left = omega (arith, c.turns_left, length-append trees (t ∷ []));
                 same =
                     c.same ∙ ap (λ (k : ℕ). gather_to (suc k) line txt (records_of trees) at) e
                     ∙ step (suc k) (records_of trees) at r.0 few r.1
@@ -258,5 +258,5 @@ stand_ends line txt s = omega (arith, blanks_all s.only_blanks, length-drop s.en
 pub gathers_standing : (line txt : List ℕ) {trees : List Tree} → TreesStand line txt trees → length trees ≤ genes_most → gather line txt ≡ gathered (records_of trees)
 unfolding gather_to
 gathers_standing line txt {trees} s few =
-    turns_to line txt (ended (records_of trees)) s.trees_to_lem few
+    turns_to line txt (ended (records_of trees)) s.trees_reach few
     (λ k. rw (le-leb (length txt) (begun txt s.end) (stand_ends line txt s)) refl)

@@ -157,7 +157,7 @@ module _ {rooting : Rooting} {n : ℕ} {lots : List (Searched rooting n)} {whole
         allowed_bytes = zeros_and_ones_too (as_the_whole s lot.1) a.allowed_bytes;
       }
 
-  -- for lots that are non_empty and together inside the limit, the whole passes the checks exactly when every lot does
+  -- for lots that are non-empty and together inside the limit, the whole passes the checks exactly when every lot does
   pub passed-together : Passed whole ↔ ((s : Searched rooting n) → Memᴰ s lots → Passed s)
   passed-together = (
     λ p s m. (passed_exactly s).1 (lot_accepted ((passed_exactly whole).0 p) s m),

@@ -41,17 +41,17 @@ reply_to genes count allowed =
 abbrev tree : ℕ → List ℕ → Found
 tree s numbers = record { number = 0; place = 0; score = s; numbers = numbers }
 
-abbrev no_tree_lem : Found
-no_tree_lem = record { number = 14; place = 0; score = 0; numbers = replicate 32 0 }
+abbrev without_tree : Found
+without_tree = record { number = 14; place = 0; score = 0; numbers = replicate 32 0 }
 
 -- by computing: each tree alone, the first twice, both; both without allowed clusters, and with b and c together alone
 replies :
     (reply_to ab_c 1 every-cluster ≡ tree 0 ab_c) × (reply_to ac_b 1 every-cluster ≡ tree 0 ac_b)
     × (reply_to (ab_c ++ ab_c) 2 every-cluster ≡ tree 0 ab_c)
     × (reply_to (ac_b ++ ab_c) 2 every-cluster ≡ tree 1 ab_c)
-    × (reply_to ab_c 1 no_cluster ≡ no_tree_lem)
-    × (reply_to ac_b 1 no_cluster ≡ no_tree_lem)
-    × (reply_to (ac_b ++ ab_c) 2 no_cluster ≡ no_tree_lem)
+    × (reply_to ab_c 1 no_cluster ≡ without_tree)
+    × (reply_to ac_b 1 no_cluster ≡ without_tree)
+    × (reply_to (ac_b ++ ab_c) 2 no_cluster ≡ without_tree)
     × (reply_to ab_c 1 only_bc ≡ tree 1 (record_of (1 ∷ 2 ∷ 4 ∷ 6 ∷ 7 ∷ [])))
     × (reply_to ac_b 1 only_bc ≡ tree 1 (record_of (1 ∷ 2 ∷ 4 ∷ 6 ∷ 7 ∷ [])))
     × (reply_to (ac_b ++ ab_c) 2 only_bc ≡ tree 2 (record_of (1 ∷ 2 ∷ 4 ∷ 6 ∷ 7 ∷ [])))

@@ -42,10 +42,10 @@ use Rattle.outcomes.specs.Outcome.{Outcome, program_most, outcome_of, searched, 
 use Rattle.outcomes.specs.Outcome.Outcome.{refused, solved}
 use Rattle.demands.specs.CallFaults.{◌before◌, RosterFault}
 use Rattle.demands.specs.TextFaults.{TextFault}
-use Rattle.demands.specs.CallFaults.RosterFaultOf.{roster_faulty_lem}
+use Rattle.demands.specs.CallFaults.RosterFaultOf.{faulty_roster}
 use Rattle.demands.specs.CallFaults.◌before◌.{first, later}
 use Rattle.demands.specs.Input.{TreesTo, TreesStand}
-use Rattle.demands.specs.Input.TreesTo.{no_tree_yet, one_more_lem}
+use Rattle.demands.specs.Input.TreesTo.{no_tree_yet, with_more}
 use Rattle.demands.specs.Signed.{Solvable}
 use Rattle.demands.specs.ProgramFaults.{TextLengthFault, ManySpeciesFault, LineFeedFault, ModeFault, TreesFault, NoGeneTreeFault, UnresolvedFault, UnsolvableFault, ProgramFault}
 use Rattle.demands.specs.ProgramFaults.TextLengthFault.{too_long}
@@ -54,7 +54,7 @@ use Rattle.demands.specs.ProgramFaults.LineFeedFault.{feed_missing}
 use Rattle.demands.specs.ProgramFaults.ModeFault.{another_word}
 use Rattle.demands.specs.ProgramFaults.NoGeneTreeFault.{only_blanks}
 use Rattle.demands.specs.ProgramFaults.UnresolvedFault.{unresolved_or_incomplete}
-use Rattle.demands.specs.ProgramFaults.UnsolvableFault.{no_tree_lem}
+use Rattle.demands.specs.ProgramFaults.UnsolvableFault.{without_tree}
 use Rattle.demands.proofs.FirstFaults.{NoFault, Meets, Names, names_one, names_first, names_later, passed_none, none_passed}
 use Rattle.demands.proofs.TestFaults.{roster-met}
 use Rattle.demands.proofs.TextFaults.{plain-fault-numbers}
@@ -98,14 +98,14 @@ searched_fourteen rooting n genes allowed {k} {p} e = go (best_for rooting n gen
 
 -- nothing was gathered exactly where nothing stands
 none_stand : {line txt : List ℕ} → Blanks txt [] → TreesStand line txt []
-none_stand b = record { end = 0; trees_to_lem = no_tree_yet; only_blanks = b }
+none_stand b = record { end = 0; trees_reach = no_tree_yet; only_blanks = b }
 
 no_trees_stand : (line txt : List ℕ) → gather line txt ≡ gathered [] → Blanks txt []
-no_trees_stand line txt g = let h = gathered_from line txt [] g in go h.stand.trees_to_lem h.stand.only_blanks h.records.records
+no_trees_stand line txt g = let h = gathered_from line txt [] g in go h.stand.trees_reach h.stand.only_blanks h.records.records
   where
     go : {trees : List Tree} {at : ℕ} → TreesTo line txt trees at → Blanks (drop at txt) [] → [] ≡ records_of trees → Blanks txt []
     go no_tree_yet b e = b
-    go (one_more_lem {trees} {t = t} earlier d j) b e =
+    go (with_more {trees} {t = t} earlier d j) b e =
         absurd (omega (arith, ap length e, length-map (trees ++ (t ∷ [])) (λ (t : Tree). record_of (clusters t)), length-append trees (t ∷ [])))
 
 module _ (input : List ℕ) where
@@ -126,10 +126,10 @@ module _ (input : List ℕ) where
       found {k} {p} h =
           let z = searched_fourteen rooting (length (names line)) genes (allowed_by all rooting (length (names line)) genes) (sym e ∙ h) in
           subst₂ (UnsolvableFault input) (sym z.0) (sym z.1)
-          (no_tree_lem ((none_exactly input).0 (h ∙ ap₂ refused z.0 z.1)))
+          (without_tree ((none_exactly input).0 (h ∙ ap₂ refused z.0 z.1)))
 
       only : {k p : ℕ} → UnsolvableFault input k p → program input ≡ refused k p
-      only (no_tree_lem u) = (none_exactly input).1 u
+      only (without_tree u) = (none_exactly input).1 u
 
   abbrev mode : List ℕ
   mode = first_line (behind_line input)
@@ -327,10 +327,10 @@ module _ (input : List ℕ) where
       mode_on short good (later free (later free' (first (only_blanks b)))) = (omega arith, omega arith)
       mode_on short good (later free (later free' (later free'' (first (unresolved_or_incomplete all is more enter draws unresolved))))) =
           let t = places.3 in let b = more.inside in (omega arith, omega (arith, places.1))
-      mode_on short good (later free (later free' (later free'' (later free''' (no_tree_lem u))))) = (omega arith, omega arith)
+      mode_on short good (later free (later free' (later free'' (later free''' (without_tree u))))) = (omega arith, omega arith)
 
       roster : {k p : ℕ} → length input ≤ text_most → FromRoster k p → (k ≤ 19) × (p ≤ 200000)
-      roster short (first (roster_faulty_lem inside stands earlier)) = (omega arith, omega (arith, line-short))
+      roster short (first (faulty_roster inside stands earlier)) = (omega arith, omega (arith, line-short))
       roster short (later free (first (over_12 h))) = (omega arith, omega arith)
       roster short (later free (later free' (first (feed_missing h)))) = (omega arith, omega arith)
       roster short (later free (later free' (later free'' f))) = mode_on short (none_passed (roster-met line) free) f

@@ -95,7 +95,7 @@ missed rooting (some t) genes f = absurd (f refl)
 
 -- no test found a fault, and there is no tree; or one did
 pub data Refused (said : Verdict) (r : Found) : Type 0 where
-  no_tree_lem : said.number ≡ 0 → r ≡ without 14 0 → Refused said r
+  without_tree : said.number ≡ 0 → r ≡ without 14 0 → Refused said r
   by_test : (said.number ≡ 0 → ⊥) → r ≡ without said.number said.place → Refused said r
 
 -- a table that was filled: its first 2^n entries are new, the others stay
@@ -110,7 +110,7 @@ pub refused-ways :
 refused-ways said rooting tree genes r told refusal = go said.number said.place told
   where
     go : (k q : ℕ) → r ≡ found_or k q (found_by rooting tree genes) → Refused (record { number = k; place = q }) r
-    go zero q e = no_tree_lem refl (e ∙ missed rooting tree genes (λ z. refusal (ap (λ (r : Found). r.number) e ∙ z)))
+    go zero q e = without_tree refl (e ∙ missed rooting tree genes (λ z. refusal (ap (λ (r : Found). r.number) e ∙ z)))
     go (suc k) q e = by_test (λ z. omega arith) e
 
 -- its number is that of a test, or 14; "score 0 .. an all-zero record"
@@ -120,22 +120,22 @@ pub refused_not_found :
 refused_not_found l numbers {r} ways listed fourteen = go ways (verdict-listed l)
   where
     go : Refused (verdict l) r → ((verdict l).number ≡ 0) ⊎ Among (verdict l).number (map (λ (t : Test). t.number) l) → NotFound numbers r
-    go (no_tree_lem z e) m = rw e (record { listed = fourteen; score = refl; numbers_zero = refl })
+    go (without_tree z e) m = rw e (record { listed = fourteen; score = refl; numbers_zero = refl })
     go (by_test f e) (inl z) = absurd (f z)
     go (by_test f e) (inr m) = rw e (record { listed = listed (verdict l).number m; score = refl; numbers_zero = refl })
 
 -- another number than 14 comes from a test, and 14 from none
 pub refused_by_test : {said : Verdict} {r : Found} → Refused said r → (r.number ≡ 14 → ⊥) → said.number ≡ 0 → ⊥
-refused_by_test (no_tree_lem z e) other = absurd (other (ap (λ (r : Found). r.number) e))
+refused_by_test (without_tree z e) other = absurd (other (ap (λ (r : Found). r.number) e))
 refused_by_test (by_test f e) other = f
 
 -- nor does another number than 14 come where no test has it
 pub refused-never : (l : List Test) (m : ℕ) {r : Found} → (m ≡ 0 → ⊥) → (m ≡ 14 → ⊥) → NoneGives m l → Refused (verdict l) r → r.number ≡ m → ⊥
-refused-never l m nonzero other never (no_tree_lem z e) is = other (sym is ∙ ap (λ (r : Found). r.number) e)
+refused-never l m nonzero other never (without_tree z e) is = other (sym is ∙ ap (λ (r : Found). r.number) e)
 refused-never l m nonzero other never (by_test f e) is = verdict-never m l (λ z. nonzero (sym z)) never (sym (ap (λ (r : Found). r.number) e) ∙ is)
 
 pub refused_by_none : (l : List Test) {r : Found} → NoneGives 14 l → Refused (verdict l) r → r.number ≡ 14 → (verdict l).number ≡ 0
-refused_by_none l never (no_tree_lem z e) is = z
+refused_by_none l never (without_tree z e) is = z
 refused_by_none l never (by_test f e) is = absurd (verdict-never 14 l (λ z. omega arith) never (sym (ap (λ (r : Found). r.number) e) ∙ is))
 
 -- ---- "0 | done | 0"

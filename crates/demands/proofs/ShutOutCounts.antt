@@ -71,7 +71,7 @@ unfolding abc-line alike-text far-text ab_c ac_b lent distance least_score check
     leaf_by closing_by read_tree_to_by read_tree_by read_node_by answer_within lead next_end ends_from is_count count_in k_of extra weight score count_test first_failing records_test
     clusters_in is_low lows each forks trees_to trees_on those all score_of trees_over least_trees best best_for allowed_in
 checks_computed = (
-  λ r s p c. (c.reply, ap (λ (l : List ℕ). get_or l 0 0) c.scoreTable, ap (λ (l : List ℕ). get_or l 0 0) c.splitTable),
+  λ r s p c. (c.reply, ap (λ (l : List ℕ). get_or l 0 0) c.score_table, ap (λ (l : List ℕ). get_or l 0 0) c.split_table),
   λ r s p c. c.reply,
   λ r s p c. c.reply,
 )

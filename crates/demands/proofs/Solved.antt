@@ -81,11 +81,11 @@ species_in input = length (names (first_line input))
 -- an outcome that only the search gives: a tree, or 14
 pub data Late : Outcome → Type 0 where
   a_tree : {n m s t : ℕ} {r : List ℕ} → Late (solved n m s t r)
-  no_tree_lem : {place : ℕ} → Late (refused 14 place)
+  without_tree : {place : ℕ} → Late (refused 14 place)
 
 early : {o : Outcome} {number place : ℕ} → Late o → (number ≡ 14 → ⊥) → refused number place ≡ o → ⊥
 early a_tree f e = refused-solved e
-early no_tree_lem f e = f cc
+early without_tree f e = f cc
 
 -- each test before the search passed, and the search gave o
 pub record Reached (input : List ℕ) (o : Outcome) : Type 0 where

@@ -38,7 +38,7 @@ use Rattle.demands.proofs.GeneTrees.{trees-enter}
 use Rattle.demands.proofs.Gathering.{standing_records, gathers_standing}
 use Rattle.demands.proofs.TwoLines.{good-line, mode-line, mode_of_word, line_first, line-behind, line_feed_there, trees-behind}
 use Rattle.demands.proofs.Solved.{searched_none, species_in, program-reached}
-use Rattle.demands.proofs.Solved.Late.{no_tree_lem}
+use Rattle.demands.proofs.Solved.Late.{without_tree}
 use Rattle.demands.proofs.Signed.{eligible-competes, competitor-eligible, gathered-trees, input_holds, signed, printed-solved}
 
 -- ---- the input taken apart
@@ -183,7 +183,7 @@ solved_exactly input = (
 -- "she is told there is none exactly when none exists"
 pub none_exactly : (input : List ℕ) → (program input ≡ refused 14 0) ↔ Unsolvable input
 none_exactly input = (
-  λ p. let v = program-reached input no_tree_lem p in record {
+  λ p. let v = program-reached input without_tree p in record {
     line = first_line input;
     all = v.all;
     rooting = v.rooting;

@@ -31,7 +31,7 @@ use Rattle.terms.specs.Allowed.{first_strange, allowed_test}
 use Rattle.plain.specs.Promise.{plain_test}
 use Rattle.demands.specs.CallFaults.{RosterFaultOf}
 use Rattle.demands.specs.CallFaults.{RosterFault, SpeciesFault, OverSevenFault, CountFault, LengthFault, SpeciesRecordFault, RecordsFault, RootingFault, RecordFault, ClusterFault, AllowedFault}
-use Rattle.demands.specs.CallFaults.RosterFaultOf.{roster_faulty_lem}
+use Rattle.demands.specs.CallFaults.RosterFaultOf.{faulty_roster}
 use Rattle.demands.specs.CallFaults.SpeciesFault.{not_1_to_16}
 use Rattle.demands.specs.CallFaults.OverSevenFault.{over_seven}
 use Rattle.demands.specs.CallFaults.CountFault.{none_or_many}
@@ -250,13 +250,13 @@ allowed-met n allowed = record { numbered = λ z. omega arith; found = found; on
 
 -- a roster that is faulty has the fault, whatever the most names are
 pub roster-found : (most : ℕ) (line : List ℕ) → faulty most line ≡ true → RosterFaultOf most line 1 (first_fault most line)
-roster-found most line e = let h = first_fault_lem most line e in roster_faulty_lem (fault-within most line e) h.0 h.1
+roster-found most line e = let h = first_fault_lem most line e in faulty_roster (fault-within most line e) h.0 h.1
 
 -- and one that has it is faulty
 pub roster-only :
     (most : ℕ) (line : List ℕ) {k p : ℕ} → RosterFaultOf most line k p → (faulty most line ≡ true) × (k ≡ 1) × (p ≡ first_fault most line)
 unfolding faulty first_fault
-roster-only most line (roster_faulty_lem {place} inside stands earlier) =
+roster-only most line (faulty_roster {place} inside stands earlier) =
     let e = least_is (fault_at most line) (suc (length line)) 0 place (omega arith) (omega arith) stands (λ q z. earlier q) in
     (le-leb (least (fault_at most line) 0 (suc (length line))) (length line) (omega arith), refl, sym e)
 

@@ -26,7 +26,7 @@ use Rattle.meanings.proofs.MeaningsDecide.{refusal-means, means-refusal}
 use Rattle.demands.specs.TextFaults.{TextFaultWithin}
 use Rattle.demands.specs.TextFaults.TextFaultWithin.{of_roster, too_long, beyond, as_met}
 use Rattle.demands.specs.CallFaults.{RosterFaultOf}
-use Rattle.demands.specs.CallFaults.RosterFaultOf.{roster_faulty_lem}
+use Rattle.demands.specs.CallFaults.RosterFaultOf.{faulty_roster}
 use Rattle.demands.proofs.TestFaults.{roster-found, roster-only}
 
 pub fault_of_refusal :
@@ -65,7 +65,7 @@ fault_of_refusal {limits} kind threshold line text start number place = judged (
     judged false is e = limited (leb (length text) text_most) refl is e
 
 pub roster-number : {most : ℕ} {line : List ℕ} {number place : ℕ} → RosterFaultOf most line number place → number ≡ 1
-roster-number (roster_faulty_lem inside stands earlier) = refl
+roster-number (faulty_roster inside stands earlier) = refl
 
 -- the numbers are those from 1 to 10, and "18, only where a threshold is given" (#113)
 pub fault-numbers :

@@ -298,7 +298,7 @@ module _ {rooting : Rooting} {n : ℕ} {genes : List ℕ} {count : ℕ} {allowed
 
   -- made with ties
   abbrev pub as_made_with_ties : MadeWithTies as_searched
-  as_made_with_ties = record { ties = ties; how_many_lem = r.ties; ties_after = t; finds_ties = f }
+  as_made_with_ties = record { ties = ties; their_number = r.ties; ties_after = t; finds_ties = f }
 
 -- ---- more allowed clusters
 
@@ -324,11 +324,11 @@ module _ {rooting : Rooting} {n : ℕ} {lots : List (Searched rooting n)} {whole
   -- "where #102's lots reach equality" (#111)
   module _ (found : whole.reply.number ≡ 0) (equality : whole.reply.score ≡ sum_of_least lots) where
     -- the number is that of the trees least for every lot
-    pub shared_by_lots : NumberOf (LeastInEach lots) tied.how_many_lem
+    pub shared_by_lots : NumberOf (LeastInEach lots) tied.their_number
     shared_by_lots = shared-number (added parted found) equality (number_of_ties tied.finds_ties (inl found))
 
     -- "it is at most either lot's own number" (#111)
-    pub at_most_each_lot : (s : Searched rooting n) → Memᴰ s lots → (own : MadeWithTies s) → tied.how_many_lem ≤ own.how_many_lem
+    pub at_most_each_lot : (s : Searched rooting n) → Memᴰ s lots → (own : MadeWithTies s) → tied.their_number ≤ own.their_number
     at_most_each_lot s m own =
         shared-le (added parted found) equality (number_of_ties tied.finds_ties (inl found)) s m
         (number_of_ties own.finds_ties (inl (numbers_equal parted (inl found) s m ∙ found)))
@@ -380,13 +380,13 @@ module _ {rooting : Rooting} {n : ℕ} {lots : List (Searched rooting n)} {whole
 module _ {rooting : Rooting} {n : ℕ} {first second whole : Searched rooting n} (parted : LotsOf (first ∷ second ∷ []) whole) (found : whole.reply.number ≡ 0)
     (equality : whole.reply.score ≡ first.reply.score + second.reply.score) (tied : MadeWithTies whole) where
   -- the number is that of the trees least for both
-  pub shared_by_both : NumberOf (λ c. LeastIn first c × LeastIn second c) tied.how_many_lem
+  pub shared_by_both : NumberOf (λ c. LeastIn first c × LeastIn second c) tied.their_number
   shared_by_both =
       let law = least_trees_of_both first second parted found equality in
       number_same (number_of_ties tied.finds_ties (inl found)) (λ c. (law c).0) (λ c. (law c).1)
 
   -- "where #102's lots reach equality, it is at most either lot's own number" (#111)
-  pub at_most_either : (one : MadeWithTies first) (two : MadeWithTies second) → (tied.how_many_lem ≤ one.how_many_lem) × (tied.how_many_lem ≤ two.how_many_lem)
+  pub at_most_either : (one : MadeWithTies first) (two : MadeWithTies second) → (tied.their_number ≤ one.their_number) × (tied.their_number ≤ two.their_number)
   at_most_either one two =
       let sum = equality ∙ sym (sum_of_both first second) in (
         at_most_each_lot parted tied found sum first (here refl) one,

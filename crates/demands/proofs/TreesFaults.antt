@@ -55,14 +55,14 @@ module _ (line txt : List ℕ) where
   unfolding Reads
   fault-stops (refused_tree {trees} {b} r h few reads f) = (
     r.place,
-    turns_to line txt (halted (records_of trees) r.number r.place) h.trees_to_lem (omega arith) (λ k.
+    turns_to line txt (halted (records_of trees) r.number r.place) h.trees_reach (omega arith) (λ k.
         at_room h k (records_of trees) false (lt-leb genes_most (length (records_of trees)) (omega (arith, length-map trees (λ (t : Tree). record_of (clusters t)))))
         ∙ rw (← reads) (halted_on r (records_of trees) (λ numbers next. gather_to k line txt (records_of trees ++ (numbers ∷ [])) next) r.number f)),
     refl,
   )
   fault-stops (tree_513 {trees} {b} h full) = (
     b,
-    turns_to line txt (halted (records_of trees) 17 b) h.trees_to_lem (omega arith) (λ k.
+    turns_to line txt (halted (records_of trees) 17 b) h.trees_reach (omega arith) (λ k.
         at_room h k (records_of trees) true (le-leb genes_most (length (records_of trees)) (omega (arith, length-map trees (λ (t : Tree). record_of (clusters t)))))),
     refl,
   )

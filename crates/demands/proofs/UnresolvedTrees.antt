@@ -36,7 +36,7 @@ use Rattle.report.specs.Program.{mode_of}
 use Rattle.report.specs.declared.modes.Mode.TheVariants.{Over}
 use Rattle.demands.specs.GeneTrees.{OnSome}
 use Rattle.demands.specs.Input.{TreesTo, TreesStand}
-use Rattle.demands.specs.Input.TreesTo.{no_tree_yet, one_more_lem}
+use Rattle.demands.specs.Input.TreesTo.{no_tree_yet, with_more}
 use Rattle.demands.specs.ProgramFaults.{MoreBehind, UnresolvedFault}
 use Rattle.demands.specs.ProgramFaults.UnresolvedFault.{unresolved_or_incomplete}
 use Rattle.demands.proofs.FirstFaults.{Meets}
@@ -53,7 +53,7 @@ module _ (line text : List ℕ) where
   begins_behind : {trees : List Tree} {at : ℕ} → TreesTo line text trees at → begun text at ≡ begins_at (length trees) line text 0
   unfolding begins_at
   begins_behind no_tree_yet = refl
-  begins_behind (one_more_lem {trees} {at} {next} {t} {rest} earlier d j) =
+  begins_behind (with_more {trees} {at} {next} {t} {rest} earlier d j) =
       let l : length (trees ++ (t ∷ [])) ≡ suc (length trees) = omega (arith, length-append trees (t ∷ [])) in
       let ends : end_of line text (begins_at (length trees) line text 0) ≡ next =
       ap (end_of line text) (sym (begins_behind earlier))
@@ -69,7 +69,7 @@ module _ (line text : List ℕ) where
     is : trees ≡ front ++ (tree ∷ back)
     count : length front ≡ i
     at : ℕ
-    trees_to_lem : TreesTo line text front at
+    trees_reach : TreesTo line text front at
     inside : begun text at < length text
     rest : List ℕ
     next : ℕ
@@ -78,7 +78,7 @@ module _ (line text : List ℕ) where
 
   parted : {trees : List Tree} {end : ℕ} → TreesTo line text trees end → (i : ℕ) → i < length trees → Parted trees i
   parted no_tree_yet i h = absurd (omega arith)
-  parted (one_more_lem {trees} {at} {next} {t} {rest} earlier d j) i h = go (dec_lt i (length trees)) (λ k. parted earlier i k)
+  parted (with_more {trees} {at} {next} {t} {rest} earlier d j) i h = go (dec_lt i (length trees)) (λ k. parted earlier i k)
     where
       go : Dec (i < length trees) → (i < length trees → Parted trees i) → Parted (trees ++ (t ∷ [])) i
       go (yes k) among =
@@ -90,7 +90,7 @@ module _ (line text : List ℕ) where
             is = ap (λ (l : List Tree). l ++ (t ∷ [])) p.is ∙ append_assoc p.front (p.tree ∷ p.back) (t ∷ []);
             count = p.count;
             at = p.at;
-            trees_to_lem = p.trees_to_lem;
+            trees_reach = p.trees_reach;
             inside = p.inside;
             rest = p.rest;
             next = p.next;
@@ -107,7 +107,7 @@ module _ (line text : List ℕ) where
             is = refl;
             count = last;
             at = at;
-            trees_to_lem = earlier;
+            trees_reach = earlier;
             inside = r.0;
             rest = rest;
             next = next;
@@ -116,7 +116,7 @@ module _ (line text : List ℕ) where
           }
 
   parted_begins : {trees : List Tree} {i : ℕ} (p : Parted trees i) → begun text p.at ≡ begins_at i line text 0
-  parted_begins p = begins_behind p.trees_to_lem ∙ ap (λ (k : ℕ). begins_at k line text 0) p.count
+  parted_begins p = begins_behind p.trees_reach ∙ ap (λ (k : ℕ). begins_at k line text 0) p.count
 
   -- its record stands at the index
   parted_record : {trees : List Tree} {i : ℕ} (p : Parted trees i) → get_or (records_of trees) i [] ≡ record_of (clusters p.tree)
@@ -156,7 +156,7 @@ module _ (line text : List ℕ) (shift : ℕ) {trees : List Tree} (stand : Trees
   n = length (names line)
 
   on : (t : Tree) → Memᴰ t trees → OnSome n t
-  on = each_on stand.trees_to_lem
+  on = each_on stand.trees_reach
 
   as_many : length (records_of trees) ≡ length trees
   as_many = length-map trees (λ (t : Tree). record_of (clusters t))
@@ -165,17 +165,17 @@ module _ (line text : List ℕ) (shift : ℕ) {trees : List Tree} (stand : Trees
   module _ {others : List Tree} {t : Tree} {b : ℕ} {rest : List ℕ} (more : MoreBehind line text others b)
       (draws : Draws Gene NoThreshold line text b t rest) where
     begins_there : b ≡ begins_at (length others) line text 0
-    begins_there = sym (begins_at_lem line text more) ∙ begins_behind line text more.trees_to_lem
+    begins_there = sym (begins_at_lem line text more) ∙ begins_behind line text more.trees_reach
 
     -- no tree begins behind the last one
     within : length others < length trees
     within = go (dec_lt (length others) (length trees))
       where
         over : length text ≤ begins_at (length trees) line text 0
-        over = subst (λ (k : ℕ). length text ≤ k) (begins_behind line text stand.trees_to_lem) (stand_ends line text stand)
+        over = subst (λ (k : ℕ). length text ≤ k) (begins_behind line text stand.trees_reach) (stand_ends line text stand)
 
         here : Dec (length trees < length others) → length trees ≤ length others → begins_at (length trees) line text 0 < length text
-        here (yes k) h = let p = parted line text more.trees_to_lem (length trees) k in subst (λ (k : ℕ). k < length text) (parted_begins line text p) p.inside
+        here (yes k) h = let p = parted line text more.trees_reach (length trees) k in subst (λ (k : ℕ). k < length text) (parted_begins line text p) p.inside
         here (no k) h =
             subst (λ (k : ℕ). k < length text)
             (begins_there ∙ ap (λ (k : ℕ). begins_at k line text 0) (let e : length others ≡ length trees = omega (arith, k) in e)) more.inside
@@ -186,15 +186,15 @@ module _ (line text : List ℕ) (shift : ℕ) {trees : List Tree} (stand : Trees
 
     there : get_or (records_of trees) (length others) [] ≡ record_of (clusters t)
     there =
-        let p = parted line text stand.trees_to_lem (length others) within in
+        let p = parted line text stand.trees_reach (length others) within in
         let e = derives-accepted Gene NoThreshold line text b draws in
         parted_record line text p
         ∙ ap (λ (u : Tree). record_of (clusters u)) (same_tree p.read (ap (answer_to Gene NoThreshold line text) (sym begins_there) ∙ e))
 
     others_there : (j : ℕ) → j < length others → (u : Tree) × Memᴰ u others × (get_or (records_of trees) j [] ≡ record_of (clusters u))
     others_there j l =
-        let p = parted line text stand.trees_to_lem j (omega (arith, within)) in
-        let q = parted line text more.trees_to_lem j l in (
+        let p = parted line text stand.trees_reach j (omega (arith, within)) in
+        let q = parted line text more.trees_reach j l in (
           q.tree,
           subst (λ (l : List Tree). Memᴰ q.tree l) (sym q.is) (Memᴰ.append_right q.front (here refl)),
           parted_record line text p ∙ ap (λ (u : Tree). record_of (clusters u)) (same_tree p.read q.read),
@@ -225,12 +225,12 @@ module _ (line text : List ℕ) (shift : ℕ) {trees : List Tree} (stand : Trees
           let two = both (is_unrooted rooting) (ltb (first_unresolved n (records_of trees)) (length (records_of trees))) e in
           let l = ltb-true (first_unresolved n (records_of trees)) (length (records_of trees)) two.1 in
           let h = failing_means (λ g. may_unroot n g) (records_of trees) in
-          let p = parted line text stand.trees_to_lem (first_unresolved n (records_of trees)) (omega (arith, as_many)) in
+          let p = parted line text stand.trees_reach (first_unresolved n (records_of trees)) (omega (arith, as_many)) in
           subst (λ (b : ℕ). UnresolvedFault line mode text shift 19 (shift + b)) (parted_begins line text p)
-          (unresolved_or_incomplete all (is ∙ ap (mode_word all) (is_unrooted_lem rooting two.0)) (more_behind line text p.at p.trees_to_lem p.inside)
+          (unresolved_or_incomplete all (is ∙ ap (mode_word all) (is_unrooted_lem rooting two.0)) (more_behind line text p.at p.trees_reach p.inside)
           (λ u m.
           let f = parted-front line text p u m in
-          (enters_exactly few (each_on p.trees_to_lem u m)).0 (ap (λ (g : List ℕ). may_unroot n g) (sym f.2) ∙ h.1 f.0 f.1))
+          (enters_exactly few (each_on p.trees_reach u m)).0 (ap (λ (g : List ℕ). may_unroot n g) (sym f.2) ∙ h.1 f.0 f.1))
           p.draws
           (λ k.
           never_both (may_unroot n (record_of (clusters p.tree))) ((enters_exactly few (record { once = p.draws.once; species = p.draws.species })).1 k)
@@ -248,7 +248,7 @@ module _ (line text : List ℕ) (shift : ℕ) {trees : List Tree} (stand : Trees
           unresolved ((enters_exactly few (on_tree more draws)).0 (ap (λ (g : List ℕ). may_unroot n g) (sym (there more draws)) ∙ v))))
           (λ j l.
           let o = others_there more draws j l in
-          ap (λ (g : List ℕ). may_unroot n g) o.2 ∙ (enters_exactly few (each_on more.trees_to_lem o.0 o.1)).1 (enter o.0 o.1))
+          ap (λ (g : List ℕ). may_unroot n g) o.2 ∙ (enters_exactly few (each_on more.trees_reach o.0 o.1)).1 (enter o.0 o.1))
           in
           let u : rooting ≡ Unrooted = rooting_of all all' rooting Unrooted (sym is ∙ is') in (
             rw (u, lt-ltb (first_unresolved n (records_of trees)) (length (records_of trees)) (omega (arith, as_many, before))) refl,

@@ -21,7 +21,7 @@ pub data ◌before◌ (A B : ℕ → ℕ → Type 0) : ℕ → ℕ → Type 0 wh
 
 -- "1 | roster faulty .. | first byte at fault": "of several such places the smallest is given"; so many names may be on it
 pub data RosterFaultOf (most : ℕ) (line : List ℕ) : ℕ → ℕ → Type 0 where
-  roster_faulty_lem :
+  faulty_roster :
       {place : ℕ} → place ≤ length line → fault_at most line place ≡ true
       → ((p : ℕ) → p < place → fault_at most line p ≡ false) → RosterFaultOf most line 1 place
 
@@ -76,7 +76,7 @@ pub data AllowedFault (n : ℕ) (allowed : List ℕ) : ℕ → ℕ → Type 0 wh
 
 -- "14 | no binary tree over the allowed clusters | 0"
 pub data NoTreeFault (n : ℕ) (allowed : List ℕ) : ℕ → ℕ → Type 0 where
-  no_tree_lem : ((c : List ℕ) → Candidate n allowed c → ⊥) → NoTreeFault n allowed 14 0
+  without_tree : ((c : List ℕ) → Candidate n allowed c → ⊥) → NoTreeFault n allowed 14 0
 
 -- ---- the calls
 

@@ -21,14 +21,14 @@ use Rattle.demands.specs.GeneTrees.{Enters, clusters_shown}
 -- "trees": gene trees (#104) stand one after the other, from the text's first byte up to an offset, each drawn from the offset just behind the one before it
 pub data TreesTo (line text : List ℕ) : List Tree → ℕ → Type 0 where
   no_tree_yet : TreesTo line text [] 0
-  one_more_lem :
+  with_more :
       {trees : List Tree} {at next : ℕ} {t : Tree} {rest : List ℕ}
       → TreesTo line text trees at → Draws Gene NoThreshold line text at t rest → JustBehind text at rest next → TreesTo line text (trees ++ (t ∷ [])) next
 
 -- "then trees until only blanks remain"
 pub record TreesStand (line text : List ℕ) (trees : List Tree) : Type 0 where
   pub end : ℕ
-  pub trees_to_lem : TreesTo line text trees end
+  pub trees_reach : TreesTo line text trees end
   pub only_blanks : Blanks (drop end text) []
 
 -- "Standard input holds the roster line, a line that is exactly `all` or `genes`, then trees", inside the program's limits; "The mode line may read `all unrooted` or `genes unrooted`" (#106)

@@ -38,7 +38,7 @@ pub record LotsOf {rooting : Rooting} {n : ℕ} (lots : List (Searched rooting n
   pub gathered : InAnyOrder (each (λ (s : Searched rooting n). records s) lots) (records whole)
   -- "and one allowed set" (#102): its 2^n bytes are equal
   pub one_allowed_set : (s : Searched rooting n) → Memᴰ s lots → take (2 ^ n) s.allowed ≡ take (2 ^ n) whole.allowed
-  -- there is a lot, and "both lots non_empty" (#102)
+  -- there is a lot, and "both lots non-empty" (#102)
   pub some_lot : 1 ≤ length lots
   pub non_empty : (s : Searched rooting n) → Memᴰ s lots → 1 ≤ s.count
   -- "and together inside the limit" (#102)

@@ -40,7 +40,7 @@ pub data ModeFault (input : List ℕ) : ℕ → ℕ → Type 0 where
 -- "until only blanks remain": behind these trees more stands there, and begins at b, "its first byte that is no blank"
 pub record MoreBehind (line text : List ℕ) (trees : List Tree) (b : ℕ) : Type 0 where
   pub at : ℕ
-  pub trees_to_lem : TreesTo line text trees at
+  pub trees_reach : TreesTo line text trees at
   pub gap : Blanks (drop at text) (drop b text)
   pub inside : b < length text
   pub no_blank : is_blank (get_or text b 0) ≡ false
@@ -68,7 +68,7 @@ pub data UnresolvedFault (line mode text : List ℕ) (shift : ℕ) : ℕ → ℕ
 
 -- "14 | no binary tree over the allowed clusters | 0"
 pub data UnsolvableFault (input : List ℕ) : ℕ → ℕ → Type 0 where
-  no_tree_lem : Unsolvable input → UnsolvableFault input 14 0
+  without_tree : Unsolvable input → UnsolvableFault input 14 0
 
 -- "Checks: 2, 1, 17, mode, trees, 11, 14", with 19 "after 11" (#106), and 10 "after 1 and 17 have been tried and before the mode word is judged"
 abbrev pub ProgramFault : List ℕ → ℕ → ℕ → Type 0

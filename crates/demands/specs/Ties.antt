@@ -33,10 +33,10 @@ TiesPassed r = (r.number ≡ 0) ⊎ (r.number ≡ 14)
 -- a search that was made with ties: the third table that was lent to it, how many ties it reported, and what stood in that table then
 pub record MadeWithTies {rooting : Rooting} {n : ℕ} (s : Searched rooting n) : Type 0 where
   pub ties : List ℕ
-  pub how_many_lem : ℕ
+  pub their_number : ℕ
   pub ties_after : List ℕ
   pub finds_ties :
-      FindsTies rooting n s.genes s.count s.allowed s.scores s.splits ties (with_ties s.reply how_many_lem) s.scores_after s.splits_after
+      FindsTies rooting n s.genes s.count s.allowed s.scores s.splits ties (with_ties s.reply their_number) s.scores_after s.splits_after
       ties_after
 
 -- ---- lots, for every cluster

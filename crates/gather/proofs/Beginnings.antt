@@ -76,10 +76,10 @@ record BegunTo (line trees : List ℕ) (genes : List (List ℕ)) (at : ℕ) : Ty
   each : (i : ℕ) → i < length genes → ReadAt line trees (begins_at i line trees 0) (get_or genes i [])
 
 module _ (line trees : List ℕ) where
-  one_more_lem :
+  with_more :
       {genes : List (List ℕ)} {at : ℕ} {t : Tree} {rest : List ℕ} {q : ℕ} → BegunTo line trees genes at → begun trees at < length trees
       → answer_to Gene NoThreshold line trees (begun trees at) ≡ parsed t rest q → BegunTo line trees (genes ++ (record_of (clusters t) ∷ [])) q
-  one_more_lem {genes} {at} {t} {rest} {q} now inside e =
+  with_more {genes} {at} {t} {rest} {q} now inside e =
       let l : length (genes ++ (record_of (clusters t) ∷ [])) ≡ suc (length genes) = omega (arith, length-append genes (record_of (clusters t) ∷ [])) in
       let ends : end_of line trees (begins_at (length genes) line trees 0) ≡ q =
       ap (end_of line trees) (sym now.next) ∙ ap (λ a. (reading_of NoThreshold (begun trees at) a).next) e
@@ -105,7 +105,7 @@ module _ (line trees : List ℕ) where
   unfolding begins_at
   turns = record {
     begins = record { next = refl; each = λ i h. absurd (omega arith) };
-    reads = one_more_lem;
+    reads = with_more;
     ends = λ now few none. now.each;
     many = λ now full inside. tt;
     refuses = λ now room inside e. tt;

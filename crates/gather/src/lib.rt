@@ -1,4 +1,6 @@
 // The gene trees, read one after the other.
+#![tactic(auto)]
+
 ghost use Rattle.std.specs.Prelude.{◌≡◌, ◌+◌, ◌*◌, ◌≤◌, length};
 ghost use Rattle.std.proofs.lemmas.List.Edits.{sets};
 ghost use Rattle.gather.specs.GeneTrees.{begins_at};
@@ -8,7 +10,7 @@ use reader::{Kind, Threshold};
 use tokens::blanks;
 
 // The gene trees were read, or one was refused.
-#[derive(Drop)]
+#[derive(Clone, Copy)]
 pub enum Trees {
     Gathered { count: usize },
     Stopped { number: u32, place: usize },

@@ -12,7 +12,7 @@ use Rattle.labels.specs.Bytes.{is_digit, is_bare, is_printable, one_more, run, n
 use Rattle.labels.specs.Spelling.{Run, unwritten, Quoted, Spells}
 use Rattle.labels.specs.Spelling.Run.{one, next}
 use Rattle.labels.specs.Spelling.Spells.{bare, quoted}
-use Rattle.labels.specs.Labels.{label_bytes, letters_from, twice_by, doubled, letters, raw_to, closing, told}
+use Rattle.labels.specs.Labels.{label_bytes, letters_from, twice_by, doubled, letters, raw_to, told}
 use Rattle.labels.specs.Labels.Told.{ended}
 use Rattle.labels.proofs.Runs.{run-within}
 use Rattle.labels.proofs.Bytewise.{All, all_take, all_append}

@@ -1,4 +1,6 @@
 // The one scanner of labels, bare and quoted: leaf names, inner names and roster names.
+#![tactic(auto)]
+
 ghost use Rattle.std.specs.Prelude.{◌≡◌, true, false, ◌+◌, ◌≤◌, ◌<◌, length, drop, replicate};
 ghost use Rattle.labels.specs.Bytes.{is_digit, is_name, is_bare, is_printable, is_label, is_blank, run, next_is};
 ghost use Rattle.labels.specs.Spelling.{unwritten as Spelling·unwritten};
@@ -7,14 +9,14 @@ ghost use Rattle.labels.specs.Work.{width_of, closed_at};
 ghost use Rattle.labels.specs.declared.Label.TheVariants.{Faulty};
 
 // How a label ends: just before `next`, or at fault, with 01's number and the byte's place.
-#[derive(Drop)]
+#[derive(Clone, Copy)]
 pub enum Label {
     Ended { next: usize },
     Faulty { number: u32, place: usize },
 }
 
 // A label with the bytes that it stands for, zeros behind them; all zeros where it is at fault.
-#[derive(Drop)]
+#[derive(Clone, Copy)]
 pub struct Scanned {
     pub label: Label,
     pub name: [u8; 16],

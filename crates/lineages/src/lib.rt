@@ -1,4 +1,6 @@
 // Extra lineages counted: the weight of a cluster, the score of a species tree, the clusters that gene trees show.
+#![tactic(auto)]
+
 pub mod checks;
 
 ghost use Rattle.lineages.specs.Promise.{Weighs, Scores, Marks};

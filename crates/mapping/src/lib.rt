@@ -1,4 +1,6 @@
 // The mapping of a stand: which individuals of the second roster each species of the first has (#110).
+#![tactic(auto)]
+
 mod lines;
 mod part;
 
@@ -10,7 +12,7 @@ use part::Part;
 use roster::parse;
 
 // A stand whose rosters and mapping were judged: number and place, how many species and individuals, and for each species the set of its individuals.
-#[derive(Drop)]
+#[derive(Clone, Copy)]
 pub struct Stand {
     pub number: u32,
     pub place: usize,

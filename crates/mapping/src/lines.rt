@@ -7,21 +7,21 @@ use clusters::{apart, single, union, whole};
 use roster::species;
 
 // An individual's label, and the set of that one individual.
-#[derive(Drop)]
+#[derive(Clone, Copy)]
 pub struct Member {
     pub part: Part,
     pub one: u32,
 }
 
 // The individuals of a line, and their set.
-#[derive(Drop)]
+#[derive(Clone, Copy)]
 pub struct Group {
     pub part: Part,
     pub set: u32,
 }
 
 // All lines, and for each species the set of its individuals.
-#[derive(Drop)]
+#[derive(Clone, Copy)]
 pub struct Groups {
     pub part: Part,
     pub groups: [u32; 16],

@@ -6,14 +6,14 @@ ghost use Rattle.mapping.specs.declared.part.Part.TheVariants.{Faulty};
 use labels::{Label, is_label, scan};
 
 // How far a part was read: up to `next`, or to the byte at fault.
-#[derive(Drop)]
+#[derive(Clone, Copy)]
 pub enum Part {
     Read { next: usize },
     Faulty { place: usize },
 }
 
 // A label and the bytes that it stands for, zeros behind them; all zeros where it is at fault.
-#[derive(Drop)]
+#[derive(Clone, Copy)]
 pub struct Labelled {
     pub part: Part,
     pub name: [u8; 16],
@@ -45,7 +45,8 @@ pub(crate) fn label_at(text: &[u8], at: usize) -> Labelled
     let name = scanned.name;
     match label {
         Label::Faulty { number, place } => {
-            if number == 4 {
+            let long = number == 4;
+            if long {
                 return unread(at);
             }
             unread(place)

@@ -27,7 +27,7 @@ use Rattle.nodes.specs.Grammar.ColonNumber.{colon}
 use Rattle.nodes.specs.Grammar.Numbers.{nothing, distance, both, support}
 use Rattle.nodes.specs.Grammar.Inner.{nameless, named}
 use Rattle.nodes.specs.Grammar.Node.{a_leaf, an_inner}
-use Rattle.nodes.specs.Grammar.Children.{the_last, one_more_lem}
+use Rattle.nodes.specs.Grammar.Children.{the_last, with_more}
 use Rattle.nodes.specs.Grammar.Text.{text}
 use Rattle.nodes.proofs.Fronts.{Then, BlanksAnd}
 use Rattle.meanings.specs.Meaning.{part_before, kept_to, known}
@@ -238,7 +238,7 @@ module _ (given : Bool) (names : List (List ℕ)) where
   child-comma room seen t fresh m s v rest h c =
       record {
         forest = more t c.forest;
-        derives = one_more_lem (node_kept m h.first) h.second c.derives;
+        derives = with_more (node_kept m h.first) h.second c.derives;
         fresh = fresh-joins names seen (cluster t) (leaves t) (leaves_of c.forest) fresh (leaf-has t) c.fresh;
       }
 

@@ -27,7 +27,7 @@ use Rattle.trees.proofs.Nodes.{has-leaf}
 use Rattle.roster.specs.Roster.{position}
 use Rattle.tokens.specs.Answers.{Answer, and_then}
 use Rattle.tokens.specs.Answers.Answer.{parsed, refused}
-use Rattle.tokens.specs.Tokens.{blanks, skip, name}
+use Rattle.tokens.specs.Tokens.{blanks, skip}
 use Rattle.tokens.specs.Supports.{supported}
 use Rattle.nodes.specs.Reading.{leaf_new, leaf_known, leaf_at, closing, after_first, after_child, read_node, read_forest, complete, ended, read_tree}
 use Rattle.nodes.specs.Reading.{leaf_by, closing_by, read_node_by, read_forest_by, read_tree_to_by, read_tree_by}

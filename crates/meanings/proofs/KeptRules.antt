@@ -22,7 +22,7 @@ use Rattle.nodes.specs.Grammar.ColonNumber.{colon}
 use Rattle.nodes.specs.Grammar.Numbers.{nothing, distance, both, support}
 use Rattle.nodes.specs.Grammar.Inner.{nameless, named}
 use Rattle.nodes.specs.Grammar.Node.{a_leaf, an_inner, a_single}
-use Rattle.nodes.specs.Grammar.Children.{the_last, one_more_lem}
+use Rattle.nodes.specs.Grammar.Children.{the_last, with_more}
 use Rattle.nodes.specs.Grammar.Text.{text}
 use Rattle.nodes.specs.Deciding.{next_digit, GoesOnAlike}
 use Rattle.nodes.proofs.Derivations.{Steps, over_node, over_children}
@@ -144,7 +144,7 @@ module _ (m : ℕ) (R R' : Rules) (takes : Takes m R R') where
         at_more = λ k t f s s₁ s₂ rest first p comma others q l.
             let g = q l in
             let h = p (omega (arith, blanks_shorter comma, g.before)) in
-            record { before = h.before; taken = one_more_lem h.taken comma g.taken };
+            record { before = h.before; taken = with_more h.taken comma g.taken };
       }
 
   pub node-taken : {k : ℕ} {s rest : List ℕ} {t : Tree} → Node R k s t rest → m ≤ length rest → Node R' k s t rest

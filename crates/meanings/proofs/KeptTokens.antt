@@ -52,7 +52,7 @@ open_byte n s f is o =
     let here : border n s f - 1 ≡ f = omega arith in
     record { some = omega arith; label = rw here o }
 
-pub fault-till : {n f : ℕ} {s : List ℕ} → Fault s n f → OpenTill n s f
+pub fault-till : {n : ℕ} {s : List ℕ} {f : ℕ} → Fault s n f → OpenTill n s f
 fault-till {s = s} (long l) = by (next_is 39 (drop (raw_to label_bytes s) s)) refl
   where
     by : (t : Bool) → next_is 39 (drop (raw_to label_bytes s) s) ≡ t → OpenTill 4 s (raw_to label_bytes s)
@@ -62,10 +62,10 @@ fault-till {s = s} (long l) = by (next_is 39 (drop (raw_to label_bytes s) s)) re
         let two = border-four s f true is in
         let half : border 4 s f - 1 ≡ suc f = omega arith in
         record { some = omega arith; label = rw half (sixteenth_open s l is) }
-fault-till {f = f} {s = s} (stray w b rest split all short other) =
+fault-till {s = s} {f = f} (stray w b rest split all short other) =
     open_byte 3 s f (border-byte 3 s f refl refl refl) (fault_open (stray w b rest split all short other))
-fault-till {f = f} {s = s} (empty rest split over) = open_byte 3 s f (border-byte 3 s f refl refl refl) (fault_open (empty rest split over))
-fault-till {f = f} {s = s} (unclosed w split all short) = open_byte 10 s f (border-byte 10 s f refl refl refl) (fault_open (unclosed w split all short))
+fault-till {s = s} {f = f} (empty rest split over) = open_byte 3 s f (border-byte 3 s f refl refl refl) (fault_open (empty rest split over))
+fault-till {s = s} {f = f} (unclosed w split all short) = open_byte 10 s f (border-byte 10 s f refl refl refl) (fault_open (unclosed w split all short))
 
 -- a leaf's label that ends, refused by 5 or 6 at its first byte
 pub ended-till : (n : ℕ) (s : List ℕ) (r : ℕ) → (eqb n 5 || eqb n 6) ≡ true → next_label s ≡ true → told s ≡ ended r → OpenTill n s 0
@@ -100,8 +100,8 @@ module _ (given : Bool) {names : List (List ℕ)} {most : ℕ} {s₀ : List ℕ}
     inside-kept : (j : ℕ) → OpenNumber s (suc j) → j ≤ number_bytes → Kept given names most s₀ (length u + j)
     inside-kept j o short =
         let byte = take 1 (drop j s) in
-        let one_more_lem : suc j ≡ j + 1 = omega arith in
-        let bytes : take (suc j) s ≡ take j s ++ byte = ap (λ (n : ℕ). take n s) one_more_lem ∙ take-add j 1 s in
+        let with_more : suc j ≡ j + 1 = omega arith in
+        let bytes : take (suc j) s ≡ take j s ++ byte = ap (λ (n : ℕ). take n s) with_more ∙ take-add j 1 s in
         let behind : 1 ≤ length (drop j s) = simp length-drop (omega (arith, o.within)) in
         number-kept given names st.left may j o.word (byte ++ o.end) (simp (length-append, length-take) (omega arith)) (omega (arith, o.within)) short
         (λ rest. rw (append_assoc byte o.end rest, ← append_assoc (take j s) byte (o.end ++ rest), ← bytes) (o.derives rest))

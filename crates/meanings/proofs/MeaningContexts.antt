@@ -20,7 +20,7 @@ use Rattle.nodes.specs.Grammar.ColonNumber.{colon}
 use Rattle.nodes.specs.Grammar.Numbers.{nothing, distance, both, support}
 use Rattle.nodes.specs.Grammar.Inner.{nameless, named}
 use Rattle.nodes.specs.Grammar.Node.{a_leaf, an_inner, a_single}
-use Rattle.nodes.specs.Grammar.Children.{the_last, one_more_lem}
+use Rattle.nodes.specs.Grammar.Children.{the_last, with_more}
 use Rattle.nodes.specs.Grammar.Text.{text}
 use Rattle.meanings.specs.Meaning.{IsText, IsNode, IsNumber, MayStand, NodeMayStand, NameMayStand, NumberMayStand, distances_before, SupportMayStand}
 use Rattle.nodes.proofs.Derivations.{two_wanted}
@@ -239,7 +239,7 @@ module _ (k : ℕ) (t : Tree) (R : Rules) (s v rest : List ℕ) (free : Free (le
   pub child-comma : Then (NodeOf k t) (BlanksAnd 44) s v → ChildrenIn R v rest → ChildrenIn R s rest
   child-comma h c =
       let m = k + c.0 in
-      (m, _, one_more_lem (child-read free m (omega arith) h.first (followed 44 h.second)) h.second (children_deeper R m (omega arith) c.2))
+      (m, _, with_more (child-read free m (omega arith) h.first (followed 44 h.second)) h.second (children_deeper R m (omega arith) c.2))
 
 -- `(` and all the children; then what closes it
 pub children-closing :

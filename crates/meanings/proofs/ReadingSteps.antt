@@ -209,8 +209,8 @@ module _ {s₀ u s : List ℕ} (left : Left s₀ u s) where
     pub front_with : take (suc (length u)) s₀ ≡ u ++ b ∷ []
     front_with =
         let split : s₀ ≡ u ++ b ∷ tail s = left.whole ∙ ap (λ (l : List ℕ). u ++ l) (next_is_cons b s is) in
-        let one_more_lem : suc (length u) ≡ length u + 1 = omega arith in
-        rw (one_more_lem, split) (take-append-add u (b ∷ tail s) 1)
+        let with_more : suc (length u) ≡ length u + 1 = omega arith in
+        rw (with_more, split) (take-append-add u (b ∷ tail s) 1)
 
     pub byte_here : (length u < length s₀) × (get_or s₀ (length u) 0 ≡ b)
     byte_here =

@@ -1,5 +1,5 @@
 -- What a refusal says of the text (01, "Tree text" and "Numbers returned"; #103, #113). `given` says whether a threshold is, `most` how many parentheses may be open at once.
-use Rattle.std.specs.Prelude.{ℕ, zero, suc, ◌+◌, ◌-◌, ◌≤◌, ◌<◌, max, ◌≡◌, Bool, true, false, not, List, [], ◌∷◌, ◌++◌, length, get_or, take, drop, eqb, ltb}
+use Rattle.std.specs.Prelude.{ℕ, suc, ◌+◌, ◌-◌, ◌≤◌, ◌<◌, max, ◌≡◌, Bool, true, false, List, [], ◌∷◌, ◌++◌, length, get_or, take, drop, eqb, ltb}
 use Rattle.clusters.specs.Sets.{Has}
 use Rattle.labels.specs.Bytes.{next_label}
 use Rattle.labels.specs.Spelling.{Spells}

@@ -22,8 +22,8 @@ use Rattle.trees.proofs.Nodes.{children-apart}
 use Rattle.roster.specs.Roster.{position}
 use Rattle.tokens.specs.Answers.{and_then}
 use Rattle.tokens.specs.Answers.Answer.{parsed}
-use Rattle.tokens.specs.Tokens.{blanks, skip, numbers, name, inner_name}
-use Rattle.nodes.specs.Reading.{leaf_known, leaf_at, closing, after_first, after_child, read_node, read_forest, ended, read_tree_to, read_tree, closing_by, leaf_by, read_forest_by, read_node_by, read_tree_by, read_tree_to_by}
+use Rattle.tokens.specs.Tokens.{blanks, skip, name, inner_name}
+use Rattle.nodes.specs.Reading.{leaf_known, leaf_at, closing, after_first, after_child, read_node, read_forest, ended, read_tree, closing_by, leaf_by, read_forest_by, read_node_by, read_tree_by, read_tree_to_by}
 use Rattle.tokens.specs.Supports.{supported}
 use Rattle.nodes.specs.Grammar.{strict, Blanks, Numbers, Inner, Node, Text}
 use Rattle.nodes.specs.Grammar.Blanks.{none, blank}

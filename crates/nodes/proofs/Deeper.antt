@@ -6,7 +6,7 @@ use Rattle.trees.specs.Tree.{Tree, Forest}
 use Rattle.trees.specs.Tree.Tree.{node}
 use Rattle.nodes.specs.Grammar.{Rules, Blanks, Numbers, Inner, Node, Children, Text}
 use Rattle.nodes.specs.Grammar.Node.{a_leaf, an_inner, a_single}
-use Rattle.nodes.specs.Grammar.Children.{the_last, one_more_lem}
+use Rattle.nodes.specs.Grammar.Children.{the_last, with_more}
 use Rattle.nodes.specs.Grammar.Text.{text}
 use Rattle.nodes.proofs.Derivations.{Steps, over_node, over_children}
 
@@ -36,7 +36,7 @@ deeper_steps R =
       at_inner = λ k t f w d b s s₁ s₂ s₃ s₄ s₅ rest bl first p comma others q inner behind m l. inner_deeper bl p comma q inner behind m l;
       at_single = λ k t w d b s s₁ s₂ s₃ s₄ rest enough bl only p closes inner behind m l. single_deeper enough bl p closes inner behind m l;
       at_last = λ k t s s₁ rest only p closes m l. the_last (p m l) closes;
-      at_more = λ k t f s s₁ s₂ rest first p comma others q m l. one_more_lem (p m l) comma (q m l);
+      at_more = λ k t f s s₁ s₂ rest first p comma others q m l. with_more (p m l) comma (q m l);
     }
 
 pub node_deeper : (R : Rules) (m : ℕ) {k : ℕ} {t : Tree} {s rest : List ℕ} → k ≤ m → Node R k s t rest → Node R m s t rest

@@ -10,7 +10,7 @@ use Rattle.trees.specs.Tree.Tree.{leaf, node}
 use Rattle.trees.specs.Tree.Forest.{last, more}
 use Rattle.nodes.specs.Grammar.{Rules, Blanks, Numbers, Inner, Node, Children}
 use Rattle.nodes.specs.Grammar.Node.{a_leaf, an_inner, a_single}
-use Rattle.nodes.specs.Grammar.Children.{the_last, one_more_lem}
+use Rattle.nodes.specs.Grammar.Children.{the_last, with_more}
 
 -- two nodes are wanted where a single one is not enough
 pub two_wanted : 2 ≤ 1 → ⊥
@@ -48,7 +48,7 @@ module _ (R : Rules) (P : ℕ → List ℕ → Tree → List ℕ → Type 0) (Q 
         | a_single {k = k} {t = t} {w = w} {d = d} {b = b} {s = s} {s₁ = s₁} {s₂ = s₂} {s₃ = s₃} {s₄ = s₄} {rest = rest} enough bl (only → p) closes inner behind ↦
             steps.at_single k t w d b s s₁ s₂ s₃ s₄ rest enough bl only p closes inner behind
         | the_last {k = k} {t = t} {s = s} {s₁ = s₁} {rest = rest} (only → p) closes ↦ steps.at_last k t s s₁ rest only p closes
-        | one_more_lem {k = k} {t = t} {f = f} {s = s} {s₁ = s₁} {s₂ = s₂} {rest = rest} (first → p) comma (others → q) ↦
+        | with_more {k = k} {t = t} {f = f} {s = s} {s₁ = s₁} {s₂ = s₂} {rest = rest} (first → p) comma (others → q) ↦
             steps.at_more k t f s s₁ s₂ rest first p comma others q
       ]
 
@@ -63,7 +63,7 @@ module _ (R : Rules) (P : ℕ → List ℕ → Tree → List ℕ → Type 0) (Q 
         | a_single {k = k} {t = t} {w = w} {d = d} {b = b} {s = s} {s₁ = s₁} {s₂ = s₂} {s₃ = s₃} {s₄ = s₄} {rest = rest} enough bl (only → p) closes inner behind ↦
             steps.at_single k t w d b s s₁ s₂ s₃ s₄ rest enough bl only p closes inner behind
         | the_last {k = k} {t = t} {s = s} {s₁ = s₁} {rest = rest} (only → p) closes ↦ steps.at_last k t s s₁ rest only p closes
-        | one_more_lem {k = k} {t = t} {f = f} {s = s} {s₁ = s₁} {s₂ = s₂} {rest = rest} (first → p) comma (others → q) ↦
+        | with_more {k = k} {t = t} {f = f} {s = s} {s₁ = s₁} {s₂ = s₂} {rest = rest} (first → p) comma (others → q) ↦
             steps.at_more k t f s s₁ s₂ rest first p comma others q
       ]
 

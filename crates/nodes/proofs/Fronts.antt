@@ -16,7 +16,7 @@ use Rattle.nodes.specs.Grammar.ColonNumber.{colon}
 use Rattle.nodes.specs.Grammar.Numbers.{nothing, distance, both, support}
 use Rattle.nodes.specs.Grammar.Inner.{nameless, named}
 use Rattle.nodes.specs.Grammar.Node.{a_leaf, an_inner, a_single}
-use Rattle.nodes.specs.Grammar.Children.{the_last, one_more_lem}
+use Rattle.nodes.specs.Grammar.Children.{the_last, with_more}
 use Rattle.nodes.specs.Grammar.Text.{text}
 use Rattle.nodes.proofs.Derivations.{two_wanted, Steps, over_node, over_children}
 
@@ -183,7 +183,7 @@ module _ (R : Rules) (placeless : Placeless R) where
         at_more = λ k t f s s₁ s₂ rest first p comma others q.
             front_as (Then (λ s rest. Node R k s t rest) (Then (BlanksAnd 44) (λ s rest. Children R k s f rest)))
             (λ s rest. Children R k s (more t f) rest)
-            (λ s rest h. one_more_lem h.first h.second.first h.second.second)
+            (λ s rest h. with_more h.first h.second.first h.second.second)
             (front-then (λ s rest. Node R k s t rest) (Then (BlanksAnd 44) (λ s rest. Children R k s f rest)) p (more_front k f comma q));
       }
 
@@ -259,7 +259,7 @@ module _ (R R' : Rules) (allows : Allows R R') where
         at_single = λ k t w d b s s₁ s₂ s₃ s₄ rest enough bl only p closes inner behind.
             a_single (allows.singles enough) bl p closes (inner-allowed inner) (numbers-allowed behind);
         at_last = λ k t s s₁ rest only p closes. the_last p closes;
-        at_more = λ k t f s s₁ s₂ rest first p comma others q. one_more_lem p comma q;
+        at_more = λ k t f s s₁ s₂ rest first p comma others q. with_more p comma q;
       }
 
   pub node-allowed : {k : ℕ} {s rest : List ℕ} {t : Tree} → Node R k s t rest → Node R' k s t rest

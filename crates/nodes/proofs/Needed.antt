@@ -12,7 +12,7 @@ use Rattle.trees.specs.Tree.{Tree, cluster}
 use Rattle.tokens.specs.Answers.{Answer, and_then, unexpected}
 use Rattle.tokens.specs.Answers.Answer.{parsed, refused}
 use Rattle.tokens.specs.Tokens.{blanks, skip}
-use Rattle.nodes.specs.Reading.{read_node, complete, ended, read_tree_to, read_tree, read_tree_by, read_tree_to_by}
+use Rattle.nodes.specs.Reading.{read_node, complete, ended, read_tree, read_tree_by, read_tree_to_by}
 
 -- a tree that was read up to q, by whether it has the needed species: its `;` is the last byte that was read
 abbrev pub unless_lacking : Bool → Tree → List ℕ → ℕ → Answer Tree

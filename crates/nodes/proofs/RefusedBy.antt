@@ -24,7 +24,7 @@ use Rattle.tokens.specs.Tokens.{number_bytes, blanks, skip, limited, numeral, po
 use Rattle.tokens.specs.Tokens.{second_number, first_number, numbers_by, numbers, name_by, name, inner_name_by, inner_name}
 use Rattle.tokens.specs.Values.{too_fine}
 use Rattle.tokens.specs.Supports.{refuses_fine, unless_fine, supported}
-use Rattle.nodes.specs.Reading.{leaf_new, leaf_known, leaf_at, closing, after_first, opened, node_by, after_child, read_node, read_forest, complete, ended, read_tree_to, read_tree, closing_by, leaf_by, read_forest_by, read_node_by, read_tree_by, read_tree_to_by}
+use Rattle.nodes.specs.Reading.{leaf_new, leaf_known, leaf_at, closing, after_first, opened, node_by, after_child, read_node, read_forest, complete, ended, read_tree, closing_by, leaf_by, read_forest_by, read_node_by, read_tree_by, read_tree_to_by}
 use Rattle.nodes.proofs.Answers.{parsed-refused, Reached, and_then-refused}
 use Rattle.nodes.proofs.Rests.{Reader, AllAdvance, advances_shorter, read_node_advances}
 use Rattle.nodes.proofs.Fuel.{skip_shorter, tail_shorter}

@@ -40,7 +40,7 @@ use Rattle.nodes.specs.Grammar.ColonNumber.{colon}
 use Rattle.nodes.specs.Grammar.Numbers.{nothing, distance, both, support}
 use Rattle.nodes.specs.Grammar.Inner.{nameless, named}
 use Rattle.nodes.specs.Grammar.Node.{a_leaf, an_inner}
-use Rattle.nodes.specs.Grammar.Children.{the_last, one_more_lem}
+use Rattle.nodes.specs.Grammar.Children.{the_last, with_more}
 use Rattle.nodes.specs.Grammar.Text.{text}
 use Rattle.nodes.proofs.Answers.{parsed_same, refused-parsed, and_then-parsed, unexpected-parsed}
 use Rattle.nodes.proofs.Derivations.{two_wanted, Steps, over_node}
@@ -392,7 +392,7 @@ after_child-read given names true u others room seen c s m p {x} {rest} fs n is 
     let g : more c r.value ≡ x = cc in
     let f = fs room (union seen (cluster c)) k (p + 1) r.value r.left r.place r.first in
     let j = joins seen c r.value n.once n.new f.once f.new in
-    rw (← g) (record { derives = one_more_lem n.derives (skip-byte 44 m is) (rw e at f.derives); once = j.once; new = j.new })
+    rw (← g) (record { derives = with_more n.derives (skip-byte 44 m is) (rw e at f.derives); once = j.once; new = j.new })
 after_child-read given names false true others room seen c s m p {x} {rest} fs n is closes h =
     let e : tail (skip m) ≡ rest = cc in
     let g : last c ≡ x = cc in

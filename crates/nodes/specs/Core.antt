@@ -39,9 +39,9 @@ pub record Met : Type 0 where
 
 -- what is left of the clusters of a node (#113): within it by the threshold; its own threshold is another only for the root, "not the root", and then none
 unfoldable pub left_in : Threshold → Threshold → Tree → List ℕ
-left_in own threshold (leaf i b) = single i ∷ []
-left_in own threshold (node t f b) =
-    left_below (λ b. weak threshold b) t ++ left_below_of (λ b. weak threshold b) f ++ unless_lost (weak own b) (union (cluster t) (cluster_of f))
+left_in own within (leaf i b) = single i ∷ []
+left_in own within (node t f b) =
+    left_below (λ b. weak within b) t ++ left_below_of (λ b. weak within b) f ++ unless_lost (weak own b) (union (cluster t) (cluster_of f))
 
 -- the same of the nodes of a list
 unfoldable pub left_in_of : Threshold → Forest → List ℕ

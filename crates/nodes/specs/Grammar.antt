@@ -87,7 +87,7 @@ mutual
 
   pub data Children (R : Rules) : ℕ → List ℕ → Forest → List ℕ → Type 0 where
     the_last : {k : ℕ} {t : Tree} {s s₁ rest : List ℕ} → Node R k s t s₁ → Blanks s₁ (41 ∷ rest) → Children R k s (last t) rest
-    one_more_lem :
+    with_more :
         {k : ℕ} {t : Tree} {f : Forest} {s s₁ s₂ rest : List ℕ}
         → Node R k s t s₁ → Blanks s₁ (44 ∷ s₂) → Children R k s₂ f rest → Children R k s (more t f) rest
 

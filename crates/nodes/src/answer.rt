@@ -5,7 +5,7 @@ ghost use Rattle.nodes.specs.Core.{node_fault};
 use tokens::Refusal;
 
 // Where reading is: the place, the species met so far, and how many clusters are stored.
-#[derive(Drop)]
+#[derive(Clone, Copy)]
 pub struct Cursor {
     pub at: usize,
     pub seen: u32,
@@ -13,7 +13,7 @@ pub struct Cursor {
 }
 
 // A node, or the nodes of a list: the set of its leaves, and where reading goes on.
-#[derive(Drop)]
+#[derive(Clone, Copy)]
 pub enum NodeRead {
     Node { mask: u32, next: Cursor },
     Refused(Refusal),

@@ -1,4 +1,6 @@
 // A slow engine for the sceptical (#108): all binary trees on the species, one after the other, those over allowed clusters scored, the first least one kept. It knows nothing of the search and its tables.
+#![tactic(auto)]
+
 mod numbering;
 
 ghost use Rattle.std.specs.Prelude.{◌≡◌, true, List, ℕ, ◌+◌, ◌^◌, ◌≤◌, ◌<◌, length};
@@ -24,7 +26,7 @@ use weights::Rooting;
 use weights::adding::weigh_tree;
 
 // What was found so far: whether a tree was, the least score, and the number of the first tree that has it.
-#[derive(Drop)]
+#[derive(Clone, Copy)]
 struct Best {
     found: bool,
     score: usize,

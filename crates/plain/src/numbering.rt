@@ -31,7 +31,7 @@ const TREES: [u64; 16] = [
 ];
 
 // A low part of a cluster, and the number of a tree among those that have it at their root.
-#[derive(Drop)]
+#[derive(Clone, Copy)]
 struct Part {
     low: u32,
     number: u64,

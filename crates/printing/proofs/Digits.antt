@@ -66,11 +66,11 @@ decimal-length x = digits-length 20 x
 
 -- ---- they are digits
 
-one_more_lem : (s : List ℕ) (d i : ℕ) → i < length (s ++ (d ∷ [])) → (i < length s) ⊎ (get_or (s ++ (d ∷ [])) i 0 ≡ d)
-one_more_lem [] d zero h = inr refl
-one_more_lem [] d (suc i) h = absurd (omega arith)
-one_more_lem (c ∷ s) d zero h = inl (omega arith)
-one_more_lem (c ∷ s) d (suc i) h = ⊎_elim (λ l. inl (omega arith)) inr (one_more_lem s d i (omega arith))
+with_more : (s : List ℕ) (d i : ℕ) → i < length (s ++ (d ∷ [])) → (i < length s) ⊎ (get_or (s ++ (d ∷ [])) i 0 ≡ d)
+with_more [] d zero h = inr refl
+with_more [] d (suc i) h = absurd (omega arith)
+with_more (c ∷ s) d zero h = inl (omega arith)
+with_more (c ∷ s) d (suc i) h = ⊎_elim (λ l. inl (omega arith)) inr (with_more s d i (omega arith))
 
 -- the bytes of the digits 0 to 9
 abbrev Digit : ℕ → Type 0
@@ -92,7 +92,7 @@ digits_are (suc k) x i h = go (ltb x 10) refl i h (digits_are k (x / 10))
     go false e i h later =
         ⊎_elim (λ l. rw (get_or-append front ((48 + x % 10) ∷ []) 0 i l) (later i l))
         (λ is. rw is (omega arith, omega arith))
-        (one_more_lem front (48 + x % 10) i h)
+        (with_more front (48 + x % 10) i h)
 
 pub decimal-digits : (x i : ℕ) → i < length (decimal x) → (48 ≤ get_or (decimal x) i 0) × (get_or (decimal x) i 0 ≤ 57)
 unfolding decimal

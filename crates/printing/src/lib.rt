@@ -1,11 +1,13 @@
 // The output: fixed words and decimal numbers, one behind the other.
+#![tactic(auto)]
+
 ghost use Rattle.std.specs.Prelude.{◌≡◌, ◌++◌, ◌+◌, ◌≤◌, length};
 ghost use Rattle.printing.specs.Words.{decimal as Words·decimal};
 ghost use Rattle.printing.specs.Texts.{report_bytes, report_of, counts_text, refusal_text};
 ghost use Rattle.printing.specs.Work.{Put};
 
 // The output: how many bytes it has, and the bytes with zeros behind them.
-#[derive(Drop)]
+#[derive(Clone, Copy)]
 pub struct Report {
     pub len: usize,
     pub text: [u8; 1024],

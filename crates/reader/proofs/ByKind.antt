@@ -154,7 +154,7 @@ species_exactly threshold line text start gene species g s = (read, read_back)
 pub species-nine_exactly :
     (threshold : Threshold) (line text : List ℕ) (start : ℕ) (gene species : Reading) → Reads Gene threshold line text start gene → Reads Species threshold line text start species
     → (species.number ≡ 9) ↔ ((gene.number ≡ 0) × (largest gene.numbers ≡ whole (length (names line)) → ⊥))
-species-nine_exactly threshold line text start gene species g s = (nine, λ k. ap (λ (r : Reading). r.number) (c.lacking-nine k.0 k.1))
+species-nine_exactly threshold line text start gene species g s = (nine, λ k. ap (λ (r : Reading). r.number) (c.lacking_nine k.0 k.1))
   where
     c : Compared line start gene species
     c = kinds_compared threshold line text start g s
@@ -163,5 +163,5 @@ species-nine_exactly threshold line text start gene species g s = (nine, λ k. a
     nine h = by (ℕ_discrete gene.number 0)
       where
         by : Dec (gene.number ≡ 0) → (gene.number ≡ 0) × (largest gene.numbers ≡ whole (length (names line)) → ⊥)
-        by (yes z) = (z, λ all. let e = ap (λ (r : Reading). r.number) (c.complete-alike z all) in omega arith)
-        by (no some) = absurd (read-gene-never-nine threshold line text start gene g (sym (ap (λ (r : Reading). r.number) (c.refused-alike some)) ∙ h))
+        by (yes z) = (z, λ all. let e = ap (λ (r : Reading). r.number) (c.complete_alike z all) in omega arith)
+        by (no some) = absurd (read-gene-never-nine threshold line text start gene g (sym (ap (λ (r : Reading). r.number) (c.refused_alike some)) ∙ h))

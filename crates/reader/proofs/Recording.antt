@@ -9,7 +9,7 @@ use lib.Pow.{pow_mono}
 use Rattle.clusters.proofs.Sizes.{size-le}
 use Rattle.trees.specs.Tree.{Tree, cluster}
 use Rattle.trees.specs.Records.{record_of, record_for}
-use Rattle.trees.proofs.Stores.{get_d_sets, take-sets}
+use Rattle.trees.proofs.Stores.{get_or-sets, take-sets}
 use Rattle.roster.specs.Roster.{names}
 use Rattle.roster.proofs.Names.{names-count}
 use Rattle.tokens.specs.Answers.{Answer}
@@ -101,7 +101,7 @@ module _ (limits : Limits) (kind : Kind) (threshold : Threshold) (line text : Li
           small = λ i h.
               let l : i < length left = omega (arith, stored_is) in
               let top : 2 ^ length (names line) ≤ 2 ^ limits.most = pow_mono few_names in
-              rw (read-tree.table_is, get_d_sets before left i fits l) (omega (arith, fresh.each i l));
+              rw (read-tree.table_is, get_or-sets before left i fits l) (omega (arith, fresh.each i l));
           front =
               ap (λ (n : ℕ). take n found) stored_is
               ∙ (ap (λ (l : List ℕ). take (length left) l) read-tree.table_is ∙ take-sets before left fits)

@@ -1,6 +1,6 @@
 -- What a reply of `read_stand` says (#110): exactly the texts are read that draw, within its limits, a tree with each of its individuals once; the record is that of its clusters, and valid.
 use Prim.Native.Nat.{ℕ, ◌-◌}
-use mathlib.Core.Path.{◌≡◌, refl, sym, ap, ◌∙◌, subst}
+use mathlib.Core.Path.{◌≡◌, refl, ap, ◌∙◌}
 use mathlib.Core.Logic.{◌↔◌}
 use mathlib.Core.List.{List}
 use native.Mathlib.Omega.{arith}

@@ -3,9 +3,8 @@ use Prim.Native.Nat.{ℕ, ◌≤◌}
 use mathlib.Core.Path.{◌≡◌, sym, ap, ◌∙◌}
 use mathlib.Core.List.{List}
 use native.Mathlib.Omega.{arith}
-use lib.ListN.{length}
 use Rattle.trees.specs.Tree.{Tree, clusters}
-use Rattle.trees.specs.Records.{listed, record_of, record_for}
+use Rattle.trees.specs.Records.{listed, record_for}
 use Rattle.trees.proofs.Recorded.{listed_record}
 use Rattle.roster.specs.Roster.{names}
 use Rattle.roster.proofs.Names.{good-wider}
@@ -14,7 +13,6 @@ use Rattle.tokens.specs.declared.answer.Threshold.{Threshold}
 use Rattle.tokens.specs.declared.answer.Threshold.TheVariants.{NoThreshold}
 use Rattle.tokens.specs.Answers.Answer.{parsed}
 use Rattle.nodes.specs.Grammar.{strict}
-use Rattle.nodes.proofs.Answers.{parsed_same}
 use Rattle.nodes.proofs.Deeper.{text_deeper}
 use Rattle.reader.specs.Accepted.{DrawsWithin}
 use Rattle.reader.specs.Promise.{Limits, narrow, answer_within, Reads}

@@ -42,23 +42,23 @@ clusters_read (Below amount) t = clusters_left (λ b. weak (Below amount) b) t
 -- "A refused call returns .. an all-zero record .. and, from the reader, the offset it was given"; start is that offset.
 -- A tree is answered by its record and the offset just after `;`
 abbrev pub reading_of : Threshold → ℕ → Answer Tree → Reading
-reading_of threshold start (parsed t rest next) = record { number = 0; place = 0; next = next; numbers = record_of (clusters_read threshold t) }
-reading_of threshold start (refused number place) = record { number = number; place = place; next = start; numbers = replicate 32 0 }
+reading_of level start (parsed t rest next) = record { number = 0; place = 0; next = next; numbers = record_of (clusters_read level t) }
+reading_of level start (refused number place) = record { number = number; place = place; next = start; numbers = replicate 32 0 }
 
 -- "A start beyond the text gives 10"
 abbrev pub from_start : Limits → Kind → Threshold → Bool → List (List ℕ) → List ℕ → ℕ → Answer Tree
-from_start limits kind threshold true ns text start = read_tree (is_given threshold) ns limits.room (needed kind (length ns)) (drop start text) start
-from_start limits kind threshold false ns text start = refused 10 (length text)
+from_start limits kind level true ns text start = read_tree (is_given level) ns limits.room (needed kind (length ns)) (drop start text) start
+from_start limits kind level false ns text start = refused 10 (length text)
 
 -- "2 | text over 65,536 bytes | 65,536"
 abbrev pub in_limit : Limits → Kind → Threshold → Bool → List (List ℕ) → List ℕ → ℕ → Answer Tree
-in_limit limits kind threshold true ns text start = from_start limits kind threshold (leb start (length text)) ns text start
-in_limit limits kind threshold false ns text start = refused 2 text_most
+in_limit limits kind level true ns text start = from_start limits kind level (leb start (length text)) ns text start
+in_limit limits kind level false ns text start = refused 2 text_most
 
 -- "1 | roster faulty | first byte at fault"
 abbrev pub on_roster : Limits → Kind → Threshold → Bool → List ℕ → List ℕ → ℕ → Answer Tree
-on_roster limits kind threshold true line text start = refused 1 (first_fault limits.most line)
-on_roster limits kind threshold false line text start = in_limit limits kind threshold (leb (length text) text_most) (names line) text start
+on_roster limits kind level true line text start = refused 1 (first_fault limits.most line)
+on_roster limits kind level false line text start = in_limit limits kind level (leb (length text) text_most) (names line) text start
 
 -- "Order for text: 1, 2, then as met"
 unfoldable pub answer_within : Limits → Kind → Threshold → List ℕ → List ℕ → ℕ → Answer Tree

@@ -10,7 +10,7 @@ use sorting::wide::record_of;
 use tokens::Threshold;
 
 // What reading a tree on individuals answers: number and place, the offset just after the tree's `;`, and the tree's wide record.
-#[derive(Drop)]
+#[derive(Clone, Copy)]
 pub struct WideReading {
     pub number: u32,
     pub place: usize,

@@ -1,4 +1,6 @@
 // Which 32 numbers are a valid record, whether it is a binary tree's, and whether its tree may be counted without a root; which 64 are a valid wide one.
+#![tactic(auto)]
+
 mod judging;
 mod layout;
 mod nesting;

@@ -56,9 +56,9 @@ judged-faulty line {r} e z = go (faulty species_most line) refl e
     go false f e = absurd (z (ap (λ (q : Reply). q.number) e))
 
 module _ (input : List ℕ) (short : length input ≤ 65536) (r : Reply) (judged : Judged (first_line input) r) where
-  pub roster_faulty_lem : (r.number ≡ 0 → ⊥) → refused r.number r.place ≡ program input
+  pub faulty_roster : (r.number ≡ 0 → ⊥) → refused r.number r.place ≡ program input
   unfolding program
-  roster_faulty_lem some =
+  faulty_roster some =
       let f = judged-faulty (first_line input) judged some in
       rw (le-leb (length input) 65536 short, f.fault, f.number, f.place)
 

@@ -1,4 +1,6 @@
 // The program as a function from input bytes to output bytes.
+#![tactic(auto)]
+
 mod lines;
 mod modes;
 

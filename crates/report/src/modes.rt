@@ -6,7 +6,7 @@ use crate::lines::is_word;
 use weights::Rooting;
 
 // Another word; or a search over all clusters or over those that the gene trees show, and how these are counted.
-#[derive(Drop)]
+#[derive(Clone, Copy)]
 pub enum Mode {
     Another,
     Over(bool, Rooting),

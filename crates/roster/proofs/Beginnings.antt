@@ -29,9 +29,9 @@ module _ (line : List ℕ) where
   none_yet = refl
 
   -- a name whose label begins at p is the next
-  pub one_more_lem : (p : ℕ) → begins line p ≡ true → names_to line (suc p) ≡ names_to line p ++ (name_at line p ∷ [])
+  pub with_more : (p : ℕ) → begins line p ≡ true → names_to line (suc p) ≡ names_to line p ++ (name_at line p ∷ [])
   unfolding names_to beginnings up_to keep
-  one_more_lem p e = rw (keep_append (begins line) (up_to p) (p ∷ []), e) (map-append (name_at line) (keep (begins line) (up_to p)) (p ∷ []))
+  with_more p e = rw (keep_append (begins line) (up_to p) (p ∷ []), e) (map-append (name_at line) (keep (begins line) (up_to p)) (p ∷ []))
 
   -- where none begins there are as before
   pub no_more : (p : ℕ) → begins line p ≡ false → names_to line (suc p) ≡ names_to line p
@@ -49,5 +49,5 @@ module _ (line : List ℕ) where
   each-begun P (suc m) all = by (begins line m) refl (each-begun P m (λ p h. all p (omega arith)))
     where
       by : (t : Bool) → begins line m ≡ t → Each P (names_to line m) → Each P (names_to line (suc m))
-      by true e before = rw (one_more_lem m e) (each_more P (names_to line m) (name_at line m) before (all m (omega arith) e))
+      by true e before = rw (with_more m e) (each_more P (names_to line m) (name_at line m) before (all m (omega arith) e))
       by false e before = rw (no_more m e) before

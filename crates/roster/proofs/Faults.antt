@@ -42,10 +42,10 @@ module _ (most : ℕ) (line : List ℕ) where
   fault_first p l e clean = least_is (fault_at most line) (suc (length line)) 0 p zero-le (omega arith) e (λ q z. clean q)
 
   -- the roster where the first fault stands at p
-  pub roster_faulty_lem : (p : ℕ) → p ≤ length line → fault_at most line p ≡ true → Clean p
+  pub faulty_roster : (p : ℕ) → p ≤ length line → fault_at most line p ≡ true → Clean p
       → record { number = 1; place = p; count = 0; table = replicate 512 0 } ≡ roster_of most line
   unfolding roster_of faulty
-  roster_faulty_lem p l e clean =
+  faulty_roster p l e clean =
       let at = fault_first p l e clean in
       rw (le-leb (first_fault most line) (length line) (rw at l), at)
 

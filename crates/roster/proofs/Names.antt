@@ -15,7 +15,7 @@ use Rattle.labels.proofs.Letters.{letters-printable}
 use Rattle.trees.proofs.Booleans.{never_both}
 use Rattle.roster.specs.Roster.{byte_at, begins, name_at, names, position, many_at, fault_at, first_fault, faulty, in_quotes}
 use Rattle.roster.specs.Table.{table, slots}
-use Rattle.roster.proofs.Beginnings.{names_to, names_to_end, as_many, none_yet, one_more_lem, no_more, each-begun}
+use Rattle.roster.proofs.Beginnings.{names_to, names_to_end, as_many, none_yet, with_more, no_more, each-begun}
 use Rattle.roster.proofs.Each.{Each, each_at, each_still}
 use Rattle.roster.proofs.Faults.{first_fault_lem, fault-within, no_fault_lem}
 use Rattle.roster.proofs.Padding.{Fitting, letters-fit, position-padded}
@@ -84,7 +84,7 @@ module _ (most : ℕ) (line : List ℕ) (good : faulty most line ≡ false) wher
           let n : length (names_to line m) ≡ most → ⊥ =
           λ full. never_both (fault_at most line m) (fault_many line m most (many_here line m most e (sym (as_many line m) ∙ full)))
           (no_fault_lem most line good m (omega arith)) in
-          rw (one_more_lem line m e, length-append) (omega arith)
+          rw (with_more line m e, length-append) (omega arith)
 
   -- so where more names may stand, no name is one too many either
   none_too_many : (more : ℕ) → most ≤ more → (p : ℕ) → many_at more line p ≡ false
@@ -94,7 +94,7 @@ module _ (most : ℕ) (line : List ℕ) (good : faulty most line ≡ false) wher
       by : (t : Bool) → begins line p ≡ t → many_at more line p ≡ false
       by true e =
           let here = (begins_starts line p e).here in
-          let few : length (names_to line p) + 1 ≤ most = rw (one_more_lem line p e, length-append) at (few_to (suc p) here) in
+          let few : length (names_to line p) + 1 ≤ most = rw (with_more line p e, length-append) at (few_to (suc p) here) in
           few_here line p more (λ full. omega (arith, as_many line p))
       by false e = rw e
 
@@ -130,12 +130,12 @@ module _ (most : ℕ) (line : List ℕ) (good : faulty most line ≡ false) wher
           absurd (never_both (fault_at most line 0) (fault-stray line 0 most (stray-fresh line 0 h refl e refl refl)) (no_fault_lem most line good 0 zero-le))
 
   some_to : (m : ℕ) → 1 ≤ length (names_to line (suc m))
-  some_to zero = rw (one_more_lem line 0 (begins_here line 0 first_starts), length-append) (omega arith)
+  some_to zero = rw (with_more line 0 (begins_here line 0 first_starts), length-append) (omega arith)
   some_to (suc m) = by (begins line (suc m)) refl (some_to m)
     where
       by : (t : Bool) → begins line (suc m) ≡ t → 1 ≤ length (names_to line (suc m)) → 1 ≤ length (names_to line (suc (suc m)))
       by false e before = rw (no_more line (suc m) e) before
-      by true e before = rw (one_more_lem line (suc m) e, length-append) (omega arith)
+      by true e before = rw (with_more line (suc m) e, length-append) (omega arith)
 
   -- at least one name and at most the most
   pub names-count : (1 ≤ length (names line)) × (length (names line) ≤ most)
@@ -152,7 +152,7 @@ module _ (most : ℕ) (line : List ℕ) (good : faulty most line ≡ false) wher
       by : (t : Bool) → begins line m ≡ t → Distinct (names_to line m) → Distinct (names_to line (suc m))
       by false e before = rw (no_more line m e) before
       by true e before =
-          rw (one_more_lem line m e) (distinct_more (names_to line m) (name_at line m) before
+          rw (with_more line m e) (distinct_more (names_to line m) (name_at line m) before
           (new (dec_lt (position (name_at line m) (names_to line m)) (length (names_to line m)))))
         where
           new : Dec (position (name_at line m) (names_to line m) < length (names_to line m)) → position (name_at line m) (names_to line m) ≡ length (names_to line m)

@@ -18,10 +18,10 @@ use Rattle.trees.specs.Lists.{up_to, some}
 use Rattle.roster.specs.Roster.{byte_at, byte_before, in_quotes, quoted_at, fresh_at, begins, beginnings, name_at, names, position, fault_at, stray_at, long_at, again_at, open_at}
 use Rattle.roster.specs.Table.{table, slots}
 use Rattle.roster.specs.Judged.{roster_of}
-use Rattle.roster.proofs.Beginnings.{names_to, names_to_end, as_many, none_yet, one_more_lem, no_more_upto, each-begun}
+use Rattle.roster.proofs.Beginnings.{names_to, names_to_end, as_many, none_yet, with_more, no_more_upto, each-begun}
 use Rattle.roster.proofs.Beyond.{before-beyond, begins_beyond, stray-beyond, open_beyond, long-beyond, no_long_beyond}
 use Rattle.roster.proofs.Each.{Each, each_still}
-use Rattle.roster.proofs.Faults.{Clean, roster_faulty_lem, roster_good}
+use Rattle.roster.proofs.Faults.{Clean, faulty_roster, roster_good}
 use Rattle.roster.proofs.Places.{no_stray_first, no_stray_end, stray-fresh, fresh-apart, begins_first, no_many, no_again, many_here, few_here, again_here, new_here, faulty_no_again, no_open, no_open_after, open_fresh, fault-stray, fault-long, fault_many, fault-again, fault_open, fault_none}
 use Rattle.roster.proofs.Padding.{Fitting, letters-fit, padded-length, position-padded}
 use Rattle.roster.proofs.Parity.{quotes_more, quotes-beyond}
@@ -133,13 +133,13 @@ module _ (most : ℕ) (line held : List ℕ) (count at : ℕ) (b : Begun most li
   pub stray_first : at < length line → is_label (byte_at line at) ≡ false → FaultyAt most line at
   stray_first h e =
       let apart = fresh-apart line at b.fresh in
-      roster_faulty_lem most line at b.within (fault-stray line at most (stray-fresh line at h b.even e apart.0 apart.1)) b.clean
+      faulty_roster most line at b.within (fault-stray line at most (stray-fresh line at h b.even e apart.0 apart.1)) b.clean
 
   pub open_end : length line ≤ at → FaultyAt most line (length line)
   open_end h =
       let w = b.within in
       let e : at ≡ length line = omega arith in
-      rw (← e) (roster_faulty_lem most line at w (fault_open line at most (open_fresh line at e b.fresh)) b.clean)
+      rw (← e) (faulty_roster most line at w (fault_open line at most (open_fresh line at e b.fresh)) b.clean)
 
   -- how many have begun
   begun-count : length (beginnings line at) ≡ count
@@ -147,7 +147,7 @@ module _ (most : ℕ) (line held : List ℕ) (count at : ℕ) (b : Begun most li
 
   module _ (n : Starts line at) where
     pub too_many : count ≡ most → FaultyAt most line at
-    too_many m = roster_faulty_lem most line at b.within (fault_many line at most (many_here line at most (begins_here line at n) (begun-count ∙ m))) b.clean
+    too_many m = faulty_roster most line at b.within (fault_many line at most (many_here line at most (begins_here line at n) (begun-count ∙ m))) b.clean
 
     module _ (fewer : count ≡ most → ⊥) where
       few : length (beginnings line at) ≡ most → ⊥
@@ -161,7 +161,7 @@ module _ (most : ℕ) (line held : List ℕ) (count at : ℕ) (b : Begun most li
           let w = stops.within in
           let here = n.here in
           let left = length-drop at line in
-          rw f.there (roster_faulty_lem most line (at + f.d) (omega arith) (own-fault line at n most f.d stops.own stops.some)
+          rw f.there (faulty_roster most line (at + f.d) (omega arith) (own-fault line at n most f.d stops.own stops.some)
           (clean_until line at n most b.short b.clean (first_clean line at n most b.short few (faulty_no_again line at number f.d f.says))
           f.d w stops.fine stops.early))
 
@@ -209,7 +209,7 @@ module _ (most : ℕ) (line held : List ℕ) (count at next : ℕ) (name : List 
       let begun = m.begun in
       let p = found_at in
       let c = begun-count most line held count at begun in
-      roster_faulty_lem most line at begun.within
+      faulty_roster most line at begun.within
       (fault-again line at most (again_here line at size (begins_here line at m.starts) m.ends.says (omega arith))) begun.clean
 
   -- the label's bytes
@@ -262,7 +262,7 @@ module _ (most : ℕ) (line held : List ℕ) (count at next : ℕ) (name : List 
     names_with : (p : ℕ) → at < p → p ≤ next + 1 → names_to line p ≡ names_to line at ++ (name_at line at ∷ [])
     names_with p l h =
         let e : suc at + (p - suc at) ≡ p = omega arith in
-        ap (names_to line) (sym e) ∙ no_more_upto line (p - suc at) (suc at) (λ q k l. none_begins q k (omega arith)) ∙ one_more_lem line at (begins_here line at m.starts)
+        ap (names_to line) (sym e) ∙ no_more_upto line (p - suc at) (suc at) (λ q k l. none_begins q k (omega arith)) ∙ with_more line at (begins_here line at m.starts)
 
     -- what is known of the byte behind the label
     stray_next : stray_at line next ≡ stray_at (drop at line) size
@@ -315,7 +315,7 @@ module _ (most : ℕ) (line held : List ℕ) (count at next : ℕ) (name : List 
           let left = length-drop at line in
           let e = m.ends.place in
           let stray = stray_next ∙ spans.other (omega arith) (λ space. n (byte_next ∙ space)) in
-          roster_faulty_lem most line next (omega arith) (fault-stray line next most stray) clean_next
+          faulty_roster most line next (omega arith) (fault-stray line next most stray) clean_next
 
       -- a space: the next label has to begin behind it
       pub space-behind : byte_at line next ≡ 32 → Begun most line (paste held (16 * count) name 16) (count + 1) (next + 1)

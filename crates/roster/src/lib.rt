@@ -1,4 +1,6 @@
 // The roster: the roster line and its faults, from a name to its species and back, and the reply of a call.
+#![tactic(auto)]
+
 mod line;
 mod table;
 
@@ -10,7 +12,7 @@ pub use table::{name_len, species};
 
 // What a call answers: 01's number and place, and a value.
 #[repr(C)]
-#[derive(Drop)]
+#[derive(Clone, Copy)]
 pub struct Reply {
     pub number: u32,
     pub place: usize,
@@ -18,7 +20,7 @@ pub struct Reply {
 }
 
 // A roster that has been judged: number and place, how many names, and their table.
-#[derive(Drop)]
+#[derive(Clone, Copy)]
 pub struct Roster {
     pub number: u32,
     pub place: usize,

@@ -1,4 +1,6 @@
 // The search: its checks in 01's order, then the best tree over the allowed clusters; and the search with its ties.
+#![tactic(auto)]
+
 mod tied;
 
 ghost use Rattle.trees.specs.Decides.{Decides};

@@ -13,7 +13,7 @@ use weights::Rooting;
 
 // What the search with ties answers: what the search does, and how many trees reach its score.
 #[repr(C)]
-#[derive(Drop)]
+#[derive(Clone, Copy)]
 pub struct Tied {
     pub number: u32,
     pub place: usize,

@@ -3,7 +3,3 @@ pub mod Filling
 pub mod FilledTo
 pub mod Endings
 pub mod Entries
-pub mod Walking
-pub mod Machine
-pub mod Lending
-pub mod PassedOn

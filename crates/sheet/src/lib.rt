@@ -1,4 +1,6 @@
 // A sheet of candidate trees (#107): a lent list of entries, each with the position of a species record, filled with what the single scoring call would give.
+#![tactic(auto)]
+
 ghost use Rattle.std.specs.Prelude.{◌≡◌, length};
 ghost use Rattle.roster.specs.Verdict.{verdict, reply_of};
 ghost use Rattle.lineages.specs.Promise.{Scores};
@@ -11,7 +13,7 @@ use weights::Rooting;
 
 // An entry: the position of a species record, and what it gets.
 #[repr(C)]
-#[derive(Drop)]
+#[derive(Clone, Copy)]
 pub struct Entry {
     pub position: usize,
     pub number: u32,

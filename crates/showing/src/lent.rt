@@ -2,6 +2,8 @@
 ghost use Rattle.std.specs.Prelude.{◌<◌};
 
 use crate::show;
+use std::io;
+use std::io::Write;
 
 // The fingerprint h with one more number.
 pub(crate) fn mixed(h: u64, x: u64) -> u64
@@ -22,7 +24,7 @@ fn fingerprint(s: &[u8]) -> usize {
 }
 
 // The fingerprint, with a space before it.
-pub fn show(s: &[u8]) {
-    show::byte(b' ');
-    show::number(fingerprint(s));
+pub fn show<W: Write>(to: &mut W, s: &[u8]) -> io::Result<()> {
+    show::byte(to, b' ')?;
+    show::number(to, fingerprint(s))
 }

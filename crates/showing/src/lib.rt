@@ -1,4 +1,6 @@
-// Answers shown on standard output: numbers, texts, records, and the fingerprints of what a call was lent.
+// Answers shown on a writer: numbers, texts, records, and the fingerprints of what a call was lent.
+#![tactic(auto)]
+
 pub mod lent;
 pub mod show;
 pub mod tables;

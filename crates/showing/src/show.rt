@@ -1,37 +1,47 @@
-// Answers on standard output.
-ghost use Rattle.std.specs.Prelude.{◌≤◌, length};
+// Answers, written to any writer.
+ghost use Rattle.std.specs.Prelude.{◌≡◌, ◌≤◌, ◌∷◌, [], length, take, OnOk};
+ghost use Rattle.std.specs.Fmt.{decimal};
+ghost use Rattle.std.specs.Io.KnownBytes.{Appends};
 
-use libc::STDOUT_FILENO;
+use std::io;
+use std::io::Write;
 
-pub fn text(s: &[u8]) {
-    io::write_all(STDOUT_FILENO, s);
+pub fn text<W: Write>(to: &mut W, s: &[u8]) -> io::Result<()>
+    ensures { OnOk result (Appends (W.contents to.old) (W.contents to.new) s.now) }
+{
+    to.write_all(s)
 }
 
-pub fn byte(b: u8) {
+pub fn byte<W: Write>(to: &mut W, b: u8) -> io::Result<()>
+    ensures { OnOk result (Appends (W.contents to.old) (W.contents to.new) (b ∷ [])) }
+{
     let s = [b];
-    text(&s);
+    text(to, &s)
 }
 
 // The first count bytes of s.
-pub fn start_of(s: &[u8], count: usize) {
+pub fn start_of<W: Write>(to: &mut W, s: &[u8], count: usize) -> io::Result<()>
+    ensures { OnOk result (Appends (W.contents to.old) (W.contents to.new) (take count s.now)) }
+{
     if count < s.len() {
-        text(&s[0..count]);
-        return;
+        return text(to, &s[0..count]);
     }
-    text(s);
+    text(to, s)
 }
 
-pub fn number(x: usize) {
-    io::print_decimal(STDOUT_FILENO, x as u64);
+pub fn number<W: Write>(to: &mut W, x: usize) -> io::Result<()>
+    ensures { OnOk result (Appends (W.contents to.old) (W.contents to.new) (decimal x)) }
+{
+    write!(to, "{x}")
 }
 
 // Number, place and value, parted by spaces.
-pub fn answer(fault: u32, place: usize, value: usize) {
-    number(fault as usize);
-    byte(b' ');
-    number(place);
-    byte(b' ');
-    number(value);
+pub fn answer<W: Write>(to: &mut W, fault: u32, place: usize, value: usize) -> io::Result<()> {
+    number(to, fault as usize)?;
+    byte(to, b' ')?;
+    number(to, place)?;
+    byte(to, b' ')?;
+    number(to, value)
 }
 
 // How many numbers there are up to the last that is not 0.
@@ -49,12 +59,13 @@ fn filled(numbers: &[u16]) -> usize
 }
 
 // A record's numbers up to its last that is not 0, with a space before each.
-pub fn record_start(numbers: &[u16]) {
+pub fn record_start<W: Write>(to: &mut W, numbers: &[u16]) -> io::Result<()> {
     let end = filled(numbers);
     let mut i = 0;
     while i < end {
-        byte(b' ');
-        number(numbers[i] as usize);
+        byte(to, b' ')?;
+        number(to, numbers[i] as usize)?;
         i += 1;
     }
+    Ok(())
 }

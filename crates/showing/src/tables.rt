@@ -1,6 +1,8 @@
 // The fingerprints of the tables that the search was lent, after it.
 use crate::lent::mixed;
 use crate::show;
+use std::io;
+use std::io::Write;
 
 fn scores_fingerprint(s: &[u32]) -> usize {
     let mut h: u64 = 7;
@@ -33,15 +35,15 @@ fn ties_fingerprint(s: &[u64]) -> usize {
 }
 
 // The fingerprints of the score table and the split table, behind a colon.
-pub fn show(scores: &[u32], splits: &[u16]) {
-    show::text(b" : ");
-    show::number(scores_fingerprint(scores));
-    show::byte(b' ');
-    show::number(splits_fingerprint(splits));
+pub fn show<W: Write>(to: &mut W, scores: &[u32], splits: &[u16]) -> io::Result<()> {
+    show::text(to, b" : ")?;
+    show::number(to, scores_fingerprint(scores))?;
+    show::byte(to, b' ')?;
+    show::number(to, splits_fingerprint(splits))
 }
 
 // That of the table of ties, behind them.
-pub fn show_ties(ties: &[u64]) {
-    show::byte(b' ');
-    show::number(ties_fingerprint(ties));
+pub fn show_ties<W: Write>(to: &mut W, ties: &[u64]) -> io::Result<()> {
+    show::byte(to, b' ')?;
+    show::number(to, ties_fingerprint(ties))
 }

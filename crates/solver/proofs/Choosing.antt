@@ -1,14 +1,13 @@
 -- The answer that both tables give, for any weights that the score table held.
-use Prim.Native.Nat.{ℕ, ◌+◌, ◌-◌, ◌^◌, ◌≤◌, ◌<◌}
+use Prim.Native.Nat.{ℕ, ◌-◌, ◌^◌, ◌≤◌, ◌<◌}
 use mathlib.Core.Path.{◌≡◌, refl, sym, ap, ◌∙◌}
 use mathlib.Core.Bool.{Bool}
 use mathlib.Core.Option.{Option, some, none}
 use mathlib.Core.List.{List}
 use native.Mathlib.Omega.{arith}
 use native.Mathlib.Decide.{dec_lt}
-use lib.ListN.{length, get_or, take, length-take, get_or-eq_default}
+use lib.ListN.{get_or, take, length-take, get_or-eq_default}
 use lib.Seq.{get_or-take}
-use lib.Pow.{pow_pos}
 use Rattle.clusters.specs.Sets.{whole, size}
 use Rattle.clusters.proofs.Sets.{whole_below}
 use Rattle.clusters.proofs.Sizes.{size_whole}
@@ -23,8 +22,7 @@ use Rattle.splits.proofs.LowParts.{low-part_two, low_some}
 use Rattle.splits.proofs.Membership.{tree-root, tree-clusters}
 use Rattle.splits.proofs.Recurrence.{best_on_lem, score-bound, best-fork}
 use Rattle.tables.specs.Work.{Weights, Fillable, Fills, Chosen, Chooses}
-use Rattle.tables.proofs.Reached.{entries_few}
-use Rattle.tables.proofs.Written.{written_at, written-length, written-entries}
+use Rattle.tables.proofs.Written.{written_at, written-entries}
 use Rattle.splits.specs.Best.{found_of}
 use Rattle.terms.specs.Answers.{without}
 use Rattle.terms.specs.declared.Found.{Found}

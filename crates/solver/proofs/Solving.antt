@@ -1,6 +1,6 @@
 -- Weights made in the first entries of both tables, which are lent by themselves, and what is then chosen from them.
-use Prim.Native.Nat.{ℕ, ◌+◌, ◌-◌, ◌^◌, ◌≤◌, ◌<◌}
-use mathlib.Core.Path.{◌≡◌, refl, sym, ap, ◌∙◌}
+use Prim.Native.Nat.{ℕ, ◌+◌, ◌-◌, ◌^◌, ◌≤◌}
+use mathlib.Core.Path.{◌≡◌, sym, ap, ◌∙◌}
 use mathlib.Core.Bool.{Bool}
 use mathlib.Core.List.{List, ◌++◌, map}
 use native.Mathlib.Omega.{arith}
@@ -16,7 +16,6 @@ use Rattle.weights.proofs.Sums.{valid-countable}
 use Rattle.splits.specs.Least.{best, score_entry, split_entry, filled}
 use Rattle.splits.specs.Work.{Light}
 use Rattle.tables.specs.Work.{Weights, Fillable}
-use Rattle.tables.proofs.Reached.{entries_few}
 use Rattle.tables.proofs.Written.{written, written-length, written_at, written-again, written-entries}
 use Rattle.terms.specs.declared.Found.{Found}
 use Rattle.terms.specs.declared.allowing.Allowance.{Allowance}

@@ -1,4 +1,6 @@
 // The best tree of gene trees that were checked: all weights, the two tables, and the record of the tree that they choose.
+#![tactic(auto)]
+
 mod tree;
 
 ghost use Rattle.trees.specs.Records.{records_in};

@@ -1,4 +1,6 @@
 // Clusters in any order, sorted into the record of their tree.
+#![tactic(auto)]
+
 pub mod wide;
 
 ghost use Rattle.std.specs.Prelude.{◌≡◌, ◌++◌, ℕ, ◌+◌, ◌<◌, ◌≤◌, length, take, drop, get_or};
@@ -16,7 +18,8 @@ fn put(numbers: &mut [u32], held: usize, x: u32)
     let mut i = 1;
     while i <= held {
         let y = numbers[i];
-        if carried < y {
+        let smaller = carried < y;
+        if smaller {
             numbers[i] = carried;
             carried = y;
         }

@@ -1,8 +1,13 @@
 // The program: reads all of standard input, and writes its report to standard output.
-ghost use Rattle.std.specs.Prelude.{◌≡◌, ◌+◌, length};
-ghost use Rattle.reader.specs.Promise.{text_most};
+#![tactic(auto)]
 
-use libc::{STDIN_FILENO, STDOUT_FILENO};
+ghost use Rattle.std.specs.Prelude.{◌≡◌, ◌+◌, length, OnOk, IfSome};
+ghost use Rattle.std.specs.Io.KnownBytes.{Appends};
+ghost use Rattle.reader.specs.Promise.{text_most};
+ghost use Rattle.report.specs.Promise.{output};
+
+use std::io;
+use std::io::{Read, Write};
 
 // Room for one byte more than the longest text that is not refused.
 fn room() -> [u8; 65537]
@@ -11,10 +16,17 @@ fn room() -> [u8; 65537]
     [0u8; 65537]
 }
 
-fn main() {
+// The program between a reader and a writer: where all is read and written, what it writes is the output for what there was to read.
+pub fn run<R: Read, W: Write>(from: &mut R, to: &mut W) -> io::Result<()>
+    ensures { OnOk result (IfSome (R.remaining from.old) (λ input. Appends (W.contents to.old) (W.contents to.new) (output input))) }
+{
     let mut input = room();
-    let n = io::read_full(STDIN_FILENO, &mut input);
+    let n = streams::read_full(from, &mut input)?;
     let report = report::report(&input[..n]);
     let text = report.text;
-    io::write_all(STDOUT_FILENO, &text[..report.len]);
+    to.write_all(&text[..report.len])
+}
+
+fn main(rt: HostRuntime) -> io::Result<()> {
+    run(&mut rt.stdin(), &mut rt.stdout())
 }

@@ -42,7 +42,7 @@ unfolding total
 total-bound w h [] = omega arith
 total-bound w h (x ∷ l) = omega (arith, h x, total-bound w h l)
 
--- so the score of a tree is far below the no_tree_lem mark
+-- so the score of a tree is far below the no-tree mark
 pub score-bound : {w : ℕ → ℕ} {a : ℕ} {t : Binary} → Light w → TreeOn a t → score_of w t + 131072 ≤ 262144 * size a
 unfolding score_of
 score-bound {w} {a} {t} h v = omega (arith, total-bound w h (clusters_in t), tree-clusters v)

@@ -8,7 +8,7 @@ use lib.ListN.{length, get_or, set, take, length-append, length-set}
 use lib.Seq.{sets, length-sets}
 use Rattle.trees.specs.Lists.{Among}
 use Rattle.trees.proofs.Places.{at_among}
-use Rattle.trees.proofs.Stores.{sets_append, get_d_sets, take-sets}
+use Rattle.trees.proofs.Stores.{sets_append, get_or-sets, take-sets}
 use Rattle.splits.specs.BinaryTrees.{Binary, clusters_in}
 use Rattle.splits.specs.BinaryTrees.Binary.{tip, fork}
 
@@ -69,4 +69,4 @@ module _ (lent : List ℕ) (t : Binary) {next : ℕ} {after : List ℕ} (fits : 
   pub stored-among : (k : ℕ) → k < next → Among (get_or after k 0) (clusters_in t)
   stored-among k l =
       let inside : k < length (clusters_in t) = omega (arith, count) in
-      subst (λ x. Among x (clusters_in t)) (sym (ap (λ r. get_or r k 0) s.1 ∙ get_d_sets lent (clusters_in t) k fits inside)) (at_among (clusters_in t) 0 k inside)
+      subst (λ x. Among x (clusters_in t)) (sym (ap (λ r. get_or r k 0) s.1 ∙ get_or-sets lent (clusters_in t) k fits inside)) (at_among (clusters_in t) 0 k inside)

@@ -26,7 +26,7 @@ use Rattle.splits.proofs.LowParts.{among-lows, lows-among, low_some}
 use Rattle.splits.proofs.FirstLeast.{least_those}
 use Rattle.splits.proofs.Membership.{each-among, among-forks, forks-among, empty_of_size}
 use Rattle.splits.proofs.Recurrence.{score-tip, score-fork, score-bound, entry, best-zero, best-refused, best-listed, best_on_lem, allowed_of_best, entry-single, split-zero, split-single, best-fork}
-use Rattle.splits.proofs.OverAllowed.{total-each, length-those, over, among-trees_over, trees_over-among, trees_over-single, trees_over-splits}
+use Rattle.splits.proofs.OverAllowed.{total-each, length-those, among-trees_over, trees_over-among, trees_over-single, trees_over-splits}
 use Rattle.splits.proofs.LeastTrees.{Least, best_of_over, none_over, best-le}
 
 -- ---- sums

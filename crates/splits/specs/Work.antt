@@ -10,7 +10,7 @@ use Rattle.splits.specs.Least.{best, no_tree, score_entry, split_entry}
 use Rattle.splits.specs.Ties.{tree_count}
 use Rattle.splits.specs.declared.Split.{Split}
 
--- ---- weights and scores stay far below the no_tree_lem mark
+-- ---- weights and scores stay far below the no-tree mark
 
 -- no weight passes 131,072
 abbrev pub Light : (ℕ → ℕ) → Type 0

@@ -1,4 +1,6 @@
 // The best split of a cluster into two parts, by the scores of its parts; and how many trees are as good as the best.
+#![tactic(auto)]
+
 mod tied;
 
 ghost use Rattle.std.specs.Prelude.{◌≡◌, ◌+◌, ◌-◌, ◌<◌, ◌≤◌, length, get_or};
@@ -12,7 +14,7 @@ pub use tied::tied_splits;
 pub const NO_TREE: u32 = 4294967295;
 
 // The least score of two parts, and the low one of them.
-#[derive(Drop)]
+#[derive(Clone, Copy)]
 pub struct Split {
     pub score: u32,
     pub low: u32,

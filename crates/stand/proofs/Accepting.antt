@@ -1,14 +1,14 @@
 -- Which calls on a stand are accepted, exactly, and that no test gives 14.
-use Prim.Native.Nat.{ℕ, ◌^◌, ◌≤◌, ◌<◌}
-use mathlib.Core.Path.{◌≡◌, refl, sym, ap, ◌∙◌}
+use Prim.Native.Nat.{ℕ, ◌^◌, ◌≤◌}
+use mathlib.Core.Path.{◌≡◌, ap, ◌∙◌}
 use mathlib.Core.Bool.{false}
 use mathlib.Core.List.{List}
 use native.Mathlib.Omega.{arith}
-use lib.ListN.{length, get_or}
+use lib.ListN.{length}
 use borrow.Author.Tests.{ltb-false, le-ltb}
 use Rattle.trees.specs.Records.{wide_records_in, AllValidFor}
 use Rattle.roster.specs.Roster.{names}
-use Rattle.roster.specs.Verdict.{Test, Verdict, verdict, length_test}
+use Rattle.roster.specs.Verdict.{Verdict, verdict, length_test}
 use Rattle.lineages.specs.Checks.{count_test}
 use Rattle.lineages.proofs.Verdicts.{NoneGives, verdict-passed, verdict-never}
 use Rattle.lineages.proofs.FirstBad.{none_bad, all_valid_none_bad}
@@ -16,7 +16,7 @@ use Rattle.mapping.specs.Promise.{roster_test, mapping_test, stand_tests}
 use Rattle.terms.specs.Allowed.{first_strange, allowed_test}
 use Rattle.search.proofs.Accepted.{strange_none, none_strange}
 use Rattle.stand.specs.Checks.{first_bad_wide, wide_records_test, open_tests, search_tests}
-use Rattle.stand.specs.InOrder.{Openable, StandInOrder, StandAccepted}
+use Rattle.stand.specs.InOrder.{StandAccepted}
 use Rattle.stand.proofs.Opening.{open_passed, openable-told, individuals-count}
 
 -- ---- 15

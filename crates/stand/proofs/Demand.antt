@@ -8,7 +8,7 @@ use mathlib.Core.List.{List}
 use native.Mathlib.Omega.{arith}
 use lib.ListN.{length}
 use Rattle.clusters.specs.Sets.{whole}
-use Rattle.trees.specs.Lists.{Sublist, InAnyOrder, total}
+use Rattle.trees.specs.Lists.{Sublist, InAnyOrder}
 use Rattle.trees.specs.Records.{wide_records_in}
 use Rattle.roster.specs.Roster.{names}
 use Rattle.roster.specs.Verdict.{verdict}

@@ -1,6 +1,6 @@
 -- The promise of the search, one law for each way through its checks.
 use Prim.Native.Nat.{ℕ, ◌^◌, ◌≤◌, ◌<◌}
-use mathlib.Core.Path.{◌≡◌, refl, sym, ap, ◌∙◌, subst}
+use mathlib.Core.Path.{◌≡◌, sym, ap, ◌∙◌, subst}
 use mathlib.Core.List.{List, [], ◌∷◌}
 use native.Mathlib.Omega.{arith}
 use lib.ListN.{length, take}
@@ -21,16 +21,15 @@ use Rattle.solver.proofs.Solving.{Lent}
 use Rattle.search.specs.Work.{LongEnough}
 use Rattle.search.proofs.Finding.{long_then, long-passed, short-refused, refused-kept}
 use Rattle.mapping.specs.declared.Stand.{Stand}
-use Rattle.mapping.specs.Groups.{groups}
 use Rattle.weights.specs.Stand.{stand_weight, Parted}
 use Rattle.weights.proofs.StandWeights.{stand-weight_most}
 use Rattle.weights.proofs.Sums.{valid-countable}
 use Rattle.stand.specs.Checks.{first_bad_wide, wide_records_test, search_tests}
-use Rattle.stand.specs.Promise.{groups_of, weight_on, best_on, StandFinds}
+use Rattle.stand.specs.Promise.{weight_on, best_on, StandFinds}
 use Rattle.stand.specs.Work.{StandOpened, Solvable}
-use Rattle.stand.proofs.Opening.{Opened, is_opened, closed-told, open_told}
+use Rattle.stand.proofs.Opening.{is_opened, closed-told, open_told}
 use Rattle.stand.proofs.Parting.{mapped-parted}
-use Rattle.stand.proofs.Replies.{bad_told, good-told, all_valid, few_named, few_members, enough-lent, found-named}
+use Rattle.stand.proofs.Replies.{bad_told, good-told, all_valid, few_named, few_members, found-named}
 
 -- weights on a stand are light, and the slices have an entry for each set
 pub solvable-lent : {n : ℕ} {groups genes : List ℕ} {count : ℕ} {allowed scores splits : List ℕ} → Solvable n groups genes count allowed scores splits

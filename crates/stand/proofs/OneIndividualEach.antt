@@ -1,7 +1,7 @@
 -- "With one individual each and faultless input, score and tree are those of the existing mode under the species' names" (#110): and so are weights, tables and the refusals that are left.
-use Prim.Native.Nat.{ℕ, ◌^◌, ◌≤◌}
-use mathlib.Core.Path.{◌≡◌, refl, sym, ap, ap₂, ◌∙◌, subst}
-use mathlib.Core.List.{List, [], ◌∷◌, map}
+use Prim.Native.Nat.{ℕ, ◌≤◌}
+use mathlib.Core.Path.{◌≡◌, sym, ap, ap₂, ◌∙◌, subst}
+use mathlib.Core.List.{List, [], ◌∷◌}
 use native.Mathlib.Omega.{arith}
 use lib.ListN.{length}
 use borrow.Author.Tests.{le-ltb}
@@ -16,20 +16,18 @@ use Rattle.lineages.specs.Work.{shape_tests}
 use Rattle.lineages.proofs.Calls.{genes_then}
 use Rattle.lineages.proofs.FirstBad.{all_valid_none_bad}
 use Rattle.lineages.proofs.Verdicts.{shape-passed}
-use Rattle.mapping.specs.Groups.{groups}
 use Rattle.mapping.proofs.Judging.{groups-length}
 use Rattle.terms.specs.Allowed.{allowed_in, allowed_test}
 use Rattle.terms.specs.Answers.{found_or}
 use Rattle.terms.specs.declared.Found.{Found}
-use Rattle.splits.specs.Best.{best_for, found_by, found_of}
-use Rattle.splits.specs.Least.{score_entry, split_entry}
-use Rattle.search.specs.Promise.{search_tests, filled_by, Finds}
+use Rattle.splits.specs.Best.{best_for}
+use Rattle.search.specs.Promise.{search_tests, Finds}
 use Rattle.search.proofs.Finding.{long_then}
 use Rattle.weights.specs.Count.{weight, score}
-use Rattle.weights.specs.Stand.{Parted, stand_weight, stand_score, on_individuals}
+use Rattle.weights.specs.Stand.{Parted, stand_weight, stand_score}
 use Rattle.weights.specs.declared.Rooting.TheVariants.{Rooted}
 use Rattle.weights.proofs.Renamed.{weight-renamed, score-renamed, all_renamed_valid}
-use Rattle.stand.specs.Checks.{wide_records_test, open_tests, weight_tests as stand_weight_tests, score_tests as stand_score_tests, search_tests as stand_search_tests}
+use Rattle.stand.specs.Checks.{wide_records_test, weight_tests as stand_weight_tests, score_tests as stand_score_tests, search_tests as stand_search_tests}
 use Rattle.stand.specs.OneEach.{SameTrees}
 use Rattle.stand.specs.Promise.{groups_of, weight_on, best_on, StandWeighs, StandScores, StandFinds}
 use Rattle.stand.proofs.Accepting.{valid-records}

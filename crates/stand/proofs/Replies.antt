@@ -1,8 +1,8 @@
 -- The replies of the calls that answer a number, one law for each way through their checks.
 use Prim.Native.Nat.{ℕ, ◌*◌, ◌^◌, ◌≤◌, ◌<◌}
-use mathlib.Core.Path.{◌≡◌, refl, sym, ap, ap₂, ◌∙◌}
+use mathlib.Core.Path.{◌≡◌, sym, ap, ◌∙◌}
 use mathlib.Core.Bool.{true, false, ◌&&◌}
-use mathlib.Core.List.{List, [], ◌∷◌, ◌++◌}
+use mathlib.Core.List.{List, [], ◌∷◌}
 use native.Mathlib.Omega.{arith}
 use lib.ListN.{length, take}
 use lib.Dec.{leb, ltb}
@@ -14,17 +14,17 @@ use Rattle.trees.proofs.EqualPieces.{pieces-length}
 use Rattle.roster.specs.Roster.{names}
 use Rattle.roster.specs.declared.Reply.{Reply}
 use Rattle.roster.specs.Judged.{refusal, done}
-use Rattle.roster.specs.Verdict.{Test, Verdict, verdict, value_by, reply_of}
+use Rattle.roster.specs.Verdict.{Test, Verdict, verdict, value_by}
 use Rattle.lineages.specs.Checks.{cluster_test, species_record_test}
 use Rattle.lineages.specs.Work.{said}
 use Rattle.lineages.proofs.Calls.{refused-reply, done_reply}
 use Rattle.lineages.proofs.FirstBad.{none_bad}
-use Rattle.mapping.specs.Promise.{stand_tests, StandParsed}
+use Rattle.mapping.specs.Promise.{StandParsed}
 use Rattle.mapping.specs.declared.Stand.{Stand}
 use Rattle.weights.specs.Stand.{stand_weight, stand_score}
-use Rattle.weights.specs.Work.{AllCountableFor, StandCountable}
+use Rattle.weights.specs.Work.{StandCountable}
 use Rattle.weights.proofs.Sums.{valid-countable}
-use Rattle.stand.specs.Checks.{first_bad_wide, wide_records_test, open_tests, weight_tests, score_tests}
+use Rattle.stand.specs.Checks.{first_bad_wide, wide_records_test, weight_tests, score_tests}
 use Rattle.stand.specs.Promise.{groups_of, weight_on, StandJudged, StandWeighs, StandScores}
 use Rattle.stand.specs.Work.{StandOpened}
 use Rattle.stand.proofs.Opening.{Opened, stand-passed, is_opened, closed-told, open_told, species-count, individuals-count}

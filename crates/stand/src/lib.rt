@@ -1,4 +1,6 @@
 // Several individuals of a species (#110): the calls on a stand, which is two rosters and a mapping.
+#![tactic(auto)]
+
 mod checks;
 mod counting;
 mod searching;

@@ -33,8 +33,8 @@ often_other x y d = omega (arith, many_cons (λ z. eqb y z) x [], often_none y, 
 
 module _ (x : ℕ) (f : List ℕ) (l : x < length f) where
   -- one more at x
-  pub one_more_lem : {r : ℕ} → r ≡ (get_or f x 0 + 1) % modulus → Changed (x ∷ []) [] f (set f x r)
-  one_more_lem {r} e = record { same = length-set f x r; entries = λ y k. go y (ℕ_discrete y x) }
+  pub with_more : {r : ℕ} → r ≡ (get_or f x 0 + 1) % modulus → Changed (x ∷ []) [] f (set f x r)
+  with_more {r} e = record { same = length-set f x r; entries = λ y k. go y (ℕ_discrete y x) }
     where
       go : (y : ℕ) → Dec (y ≡ x) → (get_or (set f x r) y 0 + often y []) % modulus ≡ (get_or f y 0 + often y (x ∷ [])) % modulus
       go y (yes d) =

@@ -15,9 +15,9 @@ use Rattle.weights.proofs.Checked.{listed_from, first_none}
 use Rattle.weights.proofs.Groups.{species-union}
 use Rattle.weights.proofs.SumOfLists.{many_same}
 use Rattle.weights.proofs.SumOfStand.{taken-below, taken-gathered}
-use Rattle.weights.proofs.SumOfUnions.{SameUnions, unions_reordered, SeenUnions, unions_seen}
+use Rattle.weights.proofs.SumOfUnions.{SameUnions, unions_reordered, unions_seen}
 use Rattle.sums.specs.Work.{Changed, Summable, ChildrenIn, Parts, of_nodes, node_plus, node_minus}
-use Rattle.sums.proofs.Changes.{often_none, often_both, often-map, changed_none, changed_both, changed_as, ChangedTo, to_start, to_next, to_end}
+use Rattle.sums.proofs.Changes.{often_both, often-map, changed_none, changed_both, changed_as, ChangedTo, to_start, to_next, to_end}
 use Rattle.sums.proofs.Joins.{Joins}
 
 -- ---- one node

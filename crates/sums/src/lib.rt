@@ -1,4 +1,6 @@
 // The weights of all clusters at once, by sums over subsets: what each gene tree adds and takes off at some sets, summed up over all parts of every set.
+#![tactic(auto)]
+
 mod entries;
 mod rooted;
 pub mod stand;

@@ -11,7 +11,7 @@ ghost use Rattle.sums.specs.Work.{either, Changed, Summable, ChildrenIn, Parts, 
 use crate::entries::change;
 
 // The children of a cluster: the sets from the first on.
-#[derive(Drop)]
+#[derive(Clone, Copy)]
 struct Children {
     first: usize,
     sets: [u32; 16],

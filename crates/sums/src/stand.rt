@@ -31,7 +31,7 @@ fn species_in(groups: &[u32], n: usize, x: u32) -> u32
 }
 
 // The children of a cluster: the sets from the first on.
-#[derive(Drop)]
+#[derive(Clone, Copy)]
 struct Children {
     first: usize,
     sets: [u32; 32],

@@ -127,8 +127,8 @@ module _ {n : ℕ} {ok : ℕ → Bool} {lent_scores lent_splits scores splits : 
       record {
         some = r.some;
         below = omega arith;
-        score_entry_lem = omega arith;
-        split_entry_lem = omega arith;
+        score_within = omega arith;
+        split_within = omega arith;
         scored = scored-below;
         light = omega (arith, ap (λ t. get_or t a 0) own-tables.0, written_behind_lem (score_on own ok) a lent_scores a (omega arith), r.light a r.some l);
       }

@@ -87,7 +87,7 @@ tabled_less l t = record { light = t.light; score = λ b h. t.score b (omega ari
 
 module _ {n : ℕ} {scores splits lent ties : List ℕ} {a : ℕ} (c : Counting n scores splits lent ties a) (p : Tieable n scores splits lent) where
   own-ties : ties ≡ written (tie_entry p.weights p.allowed) a lent
-  own-ties = c.ties-written p.weights p.allowed p.tabled
+  own-ties = c.ties_written p.weights p.allowed p.tabled
 
   -- the table keeps its length
   pub counting_length : length ties ≡ length lent
@@ -105,8 +105,8 @@ module _ {n : ℕ} {scores splits lent ties : List ℕ} {a : ℕ} (c : Counting 
       let nt = p.ties_long in
       record {
         few = omega arith;
-        score_entry_lem = omega arith;
-        split_entry_lem = omega arith;
+        score_within = omega arith;
+        split_within = omega arith;
         tie_entries = omega (arith, counting_length);
         weights = p.weights;
         allowed = p.allowed;
@@ -121,7 +121,7 @@ module _ {n : ℕ} {scores splits lent ties : List ℕ} {a : ℕ} (c : Counting 
       record {
         last = omega arith;
         ties_written = λ w ok t.
-            let e = c.ties-written w ok t in
+            let e = c.ties_written w ok t in
             let is = h w ok (tabled_less (omega arith) t) (λ b k. ap (λ m. get_or m b 0) e ∙ written_at (tie_entry w ok) a lent b k) in
             ap₂ (λ m v. set m a v) e is ∙ written_next (tie_entry w ok) a lent (omega arith);
       }
@@ -131,7 +131,7 @@ module _ {n : ℕ} {scores splits lent ties : List ℕ} {a : ℕ} (c : Counting 
   counting_end past w ok t =
       let last = c.last in
       let e : a ≡ 2 ^ n = omega arith in
-      c.ties-written w ok t ∙ ap (λ k. written (tie_entry w ok) k lent) e ∙ written-entries (tie_entry w ok) (2 ^ n) lent
+      c.ties_written w ok t ∙ ap (λ k. written (tie_entry w ok) k lent) e ∙ written-entries (tie_entry w ok) (2 ^ n) lent
 
 -- ---- tables that are filled
 

@@ -14,8 +14,8 @@ use Rattle.terms.specs.declared.allowing.Allowance.TheVariants.{Marked}
 pub record Next (a : ℕ) (scores splits : List ℕ) : Type 0 where
   pub some : 1 ≤ a
   pub below : a < 65536
-  pub score_entry_lem : a < length scores
-  pub split_entry_lem : a < length splits
+  pub score_within : a < length scores
+  pub split_within : a < length splits
   pub scored : Scored a scores
   pub light : get_or scores a 0 ≤ 131072
 
@@ -60,8 +60,8 @@ TiesBelow w ok a ties = (b : ℕ) → b < a → get_or ties b 0 ≡ tie_entry w 
 -- a cluster with an entry in both tables, which are filled for some weights and some allowed set, all smaller ones having their ties
 pub record TieNext (a : ℕ) (scores splits ties : List ℕ) : Type 0 where
   pub few : a < 65536
-  pub score_entry_lem : a < length scores
-  pub split_entry_lem : a < length splits
+  pub score_within : a < length scores
+  pub split_within : a < length splits
   pub tie_entries : a ≤ length ties
   pub weights : ℕ → ℕ
   pub allowed : ℕ → Bool

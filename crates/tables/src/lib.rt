@@ -1,4 +1,6 @@
 // Both tables, for any weights: the score table holds the weights at first, and each entry becomes a score as the clusters rise. The third is filled from both.
+#![tactic(auto)]
+
 mod tied;
 mod tree;
 

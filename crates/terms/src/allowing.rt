@@ -5,7 +5,7 @@ ghost use Rattle.terms.specs.Allowed.{allowed_in, allowed_for};
 ghost use Rattle.terms.specs.declared.allowing.Allowance.TheVariants.{Marked};
 
 // Which clusters are allowed: every one, or those that the bytes mark. No bytes are looked at where every one is.
-#[derive(Drop)]
+#[derive(Clone, Copy)]
 pub enum Allowance {
     Every,
     Marked,

@@ -1,4 +1,6 @@
 // What a search is given beside the gene trees, and what it answers: the allowed clusters, and an answer with its refusal.
+#![tactic(auto)]
+
 pub mod allowing;
 
 ghost use Rattle.std.specs.Prelude.{◌≡◌};
@@ -6,7 +8,7 @@ ghost use Rattle.terms.specs.Answers.{without};
 
 // What the search answers: number and place, the score, and the record of its tree.
 #[repr(C)]
-#[derive(Drop)]
+#[derive(Clone, Copy)]
 pub struct Found {
     pub number: u32,
     pub place: usize,

@@ -4,7 +4,7 @@ use native.Mathlib.Nat.{not-suc-le-zero, le_of_suc-le-suc}
 use native.Mathlib.Omega.{arith}
 use mathlib.Core.Path.{◌≡◌, refl, sym, ap, ◌∙◌}
 use mathlib.Core.Bool.{true}
-use mathlib.Core.List.{List, [], ◌∷◌, ◌++◌, map}
+use mathlib.Core.List.{List, [], ◌∷◌, map}
 use lib.ListN.{length, get_or, replicate}
 use lib.Count.{ones, count_trailing_zeros}
 use Rattle.clusters.specs.Sets.{single, has, within, apart, size, lowest}

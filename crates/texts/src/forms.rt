@@ -60,7 +60,8 @@ fn doubled(out: &mut [u8], at: usize, name: &[u8]) -> usize
     let mut i = 0;
     while i < name.len() {
         let b = name[i];
-        if b == b'\'' {
+        let quote = b == b'\'';
+        if quote {
             out[end] = b;
             end += 1;
         }

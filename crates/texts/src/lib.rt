@@ -1,4 +1,6 @@
 // The text of a node of a tree, down to its leaves, and the length of the whole.
+#![tactic(auto)]
+
 mod child;
 mod forms;
 pub mod label;

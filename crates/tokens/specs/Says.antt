@@ -84,7 +84,7 @@ fine_as false e = Extended e
 
 -- what was read behind a node, its support judged where a threshold is given
 abbrev pub judged_as : Threshold → BehindRead → BehindRead
-judged_as threshold (NotExtended e) = NotExtended e
+judged_as _ (NotExtended e) = NotExtended e
 judged_as NoThreshold (Extended e) = Extended e
 judged_as (Below amount) (Extended e) = fine_as (fine_figure e.support) e
 

@@ -5,21 +5,21 @@ ghost use Rattle.tokens.specs.Says.{number_fault, behind_fault, name_fault};
 use labels::Label;
 
 // A fault: its number, and its place in the text.
-#[derive(Drop)]
+#[derive(Clone, Copy)]
 pub struct Refusal {
     pub number: u32,
     pub place: usize,
 }
 
 // What a number is worth, in whole thousandths; none where it has more than three decimals, or is not written.
-#[derive(Drop)]
+#[derive(Clone, Copy)]
 pub enum Value {
     Thousandths { amount: usize },
     NoValue,
 }
 
 // A number: its bytes from `from` up to `to`, none where the two are equal, and what they are worth.
-#[derive(Drop)]
+#[derive(Clone, Copy)]
 pub struct Figure {
     pub from: usize,
     pub to: usize,
@@ -27,27 +27,27 @@ pub struct Figure {
 }
 
 // What supports are judged by: nothing, or a threshold in whole thousandths.
-#[derive(Drop)]
+#[derive(Clone, Copy)]
 pub enum Threshold {
     NoThreshold,
     Below { amount: usize },
 }
 
-#[derive(Drop)]
+#[derive(Clone, Copy)]
 pub enum NumberRead {
     Number(Figure),
     Refused(Refusal),
 }
 
 // The two numbers behind a node, with no bytes where one is not written, and the place behind them.
-#[derive(Drop)]
+#[derive(Clone, Copy)]
 pub struct Figures {
     pub distance: Figure,
     pub support: Figure,
     pub next: usize,
 }
 
-#[derive(Drop)]
+#[derive(Clone, Copy)]
 pub enum BehindRead {
     Behind(Figures),
     Refused(Refusal),

@@ -87,7 +87,7 @@ fn numbers(text: &[u8], at: usize) -> BehindRead
 }
 
 // A support that has more than three decimals, so that no threshold compares with it: it has bytes and no value.
-fn too_fine_lem(support: Figure) -> bool
+fn too_fine(support: Figure) -> bool
     ensures { result ≡ fine_figure support }
 {
     let value = support.value;
@@ -108,7 +108,7 @@ fn judged(read: BehindRead, threshold: Threshold) -> BehindRead
         return read;
     };
     let support = figures.support;
-    if too_fine_lem(support) {
+    if too_fine(support) {
         return BehindRead::Refused(Refusal {
             number: 18,
             place: support.from,

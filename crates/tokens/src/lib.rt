@@ -1,4 +1,6 @@
 // The tokens of tree text: blanks, names, numbers, what stands behind a node, and where each is refused.
+#![tactic(auto)]
+
 mod answer;
 pub mod behind;
 mod cursor;

@@ -1,7 +1,7 @@
 // What a number is worth: its digits times 1000, and its decimals as thousandths.
 ghost use Rattle.std.specs.Prelude.{◌≡◌, List, ℕ, ◌+◌, ◌^◌, ◌≤◌, ◌<◌, length, take, drop};
 ghost use Rattle.labels.specs.Bytes.{is_digit, run};
-ghost use Rattle.tokens.specs.Values.{written as the-written-Values, filled as Values·filled, thousandths as Values·thousandths};
+ghost use Rattle.tokens.specs.Values.{written as Values·written, filled as Values·filled, thousandths as Values·thousandths};
 
 use crate::answer::Value;
 use crate::number::digits;
@@ -10,7 +10,7 @@ use crate::number::digits;
 fn written(bytes: &[u8], at: usize, count: usize) -> usize
     requires count_bound { count ≤ run is_digit (drop at bytes.now) }
     requires count_bound_2 { count ≤ 12 }
-    ensures value { result ≡ the-written-Values (take count (drop at bytes.now)) }
+    ensures value { result ≡ Values·written (take count (drop at bytes.now)) }
     ensures upper_bound { result < 10 ^ count }
 {
     let mut value = 0usize;
@@ -26,7 +26,7 @@ fn written(bytes: &[u8], at: usize, count: usize) -> usize
 fn filled(value: usize, count: usize) -> usize
     requires value_bound { value < 10 ^ count }
     requires count_bound { count ≤ 3 }
-    ensures by_index { (ds : List ℕ) → count ≡ length ds → value ≡ the-written-Values ds → result ≡ the-written-Values (Values·filled ds) }
+    ensures by_index { (ds : List ℕ) → count ≡ length ds → value ≡ Values·written ds → result ≡ Values·written (Values·filled ds) }
     ensures upper_bound { result < 1000 }
 {
     if count == 1 {

@@ -39,8 +39,8 @@ module _ (draw : ℕ → Tree) where
   none : AllBinary []
   none c m = absurd (Memᴰ.not-nil m)
 
-  one_more_lem : (x : ℕ) (l : List ℕ) → Binary (draw x) → AllBinary l → AllBinary (x ∷ l)
-  one_more_lem x l b f c m = go (Memᴰ.cases_cons m)
+  with_more : (x : ℕ) (l : List ℕ) → Binary (draw x) → AllBinary l → AllBinary (x ∷ l)
+  with_more x l b f c m = go (Memᴰ.cases_cons m)
     where
       go : (c ≡ x) ⊎ Among c l → Binary (draw c)
       go (inl e) = subst (λ (z : ℕ). Binary (draw z)) (sym e) b
@@ -51,7 +51,7 @@ module _ (draw : ℕ → Tree) where
   binary_over [] n = absurd (omega arith)
   binary_over (x ∷ []) n = absurd (omega arith)
   binary_over (x ∷ y ∷ []) n =
-      (λ b. (refl, one_more_lem x (y ∷ []) b.0 (one_more_lem y [] b.1 none)), λ k. (k.1 x (here refl), k.1 y (there (here refl))))
+      (λ b. (refl, with_more x (y ∷ []) b.0 (with_more y [] b.1 none)), λ k. (k.1 x (here refl), k.1 y (there (here refl))))
   binary_over (x ∷ y ∷ z ∷ l) n = (λ b. absurd b.1, λ k. let e = k.0 in absurd (omega arith))
 
   rooted_over : (l : List ℕ) → 2 ≤ length l → RootedAnyhow (node_over draw l) ↔ (((length l ≡ 2) ⊎ (length l ≡ 3)) × AllBinary l)
@@ -59,9 +59,9 @@ module _ (draw : ℕ → Tree) where
   rooted_over [] n = absurd (omega arith)
   rooted_over (x ∷ []) n = absurd (omega arith)
   rooted_over (x ∷ y ∷ []) n =
-      (λ b. (inl refl, one_more_lem x (y ∷ []) b.0 (one_more_lem y [] b.1 none)), λ k. (k.1 x (here refl), k.1 y (there (here refl))))
+      (λ b. (inl refl, with_more x (y ∷ []) b.0 (with_more y [] b.1 none)), λ k. (k.1 x (here refl), k.1 y (there (here refl))))
   rooted_over (x ∷ y ∷ z ∷ []) n = (
-    λ b. (inr refl, one_more_lem x (y ∷ z ∷ []) b.0 (one_more_lem y (z ∷ []) b.1.0 (one_more_lem z [] b.1.1 none))),
+    λ b. (inr refl, with_more x (y ∷ z ∷ []) b.0 (with_more y (z ∷ []) b.1.0 (with_more z [] b.1.1 none))),
     λ k. (k.1 x (here refl), (k.1 y (there (here refl)), k.1 z (there (there (here refl))))),
   )
   rooted_over (x ∷ y ∷ z ∷ w ∷ l) n = (λ b. absurd b.1, λ k. absurd (many k.0))

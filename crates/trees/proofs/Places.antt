@@ -22,7 +22,7 @@ pub record At {A : Type 0} (l : List A) (other a : A) : Type 0 where
   pub before_end : place < length l
   pub there : get_or l place other ≡ a
 
-pub among_at : {A : Type 0} {l : List A} (other : A) {a : A} → Memᴰ a l → At l other a
+pub among_at : {A : Type 0} {a : A} {l : List A} (other : A) → Memᴰ a l → At l other a
 among_at other (Memᴰ.head e) = record { place = 0; before_end = omega arith; there = sym e }
 among_at other (Memᴰ.tail m) =
     let p = among_at other m in

@@ -26,8 +26,8 @@ copy_more l w i k h =
 pub sets-front : (l a : List ℕ) → length a ≤ length l → sets l 0 a ≡ a ++ drop (length a) l
 sets-front l a h = let e : 0 + length a ≡ length a = omega arith in sets-eq a l 0 (omega arith) ∙ ap (λ (k : ℕ). a ++ drop k l) e
 
-pub get_d_sets : (l a : List ℕ) (i : ℕ) → length a ≤ length l → i < length a → get_or (sets l 0 a) i 0 ≡ get_or a i 0
-get_d_sets l a i h k = rw (sets-front l a h) (get_or-append a (drop (length a) l) 0 i k)
+pub get_or-sets : (l a : List ℕ) (i : ℕ) → length a ≤ length l → i < length a → get_or (sets l 0 a) i 0 ≡ get_or a i 0
+get_or-sets l a i h k = rw (sets-front l a h) (get_or-append a (drop (length a) l) 0 i k)
 
 pub take-sets : (l a : List ℕ) → length a ≤ length l → take (length a) (sets l 0 a) ≡ a
 take-sets l a h = rw (sets-front l a h) (take-append_seam a (drop (length a) l))

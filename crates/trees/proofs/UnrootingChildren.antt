@@ -51,7 +51,7 @@ module _ {s : ℕ} {cs : List ℕ} (h : Hierarchy s cs) where
   pub parent : (x : ℕ) → Among x cs → (x ≡ s → ⊥) → (q : ℕ) × Among q cs × Child cs q x
   parent x m d = parent-below (size s) x s m h.all (h.inside x m).1 d (omega arith)
 
-  module _ {p : ℕ} (Listed-p : Among p cs) where
+  module _ {p : ℕ} (listed_p : Among p cs) where
     -- what has a child is no single species
     pub parent_not_single : {y : ℕ} → Child cs p y → size p ≡ 1 → ⊥
     parent_not_single {y} c e = omega (arith, size-within_lt y p c.inside c.other, size_some (h.inside y c.among).0)
@@ -59,7 +59,7 @@ module _ {s : ℕ} {cs : List ℕ} (h : Hierarchy s cs) where
     -- each species of a parent is in a child
     pub child_with : {y : ℕ} → Child cs p y → (i : ℕ) → Has p i → (c : ℕ) × Child cs p c × Has c i
     child_with c i k =
-        let d = has-together (children cs p) i (subst (λ (z : ℕ). Has z i) (sym (children-together h Listed-p (parent_not_single c))) k) in
+        let d = has-together (children cs p) i (subst (λ (z : ℕ). Has z i) (sym (children-together h listed_p (parent_not_single c))) k) in
         (d.0, among-children cs p d.1, d.2)
 
 -- ---- lists of different numbers
@@ -108,12 +108,12 @@ pub record Beside (s : ℕ) (cs : List ℕ) (a x y : ℕ) : Type 0 where
   pub holds_x : Within x (s - third)
   pub holds_y : Within y (s - third)
 
-module _ {s : ℕ} {cs : List ℕ} (h : Hierarchy s cs) (a : ℕ) {p x y : ℕ} (Listed-p : Among p cs) (outside : Within p a → ⊥)
+module _ {s : ℕ} {cs : List ℕ} (h : Hierarchy s cs) (a : ℕ) {p x y : ℕ} (listed_p : Among p cs) (outside : Within p a → ⊥)
     (c : Child cs p x) (d : Child cs p y) (differ : x ≡ y → ⊥) (x-inside : Within x a) (y_inside : Within y a) where
   third-child : (z : ℕ) × Child cs p z × (Within z a → ⊥)
   third-child =
       let i = outside-species p a outside in
-      let z = child_with h Listed-p c i.0 i.1 in
+      let z = child_with h listed_p c i.0 i.1 in
       (z.0, z.1, λ w. i.2 (has_of_within z.0 a i.0 w z.2))
 
   not_inside : {v z : ℕ} → Within v a → (Within z a → ⊥) → v ≡ z → ⊥
@@ -125,7 +125,7 @@ module _ {s : ℕ} {cs : List ℕ} (h : Hierarchy s cs) (a : ℕ) {p x y : ℕ} 
     third = z;
     among = k.among;
     other = λ g. k.other (g ∙ sym e);
-    inside = within_of_has (s - z) a (λ i m. let j = has_minus s z i part m in at i j.1 (child_with h Listed-p c i (subst (λ (v : ℕ). Has v i) (sym e) j.0)));
+    inside = within_of_has (s - z) a (λ i m. let j = has_minus s z i part m in at i j.1 (child_with h listed_p c i (subst (λ (v : ℕ). Has v i) (sym e) j.0)));
     holds_x = apart-rest s z x part (h.inside x c.among).1 (child-apart h c k (not_inside x-inside f));
     holds_y = apart-rest s z y part (h.inside y d.among).1 (child-apart h d k (not_inside y_inside f));
   }
@@ -149,7 +149,7 @@ module _ {s : ℕ} {cs : List ℕ} (h : Hierarchy s cs) (a : ℕ) {p x y : ℕ} 
   beside r = go r third-child
     where
       go : Resolved cs s p → (z : ℕ) × Child cs p z × (Within z a → ⊥) → Beside s cs a x y
-      go (inl (inl e)) z = absurd (parent_not_single h Listed-p c e)
+      go (inl (inl e)) z = absurd (parent_not_single h listed_p c e)
       go (inl (inr e)) z =
           let three = three_of (children cs p) differ (not_inside x-inside z.2) (not_inside y_inside z.2) (children-among cs p c) (children-among cs p d)
           (children-among cs p z.1) in

@@ -4,15 +4,18 @@ use cases::fields::{lent_size, number};
 use cases::packed::{bytes, numbers};
 use cases::room;
 use showing::{show, tables};
+use std::io;
+use std::io::Write;
 
-fn check(
+fn check<W: Write>(
+    to: &mut W,
     case: &[u8],
     line: &[u8],
     text: &[u8],
     records: &[u16],
     scores: &mut [u32],
     splits: &mut [u16],
-) {
+) -> io::Result<()> {
     let reply = counts::check(
         line,
         text,
@@ -22,31 +25,38 @@ fn check(
         scores,
         splits,
     );
-    show::answer(reply.number, reply.place, reply.value);
-    tables::show(scores, splits);
-    show::byte(b'\n');
+    show::answer(to, reply.number, reply.place, reply.value)?;
+    tables::show(to, scores, splits)?;
+    show::byte(to, b'\n')
 }
 
 // Checks with so many entries in each table.
-fn check_in(case: &[u8], line: &[u8], text: &[u8], records: &[u16]) {
+fn check_in<W: Write>(
+    to: &mut W,
+    case: &[u8],
+    line: &[u8],
+    text: &[u8],
+    records: &[u16],
+) -> io::Result<()> {
     let mut scores = room::scores();
     let mut splits = room::numbers();
     let k = lent_size(case, 5);
     let m = lent_size(case, 6);
     check(
+        to,
         case,
         line,
         text,
         records,
         &mut scores[0..k],
         &mut splits[0..m],
-    );
+    )
 }
 
-pub fn run(case: &[u8], line: &[u8]) {
+pub fn run<W: Write>(to: &mut W, case: &[u8], line: &[u8]) -> io::Result<()> {
     let mut text = room::bytes();
     let mut genes = room::numbers();
     let n = bytes(case, 1, true, &mut text);
     let m = numbers(case, 3, false, &mut genes);
-    check_in(case, line, &text[..n], &genes[..m]);
+    check_in(to, case, line, &text[..n], &genes[..m])
 }

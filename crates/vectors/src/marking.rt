@@ -4,16 +4,24 @@ use crate::replies;
 use cases::fields::{lent_size, number};
 use cases::room;
 use showing::show;
+use std::io;
+use std::io::Write;
 use weights::Rooting;
 
-fn mark(rooting: Rooting, case: &[u8], records: &[u16], out: &mut [u8]) {
+fn mark<W: Write>(
+    to: &mut W,
+    rooting: Rooting,
+    case: &[u8],
+    records: &[u16],
+    out: &mut [u8],
+) -> io::Result<()> {
     let reply = lineages::mark(rooting, number(case, 0), records, number(case, 2), out);
-    replies::with_lent(reply, out);
-    show::byte(b'\n');
+    replies::with_lent(to, reply, out)?;
+    show::byte(to, b'\n')
 }
 
-pub fn run(rooting: Rooting, case: &[u8], records: &[u16]) {
+pub fn run<W: Write>(to: &mut W, rooting: Rooting, case: &[u8], records: &[u16]) -> io::Result<()> {
     let mut out = room::bytes();
     let size = lent_size(case, 3);
-    mark(rooting, case, records, &mut out[0..size]);
+    mark(to, rooting, case, records, &mut out[0..size])
 }

@@ -5,13 +5,21 @@ use cases::packed::bytes;
 use cases::room;
 use reader::{Kind, Threshold};
 use showing::show;
+use std::io;
+use std::io::Write;
 
-pub fn run(kind: Kind, threshold: Threshold, case: &[u8], line: &[u8]) {
+pub fn run<W: Write>(
+    to: &mut W,
+    kind: Kind,
+    threshold: Threshold,
+    case: &[u8],
+    line: &[u8],
+) -> io::Result<()> {
     let mut text = room::bytes();
     let n = bytes(case, 1, true, &mut text);
     let reading = reader::read(kind, threshold, line, &text[..n], number(case, 2));
     let entries = reading.numbers;
-    show::answer(reading.number, reading.place, reading.next);
-    show::record_start(&entries);
-    show::byte(b'\n');
+    show::answer(to, reading.number, reading.place, reading.next)?;
+    show::record_start(to, &entries)?;
+    show::byte(to, b'\n')
 }

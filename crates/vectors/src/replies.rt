@@ -1,23 +1,26 @@
 // Replies of calls on standard output.
 use roster::Reply;
 use showing::{lent, show};
+use std::io;
+use std::io::Write;
 
 // A reply that is the whole answer.
-pub fn line(r: Reply) {
-    show::answer(r.number, r.place, r.value);
-    show::byte(b'\n');
+pub fn line<W: Write>(to: &mut W, r: Reply) -> io::Result<()> {
+    show::answer(to, r.number, r.place, r.value)?;
+    show::byte(to, b'\n')
 }
 
 // A reply, and the fingerprint of the bytes that were lent.
-pub fn with_lent(r: Reply, out: &[u8]) {
-    show::answer(r.number, r.place, r.value);
-    lent::show(out);
+pub fn with_lent<W: Write>(to: &mut W, r: Reply, out: &[u8]) -> io::Result<()> {
+    show::answer(to, r.number, r.place, r.value)?;
+    lent::show(to, out)
 }
 
 // The answer of a call that writes a text: the reply, the fingerprint of the bytes that were lent, and the text.
-pub fn with_text(r: Reply, out: &[u8]) {
-    with_lent(r, out);
-    show::byte(b' ');
-    show::start_of(out, r.value);
-    show::byte(b'\n');
+pub fn with_text<W: Write>(to: &mut W, r: Reply, out: &[u8]) -> io::Result<()> {
+    let count = r.value;
+    with_lent(to, r, out)?;
+    show::byte(to, b' ')?;
+    show::start_of(to, out, count)?;
+    show::byte(to, b'\n')
 }

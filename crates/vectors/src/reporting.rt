@@ -1,8 +1,10 @@
 // `P` input: prints what the program prints for it.
 use showing::show;
+use std::io;
+use std::io::Write;
 
-pub fn run(input: &[u8]) {
+pub fn run<W: Write>(to: &mut W, input: &[u8]) -> io::Result<()> {
     let report = report::report(input);
     let text = report.text;
-    show::start_of(&text, report.len);
+    show::start_of(to, &text, report.len)
 }

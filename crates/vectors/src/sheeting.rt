@@ -8,17 +8,19 @@ use cases::room;
 use roster::Reply;
 use sheet::Entry;
 use showing::show;
+use std::io;
+use std::io::Write;
 use weights::Rooting;
 
 // The first `size` entries are those of a case.
-#[derive(Drop)]
+#[derive(Clone, Copy)]
 struct Held {
     entries: [Entry; 64],
     size: usize,
 }
 
 // A reply, and the entries as the call left them.
-#[derive(Drop)]
+#[derive(Clone, Copy)]
 struct Filled {
     reply: Reply,
     entries: [Entry; 64],
@@ -72,27 +74,28 @@ fn fill(
     }
 }
 
-fn show_entry(e: Entry) {
-    show::byte(b' ');
-    show::number(e.position);
-    show::byte(b':');
-    show::number(e.number as usize);
-    show::byte(b':');
-    show::number(e.score);
+fn show_entry<W: Write>(to: &mut W, e: Entry) -> io::Result<()> {
+    show::byte(to, b' ')?;
+    show::number(to, e.position)?;
+    show::byte(to, b':')?;
+    show::number(to, e.number as usize)?;
+    show::byte(to, b':')?;
+    show::number(to, e.score)
 }
 
 // The first `size` entries. `run` calls it, with the entries of a case.
-fn show_entries(entries: [Entry; 64], size: usize)
+fn show_entries<W: Write>(to: &mut W, entries: [Entry; 64], size: usize) -> io::Result<()>
     requires { size ≤ 64 }
 {
     let mut i = 0;
     while i < size {
-        show_entry(entries[i]);
+        show_entry(to, entries[i])?;
         i += 1;
     }
+    Ok(())
 }
 
-pub fn run(rooting: Rooting, case: &[u8], genes: &[u16]) {
+pub fn run<W: Write>(to: &mut W, rooting: Rooting, case: &[u8], genes: &[u16]) -> io::Result<()> {
     let mut space = room::numbers();
     let k = numbers(case, 3, false, &mut space);
     let held = entries_at(field(case, 4));
@@ -108,7 +111,7 @@ pub fn run(rooting: Rooting, case: &[u8], genes: &[u16]) {
     );
     let reply = filled.reply;
     let after = filled.entries;
-    show::answer(reply.number, reply.place, reply.value);
-    show_entries(after, held.size);
-    show::byte(b'\n');
+    show::answer(to, reply.number, reply.place, reply.value)?;
+    show_entries(to, after, held.size)?;
+    show::byte(to, b'\n')
 }

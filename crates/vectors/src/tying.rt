@@ -4,9 +4,12 @@ use cases::fields::{lent_size, number};
 use cases::packed::bytes;
 use cases::room;
 use showing::{show, tables};
+use std::io;
+use std::io::Write;
 use weights::Rooting;
 
-fn search(
+fn search<W: Write>(
+    to: &mut W,
     rooting: Rooting,
     case: &[u8],
     records: &[u16],
@@ -14,7 +17,7 @@ fn search(
     scores: &mut [u32],
     splits: &mut [u16],
     ties: &mut [u64],
-) {
+) -> io::Result<()> {
     let found = search::search_ties(
         rooting,
         number(case, 0),
@@ -26,17 +29,23 @@ fn search(
         ties,
     );
     let entries = found.numbers;
-    show::answer(found.number, found.place, found.score);
-    show::byte(b' ');
-    show::number(found.ties as usize);
-    show::record_start(&entries);
-    tables::show(scores, splits);
-    tables::show_ties(ties);
-    show::byte(b'\n');
+    show::answer(to, found.number, found.place, found.score)?;
+    show::byte(to, b' ')?;
+    show::number(to, found.ties as usize)?;
+    show::record_start(to, &entries)?;
+    tables::show(to, scores, splits)?;
+    tables::show_ties(to, ties)?;
+    show::byte(to, b'\n')
 }
 
 // Searches with so many entries in each table.
-fn search_in(rooting: Rooting, case: &[u8], records: &[u16], allowed: &[u8]) {
+fn search_in<W: Write>(
+    to: &mut W,
+    rooting: Rooting,
+    case: &[u8],
+    records: &[u16],
+    allowed: &[u8],
+) -> io::Result<()> {
     let mut scores = room::scores();
     let mut splits = room::numbers();
     let mut ties = room::ties();
@@ -44,6 +53,7 @@ fn search_in(rooting: Rooting, case: &[u8], records: &[u16], allowed: &[u8]) {
     let m = lent_size(case, 5);
     let l = lent_size(case, 6);
     search(
+        to,
         rooting,
         case,
         records,
@@ -51,11 +61,11 @@ fn search_in(rooting: Rooting, case: &[u8], records: &[u16], allowed: &[u8]) {
         &mut scores[0..k],
         &mut splits[0..m],
         &mut ties[0..l],
-    );
+    )
 }
 
-pub fn run(rooting: Rooting, case: &[u8], records: &[u16]) {
+pub fn run<W: Write>(to: &mut W, rooting: Rooting, case: &[u8], records: &[u16]) -> io::Result<()> {
     let mut allowed = room::bytes();
     let n = bytes(case, 3, false, &mut allowed);
-    search_in(rooting, case, records, &allowed[..n]);
+    search_in(to, rooting, case, records, &allowed[..n])
 }

@@ -4,9 +4,11 @@ use cases::fields::number;
 use cases::packed::bytes;
 use cases::room;
 use showing::show;
+use std::io;
+use std::io::Write;
 use weights::Rooting;
 
-pub fn run(rooting: Rooting, case: &[u8], records: &[u16]) {
+pub fn run<W: Write>(to: &mut W, rooting: Rooting, case: &[u8], records: &[u16]) -> io::Result<()> {
     let mut allowed = room::bytes();
     let n = bytes(case, 3, false, &mut allowed);
     let found = plain::plain(
@@ -17,7 +19,7 @@ pub fn run(rooting: Rooting, case: &[u8], records: &[u16]) {
         &allowed[..n],
     );
     let entries = found.numbers;
-    show::answer(found.number, found.place, found.score);
-    show::record_start(&entries);
-    show::byte(b'\n');
+    show::answer(to, found.number, found.place, found.score)?;
+    show::record_start(to, &entries)?;
+    show::byte(to, b'\n')
 }

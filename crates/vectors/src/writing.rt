@@ -3,14 +3,16 @@ use crate::replies;
 use cases::fields::lent_size;
 use cases::packed::tree;
 use cases::room;
+use std::io;
+use std::io::Write;
 
-fn write(case: &[u8], line: &[u8], out: &mut [u8]) {
+fn write<W: Write>(to: &mut W, case: &[u8], line: &[u8], out: &mut [u8]) -> io::Result<()> {
     let reply = writer::write(line, tree(case, 1), out);
-    replies::with_text(reply, out);
+    replies::with_text(to, reply, out)
 }
 
-pub fn run(case: &[u8], line: &[u8]) {
+pub fn run<W: Write>(to: &mut W, case: &[u8], line: &[u8]) -> io::Result<()> {
     let mut out = room::bytes();
     let size = lent_size(case, 2);
-    write(case, line, &mut out[0..size]);
+    write(to, case, line, &mut out[0..size])
 }

@@ -1,5 +1,5 @@
 -- How large k is: at most the size of A and the number of species of the tree. It is 1 for a single species of the tree, and where A holds all of them.
-use Prim.Native.Nat.{ℕ, ◌-◌, ◌^◌, ◌≤◌, ◌<◌}
+use Prim.Native.Nat.{ℕ, ◌-◌, ◌≤◌}
 use mathlib.Core.Path.{◌≡◌, refl, sym, ◌∙◌}
 use mathlib.Core.Logic.{inl, inr}
 use mathlib.Core.List.Memᴰ.{head as here}

@@ -18,7 +18,6 @@ use Rattle.clusters.proofs.Sets.{within-refl, within_trans, within_antisym, with
 use Rattle.clusters.proofs.Parts.{part_and, and_part}
 use Rattle.trees.specs.Lists.{Among, NoneTwice}
 use Rattle.trees.specs.Records.{listed, largest, Nested, ValidFor, ValidOn}
-use Rattle.trees.specs.Valid.{among}
 use Rattle.trees.proofs.Listing.{none_twice_one}
 use Rattle.trees.proofs.Order.{rising_none_twice}
 use Rattle.trees.proofs.Nodes.{nested-sym}

@@ -1,7 +1,7 @@
 -- The groups of a stand: the individuals of a set of species and the species of a set of individuals, by their members; a set of individuals lies within those of A exactly when its
 -- species lie within A.
 use Prim.Native.Nat.{ℕ, zero, suc, ◌+◌, ◌^◌, ◌≤◌, ◌<◌}
-use mathlib.Core.Path.{◌≡◌, refl, sym, ap, ap₂, ◌∙◌, subst}
+use mathlib.Core.Path.{◌≡◌, refl, sym, ap, ◌∙◌, subst}
 use mathlib.Core.Bool.{Bool, true, false, not, true≢false}
 use mathlib.Core.Logic.{◌⊎◌, inl, inr}
 use mathlib.Core.List.{List, [], ◌∷◌, ◌++◌}
@@ -9,14 +9,12 @@ use native.Mathlib.Decide.{ℕ_discrete}
 use native.Mathlib.Numerals.{add-one}
 use native.Mathlib.Omega.{arith}
 use lib.ListN.{length, get_or, take, length-take}
-use lib.Seq.{take-suc, take_all}
-use borrow.Author.Tests.{not-true, not-false}
+use lib.Seq.{take-suc}
+use borrow.Author.Tests.{not-true}
 use lib.Bits.{bit_and}
 use Rattle.clusters.specs.Sets.{Has, Within, Apart, within, apart, has, single, union, whole}
-use Rattle.clusters.proofs.Members.{has_dec, has-union, union-has_left, union-has_right, has-zero, has_and, and_has, some_has, has_some, single-has, has-single, has_whole, whole_has, has-below, same_members, within_of_has, has_of_within, apart_of_has, has_of_apart}
-use Rattle.clusters.proofs.Sets.{union-zero, zero-union, union_assoc, apart_dec, apart-true, true-apart, apart-false, false-apart, within_whole, below_of_within, single-within}
-use Rattle.trees.specs.Lists.{Among}
-use Rattle.trees.proofs.Places.{at_among}
+use Rattle.clusters.proofs.Members.{has-union, union-has_left, union-has_right, has-zero, has_and, some_has, has_some, single-has, has-single, whole_has, has-below, same_members, within_of_has, has_of_within, apart_of_has, has_of_apart}
+use Rattle.clusters.proofs.Sets.{union-zero, zero-union, union_assoc, apart-false, false-apart, below_of_within, single-within}
 use Rattle.trees.proofs.ValidTest.{tells_within, tells_apart, tells_has}
 use Rattle.weights.specs.Stand.{union_over, set_if, individuals_of, species_in, Parted}
 use Rattle.weights.proofs.Joining.{tells_same}

@@ -1,5 +1,5 @@
 -- Gene trees that lost species (#104): one with no cluster within A adds nothing to the weight of A, any other k - 1; and of A only the species of the gene tree count.
-use Prim.Native.Nat.{ℕ, ◌+◌, ◌-◌, ◌^◌, ◌≤◌, ◌<◌, min}
+use Prim.Native.Nat.{ℕ, ◌+◌, ◌-◌, ◌≤◌, min}
 use mathlib.Core.Path.{◌≡◌, refl, ap, ap₂}
 use mathlib.Core.Logic.{◌↔◌}
 use mathlib.Core.Bool.{Bool, ◌&&◌}

@@ -1,21 +1,20 @@
 -- "With one individual each" (#110): the sets of individuals are the sets of species under other names, so gene records on species, taken to individuals, are valid, and every weight and
 -- score on the stand is that of the gene records on species.
-use Prim.Native.Nat.{ℕ, ◌+◌, ◌-◌, ◌^◌, ◌≤◌, ◌<◌}
-use mathlib.Core.Path.{◌≡◌, refl, sym, ap, ap₂, ◌∙◌, subst}
-use mathlib.Core.Logic.{◌⊎◌, inl, inr}
-use mathlib.Core.Bool.{true}
+use Prim.Native.Nat.{ℕ, ◌-◌, ◌^◌, ◌≤◌, ◌<◌}
+use mathlib.Core.Path.{◌≡◌, refl, sym, ap, ◌∙◌, subst}
+use mathlib.Core.Logic.{inl, inr}
 use mathlib.Core.List.Memᴰ
 use mathlib.Core.List.Memᴰ.{head as here}
 use mathlib.Core.List.Memᴰ.{tail as there}
-use mathlib.Core.List.{List, [], ◌∷◌, map, Memᴰ}
+use mathlib.Core.List.{List, [], ◌∷◌, map}
 use native.Mathlib.Omega.{arith}
 use lib.ListN.{length, get_or, length-map}
 use Rattle.clusters.specs.Sets.{Has, Within, Apart, within, apart, single}
-use Rattle.clusters.proofs.Members.{has-below, has-single, some_has, has_some, same_members, within_of_has, has_of_within}
+use Rattle.clusters.proofs.Members.{has-below, has-single, some_has, has_some, same_members}
 use Rattle.clusters.proofs.Sets.{apart-true, true-apart}
 use Rattle.clusters.proofs.Sizes.{size_one}
-use Rattle.trees.specs.Lists.{Among, NoneTwice, sorted, total}
-use Rattle.trees.specs.Records.{listed, largest, Nested, record_for, ValidFor, SpeciesValid, GeneValidFor, GeneValid, AllValidFor, AllValid}
+use Rattle.trees.specs.Lists.{Among, NoneTwice, sorted}
+use Rattle.trees.specs.Records.{listed, largest, Nested, record_for, ValidFor, GeneValidFor, GeneValid, AllValidFor, AllValid}
 use Rattle.trees.proofs.GeneRecords.{gene_of_valid, gene-cluster-below}
 use Rattle.trees.proofs.Order.{among-sorted, sorted-among, rising_none_twice, rising-sorted}
 use Rattle.trees.proofs.Places.{at_among}
@@ -26,7 +25,7 @@ use Rattle.weights.specs.Stand.{individuals_of, species_in, Parted, stand_weight
 use Rattle.weights.specs.declared.Rooting.TheVariants.{Rooted}
 use Rattle.weights.proofs.Groups.{has-individuals, individuals-has, individuals-below, individuals-single, species-holds, has-species, species-has, only_one, within-species, apart-species}
 use Rattle.weights.proofs.Joining.{Clusters, k_same}
-use Rattle.weights.proofs.KeptWithin.{KeepsWithin, there_within, see-apart, once-seen, k_seen}
+use Rattle.weights.proofs.KeptWithin.{KeepsWithin, there_within, once-seen, k_seen}
 use Rattle.weights.proofs.StandWeights.{stand-weight}
 use Rattle.weights.proofs.Sums.{weight_none, weight_cons}
 

@@ -1,6 +1,6 @@
 -- The weights of all sets of species on a stand by sums over subsets (#110): a set of individuals lies within those of A where its species lie within A, so the sets of individuals that are
 -- counted and taken off are taken to their species.
-use Prim.Native.Nat.{ℕ, ◌+◌, ◌^◌, ◌≤◌, ◌<◌}
+use Prim.Native.Nat.{ℕ, ◌^◌, ◌≤◌, ◌<◌}
 use mathlib.Core.Path.{◌≡◌, refl, sym, ap, ◌∙◌, subst}
 use mathlib.Core.List.Memᴰ
 use mathlib.Core.List.{List, [], ◌∷◌, ◌++◌, map, map-map, map-append}

@@ -9,7 +9,7 @@ use mathlib.Core.List.{List, [], ◌∷◌, Memᴰ}
 use native.Mathlib.Omega.{arith}
 use lib.ListN.{length, get_or, length-map}
 use Rattle.clusters.specs.Sets.{Within, Apart, within, apart, whole}
-use Rattle.clusters.proofs.Sets.{within_whole, whole_below, within-apart, apart-sym, apart-within, apart-true, true-apart, apart-false, false-apart, false-within, minus_apart, within-below}
+use Rattle.clusters.proofs.Sets.{within_whole, whole_below, within-apart, apart-sym, apart-within, apart-true, apart-false, false-apart, false-within, minus_apart, within-below}
 use Rattle.trees.specs.Lists.{Among}
 use Rattle.trees.specs.Records.{listed, largest, GeneValidFor, GeneValid, AllValidFor, AllValid}
 use Rattle.trees.specs.Unrooted.{may_unroot}

@@ -2,13 +2,13 @@
 use Prim.Native.Nat.{ℕ, zero, suc, ◌-◌, ◌^◌, ◌≤◌, ◌<◌}
 use mathlib.Core.Path.{◌≡◌, sym, ap, ap₂, ◌∙◌, subst}
 use mathlib.Core.Logic.{◌⊎◌, inl, inr}
-use mathlib.Core.Bool.{Bool, true, not, ◌&&◌, ◌||◌}
+use mathlib.Core.Bool.{Bool, true, not, ◌&&◌}
 use mathlib.Core.List.Memᴰ
-use mathlib.Core.List.{List, [], ◌∷◌, ◌++◌, map, map-append}
+use mathlib.Core.List.{List, [], ◌∷◌}
 use native.Mathlib.Omega.{arith}
 use lib.Dec.{eqb}
 use borrow.Author.Tests.{eqb-true, eqb-false, eq-eqb, ne_eqb, not-true}
-use Rattle.trees.specs.Lists.{Among, NoneTwice, keep, some, up_to, total}
+use Rattle.trees.specs.Lists.{Among, NoneTwice, keep, some, up_to}
 use Rattle.trees.specs.Records.{listed, largest, record_of, FormFor, ValidFor}
 use Rattle.trees.specs.Valid.{among}
 use Rattle.trees.specs.Tree.{Tree, clusters, On}
@@ -20,8 +20,7 @@ use Rattle.trees.proofs.ValidTest.{Tells, tells_among}
 use Rattle.trees.proofs.Recorded.{among_record, record_among, valid_of_drawn}
 use Rattle.trees.proofs.GeneRecords.{among-le-largest, largest_of_valid}
 use Rattle.trees.proofs.Redrawing.{WithoutRoot, redrawn-sym, redrawn_on, redrawn-without-root}
-use Rattle.weights.specs.Count.{unrooted_has, unrooted_clusters, k_drawn, k_by, one_or, extra, weight}
-use Rattle.weights.specs.Marks.{shown}
+use Rattle.weights.specs.Count.{unrooted_has, unrooted_clusters, k_drawn, k_by, one_or, extra}
 use Rattle.weights.specs.declared.Rooting.TheVariants.{Unrooted}
 use Rattle.weights.proofs.Joining.{keep_same, tells_same}
 

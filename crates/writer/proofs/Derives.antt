@@ -37,7 +37,7 @@ use Rattle.nodes.specs.Grammar.ColonNumber.{colon}
 use Rattle.nodes.specs.Grammar.Numbers.{nothing, distance}
 use Rattle.nodes.specs.Grammar.Inner.{nameless}
 use Rattle.nodes.specs.Grammar.Node.{a_leaf, an_inner}
-use Rattle.nodes.specs.Grammar.Children.{the_last, one_more_lem}
+use Rattle.nodes.specs.Grammar.Children.{the_last, with_more}
 use Rattle.nodes.specs.Grammar.Text.{text}
 use Rattle.printing.specs.Words.{decimal}
 use Rattle.printing.proofs.Digits.{decimal-digits}
@@ -160,7 +160,7 @@ module _ {names : List (List ℕ)} (good : GoodNames names) (notes : ℕ → Lis
         record {
           later = node_with notes names t ++ (others_with notes names f ++ 41 ∷ rest);
           comma = simp append_assoc;
-          derived = one_more_lem first (subst (λ (s : List ℕ). Blanks s (44 ∷ c.later)) (sym c.comma) none) c.derived;
+          derived = with_more first (subst (λ (s : List ℕ). Blanks s (44 ∷ c.later)) (sym c.comma) none) c.derived;
         }
 
 -- ---- the tree that a record draws

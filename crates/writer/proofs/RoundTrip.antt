@@ -34,7 +34,7 @@ use Rattle.texts.proofs.Bearing.{bearing-leaves, bearing-cluster, bearing-cluste
 use Rattle.writer.specs.Promise.{Writes}
 use Rattle.writer.proofs.RosterNames.{GoodNames, good-names}
 use Rattle.writer.proofs.Derives.{Says, says_nothing, says-count, derives-written, drawn-bare}
-use Rattle.writer.proofs.Outcomes.{writes_once, writes_zero}
+use Rattle.writer.proofs.Outcomes.{writes_zero}
 
 -- ---- a valid gene record written, and read
 

@@ -1,4 +1,6 @@
 // A record written back as tree text, in the one form.
+#![tactic(auto)]
+
 ghost use Rattle.std.specs.Prelude.{List, ℕ};
 ghost use Rattle.trees.specs.Records.{count, GeneValid};
 ghost use Rattle.texts.specs.Work.{Enough};

@@ -1,0 +1,11 @@
+-- `stand::checks::first_bad` meets its contract. The invariant: every record passed is valid for the individuals.
+use Prim.Native.Nat.{◌-◌}
+use Rattle.trees.specs.Valid.{valid_gene_for}
+use Rattle.lineages.proofs.FirstBad.{PassedTo}
+use Rattle.stand.proofs.checks.first_bad.Given as goal
+
+abbrev pub invariant-loop-i : goal.invariant-loop-i
+invariant-loop-i l = PassedTo 64 (λ g. valid_gene_for 32 l.m g) l.genes l.count l.i
+
+abbrev pub decreases-loop-i : goal.decreases-loop-i
+decreases-loop-i l = l.count - l.i

@@ -1,0 +1,9 @@
+-- `sums::rooted::children_of` meets its contract. The invariant: the children among the clusters that were passed are stored, and their species are not left.
+use Rattle.sums.proofs.DownPass.{DownTo}
+use Rattle.sums.proofs.rooted.children_of.Given as goal
+
+abbrev pub invariant-loop-j : goal.invariant-loop-j
+invariant-loop-j l = DownTo 16 l.g l.initial.left l.i l.sets l.first l.left l.j
+
+abbrev pub decreases-loop-j : goal.decreases-loop-j
+decreases-loop-j l = l.j

@@ -1,0 +1,12 @@
+-- `cursor::blanks` meets its contract. The loop keeps: the run from `at` is what has been passed, and the run from i.
+use Prim.Native.Nat.{◌+◌, ◌-◌, ◌≤◌}
+use mathlib.Core.Path.{◌≡◌}
+use lib.ListN.{length, drop}
+use Rattle.labels.specs.Bytes.{is_blank, run}
+use Rattle.tokens.proofs.cursor.blanks.Given as goal
+
+abbrev pub invariant-loop-i : goal.invariant-loop-i
+invariant-loop-i l = (l.at ≤ l.i) × (run is_blank (drop l.at l.text) ≡ (l.i - l.at) + run is_blank (drop l.i l.text))
+
+abbrev pub decreases-loop-i : goal.decreases-loop-i
+decreases-loop-i l = length l.text - l.i

@@ -1,0 +1,12 @@
+-- `weights::adding::weigh_tree` meets its contract. The invariant: the sum, with what is left to add, is the score.
+use Prim.Native.Nat.{◌+◌, ◌-◌}
+use Rattle.trees.specs.Records.{records_in}
+use Rattle.weights.specs.Count.{weight}
+use Rattle.weights.proofs.RunningSums.{ScoredTo}
+use Rattle.weights.proofs.adding.weigh_tree.Given as goal
+
+abbrev pub invariant-loop-place : goal.invariant-loop-place
+invariant-loop-place l = ScoredTo (λ a. weight l.rooting (records_in l.count l.genes) a) l.species l.total l.place
+
+abbrev pub decreases-loop-place : goal.decreases-loop-place
+decreases-loop-place l = l.m + 1 - l.place
