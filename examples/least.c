@@ -1,5 +1,5 @@
 /* Reads two gene trees, searches the least species tree and prints it: a use of the library from C.
-   Build from the project's root, on x86-64: rt staticlib capi && cc -Iinclude examples/least.c target/staticlib/libcapi.a -o target/least */
+   Build from the project's root, on x86-64: (cd crates/capi && rt lib) && mkdir -p target && cc -Iinclude examples/least.c crates/capi/out/libcapi.a -o target/least */
 #include <stdio.h>
 #include <string.h>
 

@@ -1,5 +1,5 @@
-/* The library for C and C++: crates/capi/src/lib.rt has the same names, with the promise of each. Link target/staticlib/libcapi.a,
-   which `rt staticlib capi` writes. A slice is a pointer and a length. docs/CALLS.md says of each call what it refuses, with which
+/* The library for C and C++: crates/capi/src/lib.rt has the same names, with the promise of each. Link crates/capi/out/libcapi.a,
+   which `rt lib` in crates/capi writes. A slice is a pointer and a length. docs/CALLS.md says of each call what it refuses, with which
    number and place, and what then stands in the lent buffers. */
 #ifndef SPECIESTREE_H
 #define SPECIESTREE_H
