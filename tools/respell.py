@@ -4,7 +4,7 @@
 Words are in snake case: `recordFor` becomes `record_for`. A dash stays only where it joins names of definitions, as in `length-take`; a plain word is
 added with `_`: `has-union-left` becomes `has-union_left`, `a-leaf-may` becomes `a_leaf_may`. Fields and constructors have no dash, and the proof of `f`
 is `f_spec`. Types, modules, names of src/ and names of the library stay. A name whose new spelling stands somewhere already stays as it is.
-It turns specs/, proofs/, the clauses of src/ and must-fail/*.edit; with --docs the pages, too. With --names it only prints old and new.
+It turns specs/, proofs/, the clauses of src/ and must-fail/*.edit. With --names it only prints old and new.
 """
 
 import collections
