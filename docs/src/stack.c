@@ -1,5 +1,5 @@
 /* Measures the stack that writing takes on trees of each depth, with counts and without, and checking what was written: from the project's root, on x86-64,
-   (cd crates/capi && rt lib) && cc -O2 -Iinclude docs/src/stack.c crates/capi/out/libcapi.a -Wl,-z,now -pthread -o target/stack && target/stack
+   (cd crates/capi && rt lib) && mkdir -p target && cc -O2 -Iinclude docs/src/stack.c crates/capi/out/libcapi.a -Wl,-z,now -pthread -o target/stack && target/stack
    Each call is made by a thread whose stack was filled with one byte; what is no longer that byte was used.
    `-z now` keeps the loader's own work off that stack. */
 #include <pthread.h>

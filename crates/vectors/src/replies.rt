@@ -1,4 +1,4 @@
-// Replies of calls on standard output.
+// Replies of calls, written to any writer.
 use roster::Reply;
 use showing::{lent, show};
 use std::io;
