@@ -2,7 +2,7 @@
 use Prim.Native.Nat.{ℕ}
 use mathlib.Core.Path.{◌≡◌, refl}
 use mathlib.Core.List.{List, [], ◌∷◌, map}
-use mathlib.Core.Option.{some, none}
+use Rattle.std.proofs.Common.{Some, None}
 use Rattle.labels.specs.Bytes.{run, next_is, next_label}
 use Rattle.labels.specs.Labels.{bare_letters, letters_from, doubled, letters, raw_to, told}
 use Rattle.trees.specs.Tree.{Behind}
@@ -32,6 +32,6 @@ unfolding ends_from next_end lead run next_is next_label bare_letters letters_fr
 example_ends = refl
 
 -- "zeros in front change nothing"; a count is not "fractional", and not followed by "a second number" (#114)
-pub example-counts : map count_in (seven ∷ half ∷ two ∷ []) ≡ some 7 ∷ none ∷ none ∷ []
+pub example-counts : map count_in (seven ∷ half ∷ two ∷ []) ≡ Some 7 ∷ None ∷ None ∷ []
 unfolding count_in is_count run written written_behind
 example-counts = refl

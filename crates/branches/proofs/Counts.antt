@@ -1,61 +1,54 @@
 -- The count behind a node: a number of digits alone, and its value; "zeros in front change nothing" (#114).
 use Prim.Native.Nat.compare
-use Prim.Native.Nat.{ℕ, zero, suc, ◌+◌, ◌-◌, ◌*◌, ◌≤◌, ◌<◌, min}
+use Prim.Native.Nat.{ℕ, zero, suc, ◌+◌, ◌*◌, ◌≤◌, ◌<◌}
 use native.Mathlib.Omega.{arith}
 use mathlib.Core.Path.{◌≡◌, refl, sym, ap, ◌∙◌, subst}
 use mathlib.Core.Bool.{Bool, true, false, ◌&&◌, false≢true}
 use mathlib.Core.List.{List, [], ◌∷◌, ◌++◌}
-use mathlib.Core.Option.{Option, some, none}
-use lib.ListN.{length, take, drop, length-take, length-drop, length-append, replicate}
+use lib.ListN.{length, take, length-append, replicate}
 use lib.Seq.{take-length}
 use lib.Dec.{compare_is_eq, eqb, ltb}
-use borrow.Author.Tests.{eqb-true, eq-eqb, ne_eqb, ltb-true, ltb-false, lt-ltb, le-ltb}
+use borrow.Author.Tests.{eqb-true, eq-eqb, ne_eqb, ltb-true, lt-ltb, le-ltb}
+use Rattle.std.proofs.Common.{Some, Option, None, get_or, option_map, ◌/◌}
+use native.Mathlib.Decide.{dec_lt}
+use Rattle.labels.proofs.Runs.{run-within, run-byte, run-behind}
 use Rattle.labels.specs.Bytes.{is_digit, one_more, run}
 use Rattle.labels.proofs.Bytewise.{All}
-use Rattle.labels.proofs.RunRules.{run-bytes, run_take}
+use Rattle.labels.proofs.RunRules.{run-bytes}
 use Rattle.trees.specs.Tree.{Behind}
 use Rattle.tokens.specs.Says.{between, Valued}
 use Rattle.tokens.specs.Values.{written, written_behind, thousandths}
 use Rattle.tokens.specs.declared.answer.Figure.{Figure}
-use Rattle.tokens.specs.declared.answer.Value.TheVariants.{Thousandths}
 use Rattle.tokens.proofs.Values.{whole_value}
 use Rattle.branches.specs.Ends.{is_count, count_by, count_in}
-use Rattle.branches.specs.Work.{whole_of}
 
 -- ---- a number whose bytes stand in a text
 
-module _ (text : List ℕ) (f : Figure) (valued : Valued text f) where
-  many : length (between text f) ≡ f.to - f.from
-  many = omega (arith, valued.1)
+-- a number is a count where all of its bytes are digits
+pub all_digits :
+    (d : List ℕ) (r : Bool) → 0 < length d → (r ≡ true → (i : ℕ) → i < length d → is_digit (get_or d i 0) ≡ true)
+    → (r ≡ false → (i : ℕ) × (i < length d) × (is_digit (get_or d i 0) ≡ false)) → r ≡ is_count d
+unfolding is_count
+all_digits d true some all other =
+    let whole : run is_digit d ≡ length d = by (dec_lt (run is_digit d) (length d)) in
+    rw (lt-ltb 0 (length d) some, eq-eqb (run is_digit d) (length d) whole)
+  where
+    by : Dec (run is_digit d < length d) → run is_digit d ≡ length d
+    by (yes less) = absurd (false≢true (sym (run-behind is_digit refl d) ∙ all refl (run is_digit d) less))
+    by (no most) = omega (arith, run-within is_digit d)
+all_digits d false some all other =
+    let off = other refl in
+    let fewer : run is_digit d ≡ length d → ⊥ = λ e. false≢true (sym off.2 ∙ run-byte is_digit d off.0 (rw e off.1)) in
+    rw (lt-ltb 0 (length d) some, ne_eqb (run is_digit d) (length d) fewer)
 
-  -- its bytes stand within the text
-  pub within_text : f.from < f.to → f.to ≤ length text
-  within_text h =
-      let l = valued.1 in
-      let t : length (between text f) ≡ min (f.to - f.from) (length (drop f.from text)) = length-take (f.to - f.from) (drop f.from text) in
-      let d = length-drop f.from text in
-      omega arith
+-- and none where it has no bytes
+pub no_digits : (text : List ℕ) (f : Figure) → Valued text f → f.to ≤ f.from → false ≡ is_count (between text f)
+unfolding is_count
+no_digits text f valued none = rw (le-ltb 0 (length (between text f)) (omega (arith, valued.1)))
 
-  digits_are : run is_digit (between text f) ≡ min (f.to - f.from) (run is_digit (drop f.from text))
-  digits_are = run_take is_digit (f.to - f.from) (drop f.from text)
-
-  -- a byte of it is no digit
-  pub other_byte : (i : ℕ) → f.from ≤ i → i < f.to → run is_digit (drop f.from text) ≡ i - f.from → false ≡ is_count (between text f)
-  unfolding is_count
-  other_byte i low high ends =
-      let fewer : run is_digit (between text f) ≡ length (between text f) → ⊥ = λ e. omega (arith, many, digits_are) in
-      rw (lt-ltb 0 (length (between text f)) (omega (arith, many)), ne_eqb (run is_digit (between text f)) (length (between text f)) fewer)
-
-  -- all of them are, if there are any
-  pub all_digits : f.to - f.from ≤ run is_digit (drop f.from text) → ltb f.from f.to ≡ is_count (between text f)
-  unfolding is_count
-  all_digits most =
-      let same : run is_digit (between text f) ≡ length (between text f) = omega (arith, many, digits_are) in
-      rw (eq-eqb (run is_digit (between text f)) (length (between text f)) same) (some_bytes (ltb f.from f.to) refl)
-    where
-      some_bytes : (t : Bool) → ltb f.from f.to ≡ t → t ≡ (ltb 0 (length (between text f)) && true)
-      some_bytes true is = rw (lt-ltb 0 (length (between text f)) (omega (arith, many, ltb-true f.from f.to is)))
-      some_bytes false is = rw (le-ltb 0 (length (between text f)) (omega (arith, many, ltb-false f.from f.to is)))
+-- a number with bytes has them within the text
+pub some_digits : (text : List ℕ) (f : Figure) → Valued text f → f.from < f.to → 0 < length (between text f)
+some_digits text f valued some = omega (arith, valued.1)
 
 -- ---- the value of a count
 
@@ -77,17 +70,17 @@ count-digits d is =
     record { some_byte = ltb-true 0 (length d) h.0; all = subst (λ (l : List ℕ). All is_digit l) same (run-bytes is_digit d) }
 
 -- the whole part of its value is the number that it writes
-pub count-value : (d : List ℕ) → is_count d ≡ true → whole_of (thousandths d) ≡ written d
+pub count-value : (d : List ℕ) → is_count d ≡ true → option_map (λ amount. amount / 1000) (thousandths d) ≡ Some (written d)
 count-value d is =
     let c = count-digits d is in
-    rw (whole_value d c.all c.some_byte) (omega arith)
+    rw (whole_value d c.all c.some_byte) (ap Some (omega arith))
 
--- a count is none, or there is one
-pub some_none : {a : ℕ} → ◌≡◌ {A = Option ℕ} (some a) none → ⊥
+-- a count is None, or there is one
+pub some_none : {a : ℕ} → ◌≡◌ {A = Option ℕ} (Some a) None → ⊥
 some_none e = let z : ◌≡◌ {A = ℕ} 0 1 = cc in omega arith
 
 -- where a node has a count, it is written in digits, and no second number stands behind it
-pub counted_as_lem : (t : Bool) (d b : List ℕ) {n : ℕ} → count_by t d b ≡ some n → (t ≡ true) × (b ≡ []) × (written d ≡ n)
+pub counted_as_lem : (t : Bool) (d b : List ℕ) {n : ℕ} → count_by t d b ≡ Some n → (t ≡ true) × (b ≡ []) × (written d ≡ n)
 counted_as_lem true d [] {n} e =
     let same : written d ≡ n = cc in
     (refl, refl, same)
@@ -95,12 +88,12 @@ counted_as_lem true d (x ∷ b) e = absurd (some_none (sym e))
 counted_as_lem false d b e = absurd (some_none (sym e))
 
 -- a count is so many whole thousandths, as every number that is read (#113)
-pub counted-value : (b : Behind) (w : ℕ) → count_in b ≡ some w → thousandths b.distance ≡ Thousandths (1000 * w)
+pub counted-value : (b : Behind) (w : ℕ) → count_in b ≡ Some w → thousandths b.distance ≡ Some (1000 * w)
 unfolding count_in
 counted-value b w is =
     let h = counted_as_lem (is_count b.distance) b.distance b.support is in
     let c = count-digits b.distance h.0 in
-    whole_value b.distance c.all c.some_byte ∙ ap (λ (n : ℕ). Thousandths (1000 * n)) h.2
+    whole_value b.distance c.all c.some_byte ∙ ap (λ (n : ℕ). Some (1000 * n)) h.2
 
 -- ---- which numbers are counts
 

@@ -9,8 +9,7 @@ use Rattle.trees.specs.Tree.{Tree}
 use Rattle.trees.specs.Thinned.{all_nodes}
 use Rattle.roster.specs.Roster.{names}
 use Rattle.tokens.specs.Answers.Answer.{parsed}
-use Rattle.tokens.specs.Supports.{is_given}
-use Rattle.tokens.specs.declared.answer.Threshold.{Threshold}
+use Rattle.tokens.specs.Supports.{is_given, Threshold}
 use Rattle.nodes.specs.Grammar.{strict, Node, Text}
 use Rattle.nodes.specs.Grammar.Text.{text as ended-text}
 use Rattle.nodes.specs.Reading.{read_tree}

@@ -5,7 +5,7 @@ use mathlib.Core.Path.{◌≡◌, refl, sym, ap, ap₂, ◌∙◌}
 use mathlib.Core.Bool.{Bool, true, false}
 use mathlib.Core.List.{List, [], ◌∷◌, ◌++◌, map, map-append}
 use lib.ListN.{length}
-use Rattle.labels.specs.Bytes.{run, next_label}
+use Rattle.labels.specs.Bytes.{is_blank, run, next_label}
 use Rattle.labels.specs.Spelling.{Spells}
 use Rattle.labels.specs.Labels.{label_bytes}
 use Rattle.labels.proofs.Spelled.{spells_first}
@@ -25,7 +25,6 @@ use Rattle.nodes.proofs.Rests.{moves-length, name-moves, inner_name-moves, suppo
 use Rattle.nodes.proofs.Exact.{Gives, gives, gives_then, Follows, comma_follows, closing_follows, label-solid, label_other, label_no_byte, next_is_lem, solid-run}
 use Rattle.nodes.proofs.Exact.{stopped-label, numbers-gives, numbers-stopped, name-gives, inner_name-gives}
 use Rattle.branches.specs.Ends.{behinds, End, is_lead, lead, next_end, ends_from}
-use Rattle.branches.proofs.LeadBytes.{blank-leads}
 
 -- ---- one end after the other
 
@@ -52,6 +51,10 @@ ending_ends (and_then {e = e} is others) = rw is (ap (λ (l : List End). e ∷ l
 
 -- ---- what leads to an end
 
+-- a blank leads to one
+blank-leads : (b : ℕ) → is_blank b ≡ true → is_lead b ≡ true
+blank-leads b is = rw is
+
 -- from s on, which begins at p, the next end is that from m on
 record Led (s : List ℕ) (p : ℕ) (m : List ℕ) : Type 0 where
   place : ℕ
@@ -69,7 +72,7 @@ led_blanks : {s m : List ℕ} → Blanks s m → (p : ℕ) → Led s p m
 led_blanks none p = record { place = p; kept = refl; same = refl }
 led_blanks (blank {b = b} {s = s} is more) p =
     let l = led_blanks more (p + 1) in
-    record { place = l.place; kept = omega (arith, l.kept); same = led_byte b s p (sym (blank-leads b is)) ∙ l.same }
+    record { place = l.place; kept = omega (arith, l.kept); same = led_byte b s p (blank-leads b is) ∙ l.same }
 
 -- blanks and such a byte
 led_to : (b : ℕ) {s m : List ℕ} → is_lead b ≡ true → Blanks s (b ∷ m) → (p : ℕ) → Led s p m

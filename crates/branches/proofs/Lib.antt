@@ -1,5 +1,4 @@
 pub mod Cases
-pub mod LeadBytes
 pub mod Counts
 pub mod EndWays
 pub mod Found

@@ -2,9 +2,8 @@
 use Prim.Native.Nat.{ℕ, suc, ◌+◌}
 use native.Mathlib.Omega.{arith}
 use mathlib.Core.Path.{◌≡◌, refl, sym, ap, ◌∙◌, subst₂}
-use mathlib.Core.Bool.{Bool, true, false, false≢true}
+use mathlib.Core.Bool.{Bool, true, false}
 use mathlib.Core.List.{List, [], ◌∷◌, tail}
-use mathlib.Core.Option.{Option, some, none}
 use lib.ListN.{length, drop}
 use lib.Seq.{drop-drop}
 use Rattle.labels.specs.Bytes.{next_is}
@@ -55,10 +54,6 @@ pub record Stepped (text : List ℕ) (m : ℕ) (e : End) (es : List End) (r : En
   pub is : r ≡ counted_as (count_in e.behind) e.place r.next
   pub others : ends_from m (drop r.next text) r.next ≡ es
 
-next_of : (o : Option ℕ) (place next : ℕ) → (counted_as o place next).next ≡ next
-next_of (some count) place next = refl
-next_of none place next = refl
-
 pub steps :
     (text : List ℕ) (at m : ℕ) (e : End) (es : List End) (r : Ended)
     → ends_from (suc m) (drop at text) at ≡ e ∷ es → r ≡ ended_as (length text) (next_end (drop at text) at) → Stepped text m e es r
@@ -71,34 +66,10 @@ steps text at m e es r ends is = go (next_end (drop at text) at) refl ends is
     go (parsed f rest q) found ends is =
         let first : f ≡ e = cc in
         let others : ends_from m rest q ≡ es = cc in
-        let there : r.next ≡ q = ap (λ (x : Ended). x.next) is ∙ next_of (count_in f.behind) f.place q in
+        let there : r.next ≡ q = ap (λ (x : Ended). x.next) is in
         let so : r ≡ counted_as (count_in e.behind) e.place q = rw first at is in
         record {
           is = so ∙ ap (λ (next : ℕ). counted_as (count_in e.behind) e.place next) (sym there);
           others = rw (there, ← left_behind text at found) others;
         }
     go (refused number place) found ends is = absurd (let z : ◌≡◌ {A = ℕ} 0 1 = cc in omega arith)
-
--- ---- what the answer of a call says of its end
-
-module _ (o : Option ℕ) (place next : ℕ) (r : Ended) (is : r ≡ counted_as o place next) where
-  pub place_is : r.place ≡ place
-  place_is = go o is
-    where
-      go : (o : Option ℕ) → r ≡ counted_as o place next → r.place ≡ place
-      go (some count) is = rw is
-      go none is = rw is
-
-  pub counted_some : r.counted ≡ true → o ≡ some r.count
-  counted_some has = go o is
-    where
-      go : (o : Option ℕ) → r ≡ counted_as o place next → o ≡ some r.count
-      go (some count) is = rw is
-      go none is = absurd (false≢true (rw is at has))
-
-  pub uncounted_none : r.counted ≡ false → o ≡ none
-  uncounted_none has = go o is
-    where
-      go : (o : Option ℕ) → r ≡ counted_as o place next → o ≡ none
-      go (some count) is = absurd (false≢true (sym (rw is at has)))
-      go none is = refl

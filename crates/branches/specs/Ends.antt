@@ -1,7 +1,6 @@
 -- The nodes of a tree text in the order in which they end (#114): the place of each end, and the count that stands behind it.
-use Rattle.std.specs.Prelude.{ℕ, zero, suc, ◌+◌, Bool, true, false, ◌&&◌, ◌||◌, length, drop, eqb, ltb}
+use Rattle.std.specs.Prelude.{ℕ, zero, suc, ◌+◌, Bool, true, false, ◌&&◌, ◌||◌, length, drop, eqb, ltb, Option, Some, None}
 use mathlib.Core.List.{List, [], ◌∷◌, ◌++◌, tail}
-use Rattle.std.proofs.Math.Option.{Option, some, none}
 use Rattle.labels.specs.Bytes.{is_digit, is_blank, run, next_is}
 use Rattle.trees.specs.Tree.{Tree, Behind}
 use Rattle.tokens.specs.Answers.{Answer, and_then}
@@ -78,9 +77,9 @@ is_count d = ltb 0 (length d) && eqb (run is_digit d) (length d)
 
 -- a node has no count where d is none, or where b is "a second number" (#114)
 abbrev pub count_by : Bool → List ℕ → List ℕ → Option ℕ
-count_by true d [] = some (written d)
-count_by true d (b ∷ bs) = none
-count_by false d bs = none
+count_by true d [] = Some (written d)
+count_by true d (b ∷ bs) = None
+count_by false d bs = None
 
 -- the count that is written behind a node: "one whole number after a colon" (#114)
 unfoldable pub count_in : Behind → Option ℕ
@@ -88,12 +87,11 @@ count_in b = count_by (is_count b.distance) b.distance b.support
 
 -- ---- what `next_end` answers
 
--- an end with its count, 0 where it has none, and where reading goes on
+-- an end with its count, if it has one, and where reading goes on
 abbrev pub counted_as : Option ℕ → ℕ → ℕ → Ended
-counted_as (some count) place next = record { place = place; counted = true; count = count; next = next }
-counted_as none place next = record { place = place; counted = false; count = 0; next = next }
+counted_as count place next = record { place = place; count = count; next = next }
 
 -- the next end; at the end of the text, which has n bytes, where none is read
 abbrev pub ended_as : ℕ → Answer End → Ended
 ended_as n (parsed e rest next) = counted_as (count_in e.behind) e.place next
-ended_as n (refused number place) = counted_as none n n
+ended_as n (refused number place) = counted_as None n n

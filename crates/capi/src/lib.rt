@@ -1,10 +1,10 @@
 // The library for C and Rust: each name has the promise of the call that it wraps. include/speciestree.h declares the same.
 #![tactic(auto)]
 
+ghost use Rattle.std.specs.Prelude.{None, Some};
 ghost use Rattle.roster.specs.Judged.{Judged};
 ghost use Rattle.reader.specs.Promise.{Reads};
 ghost use Rattle.reader.specs.declared.Kind.TheVariants.{Species, Gene};
-ghost use Rattle.tokens.specs.declared.answer.Threshold.TheVariants.{NoThreshold, Below};
 ghost use Rattle.writer.specs.Promise.{Writes};
 ghost use Rattle.weights.specs.declared.Rooting.TheVariants.{Rooted, Unrooted};
 ghost use Rattle.lineages.specs.Promise.{Weighs, Scores, Marks};
@@ -14,7 +14,7 @@ ghost use Rattle.search.specs.TiesPromise.{FindsTies};
 ghost use Rattle.plain.specs.Promise.{FindsPlainly};
 ghost use Rattle.counts.specs.Promise.{Checks, WritesCounts};
 
-use reader::{Kind, Reading, Threshold};
+use reader::{Kind, Reading};
 use roster::Reply;
 use search::{Found, Tied};
 use sheet::Entry;
@@ -32,17 +32,17 @@ pub extern "C" fn st_roster(line: &[u8]) -> Reply
 // Reads the species tree that begins at `start`.
 #[unsafe(no_mangle)]
 pub extern "C" fn st_read(line: &[u8], text: &[u8], start: usize) -> Reading
-    ensures { Reads Species NoThreshold line.now text.now start result }
+    ensures { Reads Species None line.now text.now start result }
 {
-    reader::read(Kind::Species, Threshold::NoThreshold, line, text, start)
+    reader::read(Kind::Species, None, line, text, start)
 }
 
 // Reads the gene tree that begins at `start`, which may lack species.
 #[unsafe(no_mangle)]
 pub extern "C" fn st_read_gene(line: &[u8], text: &[u8], start: usize) -> Reading
-    ensures { Reads Gene NoThreshold line.now text.now start result }
+    ensures { Reads Gene None line.now text.now start result }
 {
-    reader::read(Kind::Gene, Threshold::NoThreshold, line, text, start)
+    reader::read(Kind::Gene, None, line, text, start)
 }
 
 // Reads the gene tree that begins at `start`, without the clusters of inner nodes, not the root, whose support lies below the threshold, in whole thousandths.
@@ -53,10 +53,9 @@ pub extern "C" fn st_read_supported(
     start: usize,
     threshold: usize,
 ) -> Reading
-    ensures { Reads Gene (Below threshold) line.now text.now start result }
+    ensures { Reads Gene (Some threshold) line.now text.now start result }
 {
-    let given = Threshold::Below { amount: threshold };
-    reader::read(Kind::Gene, given, line, text, start)
+    reader::read(Kind::Gene, Some(threshold), line, text, start)
 }
 
 // Writes a tree's text into `out`; the value is its length.

@@ -1,8 +1,8 @@
 // Packed fields: bytes and numbers of which some are put again.
 ghost use Rattle.std.specs.Prelude.{◌≡◌, ◌≤◌, ◌<◌, length, take};
 
-use crate::fields::{field, least};
-use crate::room;
+use crate::fields::field;
+use crate::room::NUMBERS;
 use crate::token::{Token, token_at};
 use trees::Record;
 
@@ -14,11 +14,9 @@ fn again(out: &mut [u16], count: usize, back: usize, times: usize) -> usize
     if count < back {
         return count;
     }
-    let end = count + least(times, out.len() - count);
-    let mut i = count;
-    while i < end {
+    let end = count + times.min(out.len() - count);
+    for i in count..end {
         out[i] = out[i - back];
-        i += 1;
     }
     end
 }
@@ -28,29 +26,28 @@ fn put(out: &mut [u16], count: usize, token: Token) -> usize
     requires { count ≤ length out.old }
     ensures { (result ≤ length out.old) × (length out.new ≡ length out.old) }
 {
-    if token.back != 0 {
-        return again(out, count, token.back, token.value);
+    match token {
+        Token::Again { back, times } => again(out, count, back, times),
+        Token::Number(value) if count < out.len() => {
+            out[count] = (value % 65536) as u16;
+            count + 1
+        }
+        Token::Number(_) => count,
     }
-    if count < out.len() {
-        out[count] = (token.value % 65536) as u16;
-        return count + 1;
-    }
-    count
 }
 
-// Puts the numbers of the k-th field of a case, or the bytes where it is text, at the start of out, and answers how many there are.
-pub fn numbers(case: &[u8], k: usize, text: bool, out: &mut [u16]) -> usize
-    ensures { (result ≤ length out.new) × (result ≡ length (take result out.new)) }
-{
+// Puts the numbers of the k-th field of a case, or the bytes where it is text, at the start of out, and answers that part.
+pub fn numbers<'a>(case: &[u8], k: usize, text: bool, out: &'a mut [u16]) -> &'a [u16] {
     let field = field(case, k);
     let mut at = 0;
     let mut count = 0;
+    // a token says where the next one begins
     while at < field.len() {
-        let token = token_at(field, at, text);
-        count = put(out, count, token);
-        at = token.next;
+        let placed = token_at(field, at, text);
+        count = put(out, count, placed.token);
+        at = placed.next;
     }
-    count
+    &out[..count]
 }
 
 // The k-th field of a case, which is a tree's record.
@@ -60,24 +57,13 @@ pub fn tree(case: &[u8], k: usize) -> Record {
     Record { numbers: entries }
 }
 
-// Puts numbers as bytes at the start of out, as far as there is room, and answers how many there are.
-fn narrow(numbers: &[u16], out: &mut [u8]) -> usize
-    ensures { (result ≤ length out.new) × (result ≡ length (take result out.new)) }
-{
-    let n = least(numbers.len(), out.len());
-    let mut i = 0;
-    while i < n {
-        out[i] = (numbers[i] % 256) as u8;
-        i += 1;
-    }
-    n
-}
-
 // The same as bytes.
-pub fn bytes(case: &[u8], k: usize, text: bool, out: &mut [u8]) -> usize
-    ensures { (result ≤ length out.new) × (result ≡ length (take result out.new)) }
-{
-    let mut space = room::numbers();
-    let n = numbers(case, k, text, &mut space);
-    narrow(&space[..n], out)
+pub fn bytes<'a>(case: &[u8], k: usize, text: bool, out: &'a mut [u8]) -> &'a [u8] {
+    let mut space = [9u16; NUMBERS];
+    let numbers = numbers(case, k, text, &mut space);
+    let n = numbers.len().min(out.len());
+    for (b, x) in out.iter_mut().zip(numbers) {
+        *b = (x % 256) as u8;
+    }
+    &out[..n]
 }

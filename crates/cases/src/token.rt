@@ -3,102 +3,92 @@
 // As numbers they are parted by spaces, `*N` is the number before N times more, `#N` the 32 before N times more.
 ghost use Rattle.std.specs.Prelude.{◌≤◌, ◌<◌, length};
 
-use crate::fields::{Numeral, behind, byte, decimal, digit, least};
+use crate::fields::{behind, decimal};
 
-// Where back is 0 the number `value`, and else so many numbers, each the one that stands `back` places before it; and the place behind.
+// A number; or so many numbers more, each the one that stands `back` places before it.
 #[derive(Clone, Copy)]
-pub struct Token {
-    pub back: usize,
-    pub value: usize,
+pub enum Token {
+    Number(usize),
+    Again { back: usize, times: usize },
+}
+
+// A token, and the place behind it.
+#[derive(Clone, Copy)]
+pub struct Placed {
+    pub token: Token,
     pub next: usize,
 }
 
-// The byte that two hexadecimal digits stand for; any other byte counts as the digit 0.
-fn paired(high: u8, low: u8) -> usize {
-    digit(high) % 16 * 16 + digit(low) % 16
+// The hexadecimal digit at i; where none stands there, 0.
+fn digit_at(field: &[u8], i: usize) -> usize
+    ensures { result < 16 }
+{
+    match field.get(i) {
+        Some(b @ b'0'..=b'9') => (b - b'0') as usize,
+        Some(b @ b'a'..=b'f') => (b - b'a' + 10) as usize,
+        _ => 0,
+    }
 }
 
 // What stands behind a backslash: a repeat, or a byte in hexadecimal.
-fn escaped(field: &[u8], at: usize) -> Token
+fn escaped(field: &[u8], at: usize) -> Placed
     requires { at ≤ length field.now }
     ensures { (at ≤ result.next) × (result.next ≤ length field.now) }
 {
-    let high = byte(field, at);
     let second = behind(field, at);
-    if high == b'*' {
+    if field.get(at) == Some(&b'*') {
         let times = decimal(field, second);
-        let end = times.next;
-        return Token {
-            back: 1,
-            value: times.value,
-            next: behind(field, end),
+        return Placed {
+            token: Token::Again {
+                back: 1,
+                times: times.value,
+            },
+            next: behind(field, times.next),
         };
     }
-    Token {
-        back: 0,
-        value: paired(high, byte(field, second)),
+    Placed {
+        token: Token::Number(16 * digit_at(field, at) + digit_at(field, second)),
         next: behind(field, second),
     }
 }
 
-// The repeat whose mark is b, by the number behind the mark; no buffer holds more records than the bound. At any other byte a repeat of
-// nothing, which ends at `at`.
-fn repeat(b: u8, at: usize, times: Numeral) -> Token
-    requires { at ≤ times.next }
-    ensures { (at ≤ result.next) × (result.next ≤ times.next) }
-{
-    if b == b'*' {
-        return Token {
-            back: 1,
-            value: times.value,
-            next: times.next,
-        };
-    }
-    if b == b'#' {
-        return Token {
-            back: 32,
-            value: 32 * least(times.value, 65536),
-            next: times.next,
-        };
-    }
-    Token {
-        back: 1,
-        value: 0,
-        next: at,
-    }
-}
-
-// As numbers: one number, one repeat, or one byte between numbers.
-fn of_numbers(field: &[u8], at: usize) -> Token
+// As numbers: one number, one repeat, or one byte between numbers, which is a repeat of nothing. No buffer holds more records than the bound.
+fn of_numbers(field: &[u8], at: usize) -> Placed
     requires { at < length field.now }
     ensures { (at < result.next) × (result.next ≤ length field.now) }
 {
     let number = decimal(field, at);
     if at < number.next {
-        return Token {
-            back: 0,
-            value: number.value,
+        return Placed {
+            token: Token::Number(number.value),
             next: number.next,
         };
     }
-    repeat(field[at], at + 1, decimal(field, at + 1))
+    let times = decimal(field, at + 1);
+    let (back, times, next) = match field[at] {
+        b'*' => (1, times.value, times.next),
+        b'#' => (32, 32 * times.value.min(65536), times.next),
+        _ => (1, 0, at + 1),
+    };
+    Placed {
+        token: Token::Again { back, times },
+        next,
+    }
 }
 
 // As text, one byte or one repeat; or as numbers.
-pub(crate) fn token_at(field: &[u8], at: usize, text: bool) -> Token
+pub(crate) fn token_at(field: &[u8], at: usize, text: bool) -> Placed
     requires { at < length field.now }
     ensures { (at < result.next) × (result.next ≤ length field.now) }
 {
     if !text {
         return of_numbers(field, at);
     }
-    let b = byte(field, at);
-    if b == b'\\' {
-        return escaped(field, at + 1);
-    }
-    Token {
-        back: 0,
-        value: b as usize,
-        next: at + 1,
+    match field[at] {
+        b'\\' => escaped(field, at + 1),
+        b => Placed {
+            token: Token::Number(b as usize),
+            next: at + 1,
+        },
     }
 }

@@ -46,12 +46,12 @@ pub fn apart(a: u32, b: u32) -> bool
 pub fn size(a: u32) -> u32
     ensures { result ≡ size a }
 {
-    u32::count_ones(a)
+    a.count_ones()
 }
 
 // The lowest species of a, and 32 where a has none.
 pub fn lowest(a: u32) -> u32
     ensures { result ≡ lowest a }
 {
-    u32::trailing_zeros(a)
+    a.trailing_zeros()
 }

@@ -6,14 +6,18 @@ use mathlib.Core.List.{List, [], ◌∷◌, ◌++◌}
 use native.Mathlib.Omega.{arith}
 use lib.ListN.{length, take, drop}
 use lib.Seq.{take-append_seam}
+use Rattle.std.proofs.Common.{Some, Err}
+use Rattle.faults.specs.Faults.{number as fault_number}
+use Rattle.faults.specs.declared.Fault.TheVariants.{FaultyRoster}
+use Rattle.faults.specs.declared.Refusal.{Refusal}
 use Rattle.roster.specs.Roster.{names, faulty, first_fault}
-use Rattle.roster.specs.Judged.{species_most, refusal}
-use Rattle.roster.specs.Verdict.{Test, Verdict, verdict, length_test, reply_of}
+use Rattle.roster.specs.Judged.{species_most, refused_by}
+use Rattle.roster.specs.Verdict.{Test, Verdict, verdict, length_test}
 use Rattle.roster.specs.declared.Reply.{Reply}
 use Rattle.lineages.specs.Checks.{species_record_test}
 use Rattle.lineages.specs.Work.{said}
 use Rattle.lineages.proofs.Calls.{refused-reply}
-use Rattle.lineages.proofs.Verdicts.{verdict_first}
+use Rattle.lineages.proofs.Verdicts.{numbered, refused_first}
 use Rattle.texts.specs.Writing.{count_note}
 use Rattle.writer.specs.Promise.{roster_test, out_by}
 use Rattle.writer.specs.Work.{Given, fits, Puts, PutsTree}
@@ -32,11 +36,11 @@ given_some {line} g = let s = (good-names line g.good).some in let c = g.counted
 -- what is put with the weights is the text with their notes
 pub given-counts :
     {line genes : List ℕ} {count n : ℕ} {tb species counts out : List ℕ} {p : Reply} {after : List ℕ}
-    → Given line n tb → 1 ≤ length counts → Weighed genes count species counts → PutsTree n tb species counts out p after
+    → Given line n tb → Weighed genes count species counts → PutsTree n tb species (Some counts) out p after
     → Puts (counts_text (names line) genes count species) out p after
 unfolding counts_text
-given-counts {line} {genes} {count} {species = species} g some weighed p =
-    p.puts line (count_note (weight_in genes count)) g (weighed_notes genes count species some weighed)
+given-counts {line} {genes} {count} {species = species} g weighed p =
+    p.puts line (count_note (weight_in genes count)) g (weighed_notes genes count species weighed)
 
 -- the promise admits one outcome
 pub writes_counts_once :
@@ -83,26 +87,24 @@ module _ (line genes : List ℕ) (count : ℕ) (species out : List ℕ) where
   kept (suc k) f = refl
 
   module _ {p : Reply} {after : List ℕ} where
-    refused_by :
-        (v : Verdict) → verdict (write_counts_tests line genes count species out) ≡ v → (v.number ≡ 0 → ⊥) → p ≡ reply_of v 0 → after ≡ out
+    refuses :
+        (e : Refusal) → verdict (write_counts_tests line genes count species out) ≡ said (fault_number e.fault) e.place → p ≡ refused_by e → after ≡ out
         → WritesCounts line genes count species out p after
-    refused_by v e f is same = record {
-      answer = is ∙ sym (refused-reply 0 v.number refl f) ∙ refused-reply _ v.number e f;
-      bytes = same ∙ rw e (kept v.number f);
+    refuses e told is same = record {
+      answer = is ∙ refused-reply _ (fault_number e.fault) told (numbered e.fault);
+      bytes = same ∙ rw told (kept (fault_number e.fault) (numbered e.fault));
     }
 
     pub counts-faulty :
-        faulty species_most line ≡ true → p ≡ refusal 1 (first_fault species_most line) → after ≡ out → WritesCounts line genes count species out p after
-    counts-faulty f = refused_by (said 1 (first_fault species_most line)) (faulty-verdict f) (λ z. omega arith)
+        (e : Refusal) → faulty species_most line ≡ true → e.fault ≡ FaultyRoster → e.place ≡ first_fault species_most line → p ≡ refused_by e → after ≡ out
+        → WritesCounts line genes count species out p after
+    counts-faulty e f fault place = refuses e (rw (fault, place) (faulty-verdict f))
 
     pub counts-judged :
-        faulty species_most line ≡ false → TreesJudged n genes count species p → (p.number ≡ 0 → ⊥) → after ≡ out
+        (e : Refusal) → faulty species_most line ≡ false → TreesJudged n genes count species (Err e) → p ≡ refused_by e → after ≡ out
         → WritesCounts line genes count species out p after
     unfolding CallJudged
-    counts-judged f told not-zero same =
-        let v = verdict (tree_tests n genes count species) in
-        let some : v.number ≡ 0 → ⊥ = λ z. not-zero (ap (λ (r : Reply). r.number) told ∙ z) in
-        refused_by v (good-verdict f ∙ verdict_first (tree_tests n genes count species) (text_test ∷ []) refl some) some told same
+    counts-judged e f told = refuses e (good-verdict f ∙ refused_first (tree_tests n genes count species) (text_test ∷ []) e told)
 
     module _ (f : faulty species_most line ≡ false) (o : TreesInOrder n genes count species) where
       pub counts-put : Puts text out p after → WritesCounts line genes count species out p after

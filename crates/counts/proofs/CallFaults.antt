@@ -1,26 +1,28 @@
 -- 11, 12, 16 and 15: one law for each way through `judge`, and what it means that none of them is found.
 use Prim.Native.Nat.{ℕ, ◌*◌, ◌^◌, ◌≤◌, ◌<◌}
 use native.Mathlib.Omega.{arith}
-use mathlib.Core.Path.{◌≡◌, refl, sym, ap, ◌∙◌}
+use mathlib.Core.Path.{◌≡◌, refl, sym, ◌∙◌}
 use mathlib.Core.Bool.{Bool, true, false}
+use mathlib.Core.Logic.{◌⊎◌, inl, inr}
 use mathlib.Core.List.{List, [], ◌∷◌, ◌++◌}
 use lib.ListN.{length}
 use lib.Dec.{leb}
 use borrow.Author.Tests.{le-leb, leb-true, lt-ltb, le-ltb, ltb-false, not-false}
+use Rattle.std.proofs.Common.{Result, Err}
 use Rattle.clusters.specs.Sets.{whole}
+use Rattle.faults.specs.Faults.{number as fault_number}
+use Rattle.faults.specs.declared.Fault.TheVariants.{ShortSlice, BadSpeciesRecord}
+use Rattle.faults.specs.declared.Refusal.{Refusal}
 use Rattle.trees.specs.Records.{records_in}
 use Rattle.trees.specs.Valid.{binary}
 use Rattle.trees.proofs.Booleans.{both}
-use Rattle.roster.specs.Judged.{refusal}
-use Rattle.roster.specs.Verdict.{Test, Verdict, verdict_by, verdict, length_test, reply_of}
-use Rattle.roster.specs.declared.Reply.{Reply}
+use Rattle.roster.specs.Verdict.{Test, verdict_by, verdict, length_test}
 use Rattle.weights.specs.declared.Rooting.TheVariants.{Rooted}
 use Rattle.lineages.specs.Checks.{species_test, count_test, first_bad, records_test, rooting_test}
 use Rattle.lineages.specs.InOrder.{Shaped, GenesInOrder}
 use Rattle.lineages.specs.Work.{shape_tests, genes_tests, said, GenesJudged}
-use Rattle.lineages.proofs.Calls.{refused-reply}
 use Rattle.lineages.proofs.FirstBad.{none_bad, all_valid_none_bad, none_unresolved}
-use Rattle.lineages.proofs.Verdicts.{verdict_first, verdict-passed, shape-passed}
+use Rattle.lineages.proofs.Verdicts.{refused_first, verdict-passed, shape-passed}
 use Rattle.counts.specs.Promise.{tree_test}
 use Rattle.counts.specs.Work.{call_tests, CallJudged}
 
@@ -31,48 +33,36 @@ call_rest n genes count entries scores splits two =
 
 -- ---- the ways
 
-module _ (n : ℕ) (genes : List ℕ) (count entries : ℕ) (scores splits : List ℕ) (two : Bool) (one : 1 ≤ n) (few : n ≤ 16) (r : Reply) where
+module _ (n : ℕ) (genes : List ℕ) (count entries : ℕ) (scores splits : List ℕ) (two : Bool) (one : 1 ≤ n) (few : n ≤ 16) where
   -- n species are 1 to 16, so the tests of shape begin them
   shape_first : verdict (call_tests n genes count entries scores splits two) ≡ verdict (shape_tests n genes count ++ call_rest n genes count entries scores splits two)
   unfolding call_tests shape_tests call_rest species_test verdict
   shape_first = rw (le-leb 1 n one, le-leb n 16 few)
 
-  call-refused : {number place : ℕ} → verdict (call_tests n genes count entries scores splits two) ≡ said number place → (number ≡ 0 → ⊥) → r ≡ refusal number place
-      → CallJudged n genes count entries scores splits two r
+  pub call_shape : (e : Refusal) → said (fault_number e.fault) e.place ≡ verdict (shape_tests n genes count) → CallJudged n genes count entries scores splits two (Err e)
   unfolding CallJudged
-  call-refused {number} e f is = is ∙ refused-reply 0 number e f
-
-  pub call_shape : {number : ℕ} → verdict (shape_tests n genes count) ≡ said number 0 → (number ≡ 0 → ⊥) → r ≡ refusal number 0
-      → CallJudged n genes count entries scores splits two r
-  call_shape e f is = call-refused (shape_first ∙ verdict_first (shape_tests n genes count) (call_rest n genes count entries scores splits two) e f) f is
+  call_shape e told = sym (shape_first ∙ refused_first (shape_tests n genes count) (call_rest n genes count entries scores splits two) e told)
 
   module _ (shaped : Shaped n genes count) where
     -- behind the shape the rest decides
     shape-told : verdict (call_tests n genes count entries scores splits two) ≡ verdict (call_rest n genes count entries scores splits two)
     shape-told = shape_first ∙ shape-passed n genes count (call_rest n genes count entries scores splits two) shaped
 
-    pub call-short-scores : length scores < entries → r ≡ refusal 12 0 → CallJudged n genes count entries scores splits two r
-    unfolding call_rest verdict length_test
-    call-short-scores l is = call-refused (shape-told ∙ rw (lt-ltb (length scores) entries l)) (λ z. omega arith) is
+    pub call-short :
+        (e : Refusal) → (length scores < entries) ⊎ ((entries ≤ length scores) × (length splits < entries)) → e ≡ record { fault = ShortSlice; place = 0 }
+        → CallJudged n genes count entries scores splits two (Err e)
+    unfolding CallJudged call_rest verdict length_test
+    call-short e (inl short) is = rw (is, shape-told, lt-ltb (length scores) entries short)
+    call-short e (inr both) is = rw (is, shape-told, le-ltb (length scores) entries both.0, lt-ltb (length splits) entries both.1)
 
-    module _ (long : entries ≤ length scores) where
-      pub call-short-splits : length splits < entries → r ≡ refusal 12 0 → CallJudged n genes count entries scores splits two r
-      unfolding call_rest verdict length_test
-      call-short-splits l is =
-          call-refused (shape-told ∙ rw (le-ltb (length scores) entries long, lt-ltb (length splits) entries l)) (λ z. omega arith) is
+    module _ (long : entries ≤ length scores) (also : entries ≤ length splits) where
+      pub call_not_binary : (e : Refusal) → two ≡ false → e ≡ record { fault = BadSpeciesRecord; place = 0 } → CallJudged n genes count entries scores splits two (Err e)
+      unfolding CallJudged call_rest verdict length_test
+      call_not_binary e wide is = rw (is, shape-told, le-ltb (length scores) entries long, le-ltb (length splits) entries also, wide)
 
-      module _ (also : entries ≤ length splits) where
-        pub call_not_binary : two ≡ false → r ≡ refusal 16 0 → CallJudged n genes count entries scores splits two r
-        unfolding call_rest verdict length_test
-        call_not_binary wide is =
-            call-refused (shape-told ∙ rw (le-ltb (length scores) entries long, le-ltb (length splits) entries also, wide)) (λ z. omega arith) is
-
-        pub call-genes : two ≡ true → GenesJudged Rooted n genes count r → CallJudged n genes count entries scores splits two r
-        unfolding CallJudged call_rest verdict length_test genes_tests rooting_test
-        call-genes tree told =
-            let rest : verdict (call_tests n genes count entries scores splits two) ≡ verdict (genes_tests Rooted n (records_in count genes))
-            = shape-told ∙ rw (le-ltb (length scores) entries long, le-ltb (length splits) entries also, tree) in
-            told ∙ ap (λ (v : Verdict). reply_of v 0) (sym rest)
+      pub call-genes : (r : Result (Unit {0}) Refusal) → two ≡ true → GenesJudged Rooted n genes count r → CallJudged n genes count entries scores splits two r
+      unfolding CallJudged call_rest verdict length_test genes_tests rooting_test
+      call-genes r tree told = told ∙ sym (shape-told ∙ rw (le-ltb (length scores) entries long, le-ltb (length splits) entries also, tree))
 
 -- ---- no refusal
 

@@ -19,7 +19,7 @@ use Rattle.tokens.specs.Tokens.{blanks, skip, number, number_behind, numbers, na
 use Rattle.tokens.specs.Supports.{supported}
 use Rattle.tokens.specs.Values.{written, written_behind}
 use Rattle.nodes.specs.Reading.{leaf_by, closing_by, read_tree_to_by, read_tree_by, read_node_by}
-use Rattle.tokens.specs.declared.answer.Threshold.TheVariants.{NoThreshold}
+use Rattle.std.proofs.Common.{None}
 use Rattle.reader.specs.Promise.{answer_within, answer_to}
 use Rattle.reader.specs.declared.Kind.TheVariants.{Species}
 use Rattle.branches.specs.Ends.{lead, next_end, ends_from, is_count, count_in}
@@ -71,8 +71,8 @@ wide = 40 ∷ 97 ∷ 58 ∷ 48 ∷ 44 ∷ 98 ∷ 58 ∷ 48 ∷ 44 ∷ 99 ∷ 58 
 unfoldable pub reply_with : List ℕ → List ℕ → Reply
 unfolding distance least_score
 reply_with genes text =
-    reply_of (check_verdict abc text 0 genes 1 (replicate 8 9) (replicate 8 9) (answer_to Species NoThreshold abc text 0))
-    (distance_of (length (names abc)) (records_in 1 genes) (answer_to Species NoThreshold abc text 0))
+    reply_of (check_verdict abc text 0 genes 1 (replicate 8 9) (replicate 8 9) (answer_to Species None abc text 0))
+    (distance_of (length (names abc)) (records_in 1 genes) (answer_to Species None abc text 0))
 
 -- with the record of the gene tree
 abbrev reply_to : List ℕ → Reply

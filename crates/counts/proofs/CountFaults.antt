@@ -4,7 +4,7 @@ use native.Mathlib.Omega.{arith}
 use mathlib.Core.Path.{◌≡◌, refl, sym, ap, ◌∙◌}
 use mathlib.Core.Logic.{◌⊎◌, inl, inr}
 use mathlib.Core.Bool.{Bool, true, false, false≢true}
-use mathlib.Core.Option.{some}
+use Rattle.std.proofs.Common.{Some}
 use mathlib.Core.List.{List, [], ◌∷◌, ◌++◌, append-nil, Memᴰ}
 use lib.ListN.{length}
 use borrow.Author.Tests.{lt-ltb, eq-eqb}
@@ -61,7 +61,7 @@ drawn-written names d = drawn-fits false names (λ b. Written b.distance) (λ w 
 
 -- ---- faults
 
-pub fault-wrong : (w : ℕ) (b : Behind) → Fault w b → count_in b ≡ some w → ⊥
+pub fault-wrong : (w : ℕ) (b : Behind) → Fault w b → count_in b ≡ Some w → ⊥
 unfolding count_in is_count
 fault-wrong w b (missing e) is = some_none (sym is ∙ rw e)
 fault-wrong w b (fractional v d e) is = some_none (sym is ∙ rw (e, point_no_count v d))
@@ -69,22 +69,22 @@ fault-wrong w b (second first more) is = some_none (sym is ∙ second_none (is_c
 fault-wrong w b (wrong other differs) is = differs (some_is (sym other ∙ is))
 
 -- digits alone, and no second number, are a count
-alone : (b : Behind) → is_count b.distance ≡ true → b.support ≡ [] → count_in b ≡ some (written b.distance)
+alone : (b : Behind) → is_count b.distance ≡ true → b.support ≡ [] → count_in b ≡ Some (written b.distance)
 unfolding count_in
 alone b is no_second = rw (is, no_second)
 
-wrong-fault : (w : ℕ) (b : Behind) → Written b.distance → (count_in b ≡ some w → ⊥) → Fault w b
+wrong-fault : (w : ℕ) (b : Behind) → Written b.distance → (count_in b ≡ Some w → ⊥) → Fault w b
 wrong-fault w b (inl e) f = missing e
 wrong-fault w b (inr (inr point)) f = fractional point.0 point.1 point.2
 wrong-fault w b (inr (inl is)) f = go b.support refl
   where
     go : (l : List ℕ) → b.support ≡ l → Fault w b
-    go [] e = let count = alone b is e in wrong count (λ same. f (count ∙ ap (λ (n : ℕ). some n) same))
+    go [] e = let count = alone b is e in wrong count (λ same. f (count ∙ ap (λ (n : ℕ). Some n) same))
     go (x ∷ l) e = second is (rw e (omega arith))
 
 pub drawn-fault :
     (names : List (List ℕ)) {k : ℕ} {s : List ℕ} {t : Tree} {rest : List ℕ} → Text (strict false names) k s t rest
-    → (u : Tree) → Memᴰ u (all_nodes t) → (w : ℕ) → (count_in (behind_of u) ≡ some w → ⊥) → Fault w (behind_of u)
+    → (u : Tree) → Memᴰ u (all_nodes t) → (w : ℕ) → (count_in (behind_of u) ≡ Some w → ⊥) → Fault w (behind_of u)
 drawn-fault names d u m w f = wrong-fault w (behind_of u) (drawn-written names d u m) f
 
 -- ---- one fault alone

@@ -14,7 +14,7 @@ use Rattle.roster.specs.Roster.{names, faulty}
 use Rattle.roster.specs.Judged.{species_most, done}
 use Rattle.roster.specs.declared.Reply.{Reply}
 use Rattle.tokens.specs.Answers.Answer.{parsed}
-use Rattle.tokens.specs.declared.answer.Threshold.TheVariants.{NoThreshold}
+use Rattle.std.proofs.Common.{None}
 use Rattle.reader.specs.Promise.{answer_to, Reads}
 use Rattle.reader.specs.declared.Kind.TheVariants.{Species}
 use Rattle.reader.specs.declared.Reading.{Reading}
@@ -67,13 +67,13 @@ module _ (line : List ℕ) {genes : List ℕ} {count : ℕ} {species : List ℕ}
       (writes_counts_once w (counts-put line genes count species out good o (puts_done text out (omega arith) refl refl))).0
 
   -- what is written reads back: the tree that the record draws, with the count of its cluster behind each node
-  pub text-read : answer_to Species NoThreshold line text 0 ≡ parsed (counted (weight_in genes count) tree) [] (length text)
+  pub text-read : answer_to Species None line text 0 ≡ parsed (counted (weight_in genes count) tree) [] (length text)
   unfolding counts_text
   text-read =
       counted_round_trip line good in_order_gene Species every-species (weight_in genes count) (λ a m. let s = in_order_small a in omega arith)
 
   -- which is read to the same record
-  pub text-reads_back : {q : Reading} → Reads Species NoThreshold line text 0 q → q ≡ record { number = 0; place = 0; next = length text; numbers = species }
+  pub text-reads_back : {q : Reading} → Reads Species None line text 0 q → q ≡ record { number = 0; place = 0; next = length text; numbers = species }
   unfolding counts_text
   text-reads_back h =
       counted-reads_back line good in_order_gene Species every-species (weight_in genes count) (λ a m. let s = in_order_small a in omega arith) h
@@ -91,13 +91,13 @@ module _ {line genes : List ℕ} {count : ℕ} {species out : List ℕ} {p : Rep
 
   -- what was written is read back: the record, and the length that was answered
   pub write_counts_read :
-      {q : Reading} → Reads Species NoThreshold line (take p.value after) 0 q → q ≡ record { number = 0; place = 0; next = p.value; numbers = species }
+      {q : Reading} → Reads Species None line (take p.value after) 0 q → q ≡ record { number = 0; place = 0; next = p.value; numbers = species }
   write_counts_read h = text-reads_back line wrote.good wrote.in_order (rw (counts_there wrote) at h) ∙ rw wrote.stands.value
 
   -- what the writer writes of the record, without counts, is read to the same record
   pub with_or_without :
       {out' : List ℕ} {p' : Reply} {after' : List ℕ} (q q' : Reading) → Writes line species out' p' after' → p'.number ≡ 0
-      → Reads Species NoThreshold line (take p.value after) 0 q → Reads Species NoThreshold line (take p'.value after') 0 q'
+      → Reads Species None line (take p.value after) 0 q → Reads Species None line (take p'.value after') 0 q'
       → (q.number ≡ q'.number) × (q.numbers ≡ q'.numbers)
   with_or_without q q' w' z' h h' =
       let a = write_counts_read h in

@@ -5,7 +5,7 @@ use mathlib.Core.Bool.{true}
 use mathlib.Core.List.Memᴰ.{head as here}
 use mathlib.Core.List.Memᴰ.{tail as there}
 use mathlib.Core.List.{List, [], ◌∷◌, ◌++◌, map, map-append, append-nil}
-use mathlib.Core.Option.{some, none}
+use Rattle.std.proofs.Common.{Some, None}
 use lib.ListN.{length, length-map}
 use borrow.Author.Tests.{eq-eqb, lt-ltb}
 use Rattle.labels.specs.Bytes.{is_digit, run}
@@ -45,9 +45,9 @@ decimal-count x small =
     let all : run is_digit (decimal x) ≡ length (decimal x) = rw append-nil at (run-exact digits refl) in
     rw (lt-ltb 0 (length (decimal x)) (run_some digits), eq-eqb (run is_digit (decimal x)) (length (decimal x)) all)
 
-pub count-read : (counts : ℕ → ℕ) (a : ℕ) → counts a < 10 ^ 20 → count_in (count_behind counts a) ≡ some (counts a)
+pub count-read : (counts : ℕ → ℕ) (a : ℕ) → counts a < 10 ^ 20 → count_in (count_behind counts a) ≡ Some (counts a)
 unfolding count_in
-count-read counts a small = rw (decimal-count (counts a) small) (ap some (written-decimal (counts a) small))
+count-read counts a small = rw (decimal-count (counts a) small) (ap Some (written-decimal (counts a) small))
 
 -- ---- node by node
 
@@ -81,7 +81,7 @@ module _ (behind : ℕ → Behind) where
 -- so no count is wrong
 pub none_wrong :
     (counts : ℕ → ℕ) (l : List ℕ) (ends : List End) → ((a : ℕ) → Among a l → counts a < 10 ^ 20)
-    → map (λ e. e.behind) ends ≡ map (count_behind counts) l → first_wrong counts l ends ≡ none
+    → map (λ e. e.behind) ends ≡ map (count_behind counts) l → first_wrong counts l ends ≡ None
 unfolding first_wrong
 none_wrong counts [] ends small same = refl
 none_wrong counts (a ∷ l) [] small same = refl

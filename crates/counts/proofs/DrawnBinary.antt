@@ -21,7 +21,7 @@ use Rattle.roster.specs.Verdict.{Test, Verdict, verdict, length_test}
 use Rattle.roster.proofs.Names.{names-count}
 use Rattle.tokens.specs.Answers.{Answer}
 use Rattle.tokens.specs.Answers.Answer.{parsed, refused}
-use Rattle.tokens.specs.declared.answer.Threshold.TheVariants.{NoThreshold}
+use Rattle.std.proofs.Common.{None}
 use Rattle.nodes.proofs.RefusedBy.{tree-numbered}
 use Rattle.reader.specs.Accepted.{Draws}
 use Rattle.nodes.specs.Reading.{open_most}
@@ -43,10 +43,10 @@ use Rattle.counts.proofs.Checking.{nodes_many, said_of, wrong_in, said_as}
 use Rattle.counts.proofs.FirstWrong.{Beside, ends_beside}
 
 -- species text is refused by 1 to 10
-pub text-refused : (line text : List ℕ) (start : ℕ) {n p : ℕ} → answer_to Species NoThreshold line text start ≡ refused n p → (1 ≤ n) × (n ≤ 10)
+pub text-refused : (line text : List ℕ) (start : ℕ) {n p : ℕ} → answer_to Species None line text start ≡ refused n p → (1 ≤ n) × (n ≤ 10)
 text-refused line text start {n} e = (
-  refusal_some narrow Species NoThreshold line text start e,
-  refusal_is (λ k. k ≤ 10) (omega arith) (omega arith) (omega arith) narrow Species NoThreshold line text start
+  refusal_some narrow Species None line text start e,
+  refusal_is (λ k. k ≤ 10) (omega arith) (omega arith) (omega arith) narrow Species None line text start
       (λ r.
       let of = tree-numbered false (names line) open_most (needed Species (length (names line))) (drop start text) start r in
       of.1 (λ z. false≢true (of.2 z))) e,
@@ -70,11 +70,11 @@ module _ (line text : List ℕ) (start : ℕ) where
   -- ---- how such a text is read
 
   module _ (d : DrawsBinary line text start) where
-    abbrev as_drawn : Draws Species NoThreshold line text start d.tree d.rest
+    abbrev as_drawn : Draws Species None line text start d.tree d.rest
     as_drawn = record { good = d.good; short = d.short; inside = d.inside; derives = d.derives; once = d.on.once; species = d.on.all }
 
-    pub read_as : answer_to Species NoThreshold line text start ≡ parsed d.tree d.rest (length text - length d.rest)
-    read_as = derives-accepted Species NoThreshold line text start as_drawn
+    pub read_as : answer_to Species None line text start ≡ parsed d.tree d.rest (length text - length d.rest)
+    read_as = derives-accepted Species None line text start as_drawn
 
     -- its tree is one of the binary species trees
     pub drawn-species : BinarySpecies species (record_of (clusters d.tree))
@@ -87,7 +87,7 @@ module _ (line text : List ℕ) (start : ℕ) where
     pub drawn-beside : Beside (length text) (all_nodes d.tree) (behinds_of d.derives) (ends_from (length (clusters d.tree)) (drop start text) start)
     drawn-beside =
         let ends : EndsOf (length text) (all_nodes d.tree) (behinds_of d.derives) (ends_from (length (all_nodes d.tree)) (drop start text) start)
-        = draws_ends Species NoThreshold line text start as_drawn in
+        = draws_ends Species None line text start as_drawn in
         ends_beside (length text)
         (subst (λ (m : ℕ). EndsOf (length text) (all_nodes d.tree) (behinds_of d.derives) (ends_from m (drop start text) start)) (nodes_many d.tree) ends)
 
@@ -117,14 +117,14 @@ module _ (line text : List ℕ) (start : ℕ) where
     Late = ((said_of line text start genes count scores splits).number ≡ 0) ⊎ ((said_of line text start genes count scores splits).number ≡ 23)
 
     -- it is no refusal of the reader
-    late-read : {n p : ℕ} → answer_to Species NoThreshold line text start ≡ refused n p → Late → ⊥
+    late-read : {n p : ℕ} → answer_to Species None line text start ≡ refused n p → Late → ⊥
     unfolding check_verdict
     late-read {n} e (inl z) = let few = text-refused line text start e in let is : n ≡ 0 = rw e at z in omega arith
     late-read {n} e (inr z) = let few = text-refused line text start e in let is : n ≡ 23 = rw e at z in omega arith
 
     -- and none of the call
     late-passed :
-        {t : Tree} {rest : List ℕ} {next : ℕ} → answer_to Species NoThreshold line text start ≡ parsed t rest next → Late
+        {t : Tree} {rest : List ℕ} {next : ℕ} → answer_to Species None line text start ≡ parsed t rest next → Late
         → (verdict (drawn_tests species genes count (record_of (clusters t)) scores splits)).number ≡ 0
     late-passed {t} e late = go (verdict calls).number refl late
       where
@@ -145,12 +145,12 @@ module _ (line text : List ℕ) (start : ℕ) where
     pub drawn_of :
         ((said_of line text start genes count scores splits).number ≡ 0) ⊎ ((said_of line text start genes count scores splits).number ≡ 23)
         → DrawsBinary line text start × CallInOrder line genes count scores splits
-    drawn_of late = by (answer_to Species NoThreshold line text start) refl
+    drawn_of late = by (answer_to Species None line text start) refl
       where
-        by : (a : Answer Tree) → answer_to Species NoThreshold line text start ≡ a → DrawsBinary line text start × CallInOrder line genes count scores splits
+        by : (a : Answer Tree) → answer_to Species None line text start ≡ a → DrawsBinary line text start × CallInOrder line genes count scores splits
         by (refused n p) e = absurd (late-read e late)
         by (parsed t rest next) e =
-            let d = (accepted-derives Species NoThreshold line text start e).draws in
+            let d = (accepted-derives Species None line text start e).draws in
             let few = names-count species_most line d.good in
             let p = passed_of species genes count (record_of (clusters t)) scores splits few.0 few.1 (late-passed e late) in
             let on : On (whole species) t = record { once = d.once; all = d.species } in (

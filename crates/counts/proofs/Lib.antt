@@ -7,6 +7,7 @@ pub mod CountsLeftOut
 pub mod WrittenPasses
 pub mod Comparing
 pub mod CallFaults
+pub mod Passing
 pub mod LeastScore
 pub mod Checking
 pub mod FirstWrong

@@ -80,7 +80,7 @@ module _ (line text : List ℕ) (start : ℕ) (genes : List ℕ) (count : ℕ) (
         let one = order.genes_in_order.shaped.some_species in
         let most = order.genes_in_order.shaped.few_species in
         let solved = least_solves species (records_in count genes) scores splits in
-        let same = finds-once (every-finds [] order.genes_in_order order.scores_fit order.splits_fit solved) finds in
+        let same = finds-once (every-finds order.genes_in_order order.scores_fit order.splits_fit solved) finds in
         let far = distances {numbers = []} _ one most solved refl in (
           c.score_table ∙ rw said-nothing (sym far.score_table ∙ same.1),
           c.split_table ∙ rw said-nothing (sym far.split_table ∙ same.2),

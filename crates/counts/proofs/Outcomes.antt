@@ -4,7 +4,7 @@ use native.Mathlib.Omega.{arith}
 use native.Mathlib.Decide.{ℕ_discrete}
 use mathlib.Core.Path.{◌≡◌, refl, sym, ap, ◌∙◌}
 use mathlib.Core.Logic.{◌⊎◌, inl, inr}
-use mathlib.Core.Option.{Option, some, none}
+use Rattle.std.proofs.Common.{Option, Some, None}
 use mathlib.Core.List.{List, [], ◌∷◌, ◌++◌}
 use lib.ListN.{length}
 use Rattle.trees.specs.Tree.{Tree, clusters}
@@ -14,7 +14,6 @@ use Rattle.roster.specs.Verdict.{Verdict, verdict, length_test}
 use Rattle.roster.specs.declared.Reply.{Reply}
 use Rattle.tokens.specs.Answers.{Answer}
 use Rattle.tokens.specs.Answers.Answer.{parsed, refused}
-use Rattle.tokens.specs.declared.answer.Threshold.TheVariants.{NoThreshold}
 use Rattle.reader.specs.Promise.{answer_to}
 use Rattle.reader.specs.declared.Kind.TheVariants.{Species}
 use Rattle.lineages.specs.Checks.{count_test, records_test}
@@ -35,8 +34,8 @@ checks_once c c' = (c.reply ∙ sym c'.reply, c.score_table ∙ sym c'.score_tab
 -- ---- the numbers
 
 counts-number : (o : Option ℕ) → (counts_test o).number ≡ 23
-counts-number (some place) = refl
-counts-number none = refl
+counts-number (Some place) = refl
+counts-number None = refl
 
 -- a number over 12 that no test of a text that is read has
 read-never :
@@ -57,9 +56,9 @@ module _ (line text : List ℕ) (start : ℕ) (genes : List ℕ) (count : ℕ) (
   said-numbers :
       (m : ℕ) → (said_of line text start genes count scores splits).number ≡ m → 12 < m → (m ≡ 15 → ⊥) → (m ≡ 16 → ⊥) → (m ≡ 23 → ⊥) → ⊥
   unfolding check_verdict
-  said-numbers m is over no-15 no-16 no-23 = by (answer_to Species NoThreshold line text start) refl
+  said-numbers m is over no-15 no-16 no-23 = by (answer_to Species None line text start) refl
     where
-      by : (a : Answer Tree) → answer_to Species NoThreshold line text start ≡ a → ⊥
+      by : (a : Answer Tree) → answer_to Species None line text start ≡ a → ⊥
       by (refused n p) e = let few = text-refused line text start e in let same : n ≡ m = rw e at is in omega arith
       by (parsed t rest next) e =
           read-never (length (names line)) genes count (record_of (clusters t)) scores splits (wrong_in text start genes count t) m over no-15 no-16 no-23

@@ -7,8 +7,7 @@ use Rattle.trees.specs.Tree.{Tree, cluster, clusters}
 use Rattle.trees.specs.Thinned.{all_nodes}
 use Rattle.trees.specs.Records.{record_of}
 use Rattle.roster.specs.declared.Reply.{Reply}
-use Rattle.tokens.specs.declared.answer.Threshold.TheVariants.{NoThreshold}
-use Rattle.tokens.specs.declared.answer.Value.TheVariants.{Thousandths}
+use Rattle.std.proofs.Common.{None, Some}
 use Rattle.nodes.specs.Worth.{behind_of, distance_value}
 use Rattle.reader.specs.Promise.{Reads}
 use Rattle.reader.specs.declared.Kind.TheVariants.{Species}
@@ -26,7 +25,7 @@ module _ (line text : List ℕ) (start : ℕ) where
 
   -- what the reader answers of it
   pub drawn-reads :
-      (d : DrawsBinary line text start) {q : Reading} → Reads Species NoThreshold line text start q
+      (d : DrawsBinary line text start) {q : Reading} → Reads Species None line text start q
       → q ≡ record { number = 0; place = 0; next = length text - length d.rest; numbers = record_of (clusters d.tree) }
   unfolding Reads
   drawn-reads d reads = reads ∙ rw (read_as line text start d)
@@ -39,13 +38,13 @@ module _ (line text : List ℕ) (start : ℕ) where
 
     -- a text that passes is read to the record of that tree
     pub passed_reads :
-        (q : Reading) → Reads Species NoThreshold line text start q
+        (q : Reading) → Reads Species None line text start q
         → (q.number ≡ 0) × (q.numbers ≡ record_of (clusters passed-draws.tree))
     passed_reads q reads = let is = drawn-reads passed-draws reads in (ap (λ (q : Reading). q.number) is, ap (λ (q : Reading). q.numbers) is)
 
     -- and the distance that is read behind each node is the node's count, in thousandths
     pub passed-distances :
-        (d : DrawsBinary line text start) (u : Tree) → Memᴰ u (all_nodes d.tree) → distance_value u ≡ Thousandths (1000 * weight_in genes count (cluster u))
+        (d : DrawsBinary line text start) (u : Tree) → Memᴰ u (all_nodes d.tree) → distance_value u ≡ Some (1000 * weight_in genes count (cluster u))
     unfolding distance_value
     passed-distances d u m =
         let passes = ((says_yes line text start genes count scores splits c).0 yes).0 in

@@ -1,17 +1,18 @@
 -- The gene trees and the species record of `write_counts`: what it means that none is at fault behind the roster and before the text.
 use Prim.Native.Nat.{ℕ, ◌≤◌}
 use native.Mathlib.Omega.{arith}
-use mathlib.Core.Path.{◌≡◌, sym, ap, ◌∙◌}
+use mathlib.Core.Path.{◌≡◌, sym, ap}
 use mathlib.Core.Bool.{Bool, ◌&&◌}
 use mathlib.Core.List.{List, []}
+use Rattle.std.proofs.Common.{Result, Ok}
 use Rattle.clusters.specs.Sets.{whole}
 use Rattle.trees.specs.Records.{SpeciesValid, BinaryOn}
 use Rattle.trees.specs.Valid.{valid, binary}
 use Rattle.trees.proofs.Booleans.{both}
 use Rattle.trees.proofs.ValidTest.{valid_decides, binary_decides}
 use Rattle.trees.proofs.Bounds.{whole_below_sixteen}
-use Rattle.roster.specs.Verdict.{Test, verdict}
-use Rattle.roster.specs.declared.Reply.{Reply}
+use Rattle.faults.specs.declared.Refusal.{Refusal}
+use Rattle.roster.specs.Verdict.{Test, Verdict, verdict}
 use Rattle.weights.specs.declared.Rooting.TheVariants.{Rooted}
 use Rattle.lineages.specs.InOrder.{GenesInOrder}
 use Rattle.counts.specs.Work.{call_tests, CallJudged}
@@ -32,7 +33,7 @@ abbrev pub tree_tests : ℕ → List ℕ → ℕ → List ℕ → List Test
 tree_tests n genes count species = call_tests n genes count 0 [] [] (is_tree n species)
 
 -- the promise of `judge` of them
-abbrev pub TreesJudged : ℕ → List ℕ → ℕ → List ℕ → Reply → Type 0
+abbrev pub TreesJudged : ℕ → List ℕ → ℕ → List ℕ → Result (Unit {0}) Refusal → Type 0
 TreesJudged n genes count species r = CallJudged n genes count 0 [] [] (is_tree n species) r
 
 module _ {n : ℕ} (some : 1 ≤ n) (few : n ≤ 16) (genes : List ℕ) (count : ℕ) (species : List ℕ) where
@@ -48,9 +49,9 @@ module _ {n : ℕ} (some : 1 ≤ n) (few : n ≤ 16) (genes : List ℕ) (count :
       }
 
   -- so it is where `judge` refuses nothing
-  pub judged_in_order : (r : Reply) → TreesJudged n genes count species r → r.number ≡ 0 → TreesInOrder n genes count species
+  pub judged_in_order : TreesJudged n genes count species (Ok tt) → TreesInOrder n genes count species
   unfolding CallJudged
-  judged_in_order r told none = trees_in_order (sym (ap (λ (r : Reply). r.number) told) ∙ none)
+  judged_in_order told = trees_in_order (sym (ap (λ (v : Verdict). v.number) told))
 
   -- and where all is in order, all is passed
   pub in_order_passed : TreesInOrder n genes count species → Passed n genes count 0 [] [] (is_tree n species)

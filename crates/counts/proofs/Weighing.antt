@@ -6,12 +6,12 @@ use native.Mathlib.Omega.{arith}
 use lib.ListN.{length, get_or, set, length-set}
 use lib.Seq.{get_or-set_same, get_or-set_other}
 use borrow.Author.Count.{below_more}
+use Rattle.std.proofs.Common.{Some}
 use Rattle.trees.specs.Records.{records_in, count as cluster_count}
 use Rattle.trees.proofs.Lent.{length-records_in}
 use Rattle.printing.specs.Words.{decimal}
 use Rattle.texts.specs.Writing.{count_note}
 use Rattle.texts.specs.Work.{Notes}
-use Rattle.texts.proofs.Noted.{note_some}
 use Rattle.weights.specs.Count.{weight}
 use Rattle.weights.specs.Work.{AllCountable}
 use Rattle.weights.specs.declared.Rooting.{Rooting}
@@ -39,19 +39,17 @@ weight-fits rooting genes count a few can is = let s = weight-small rooting gene
 -- the entries before the i-th hold the weights of their clusters
 pub record WeighedTo (genes : List ℕ) (count : ℕ) (r counts : List ℕ) (i : ℕ) : Type 0 where
   pub long : length counts ≡ 32
-  pub first : 1 ≤ i
   pub each : (k : ℕ) → k < i → 1 ≤ k → get_or counts k 0 ≡ weight_in genes count (get_or r k 0)
 
 module _ (genes : List ℕ) (count : ℕ) (r : List ℕ) where
   pub weighed_start : (counts : List ℕ) {i : ℕ} → i ≡ 1 → length counts ≡ 32 → WeighedTo genes count r counts i
-  weighed_start counts is long = record { long = long; first = omega arith; each = λ k below some. absurd (omega arith) }
+  weighed_start counts is long = record { long = long; each = λ k below some. absurd (omega arith) }
 
   pub weighed_next :
       {counts : List ℕ} {i w : ℕ} → WeighedTo genes count r counts i → i < 32 → w ≡ weight_in genes count (get_or r i 0)
       → WeighedTo genes count r (set counts i w) (i + 1)
   weighed_next {counts} {i} {w} now inside is = record {
     long = length-set counts i w ∙ now.long;
-    first = omega arith;
     each =
         below_more (λ k. 1 ≤ k → get_or (set counts i w) k 0 ≡ weight_in genes count (get_or r k 0)) i
         (λ k below some. get_or-set_other counts i k w 0 (λ e. omega arith) ∙ now.each k below some)
@@ -63,7 +61,5 @@ module _ (genes : List ℕ) (count : ℕ) (r : List ℕ) where
 
   -- ---- the notes that they give
 
-  pub weighed_notes : {counts : List ℕ} → 1 ≤ length counts → Weighed genes count r counts → Notes counts r (count_note (weight_in genes count))
-  weighed_notes {counts} some weighed = record {
-    each = λ i one most. ap (λ (w : ℕ). 58 ∷ decimal w) (sym (weighed.each i one most)) ∙ sym (note_some counts i (λ none. omega arith));
-  }
+  pub weighed_notes : {counts : List ℕ} → Weighed genes count r counts → Notes (Some counts) r (count_note (weight_in genes count))
+  weighed_notes weighed = record { each = λ i one most. ap (λ (w : ℕ). 58 ∷ decimal w) (sym (weighed.each i one most)) }

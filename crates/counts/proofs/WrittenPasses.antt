@@ -3,7 +3,6 @@ use Prim.Native.Nat.{ℕ, ◌-◌, ◌^◌, ◌≤◌}
 use mathlib.Core.Path.{◌≡◌, sym, ap, ◌∙◌, subst}
 use mathlib.Core.Bool.{false}
 use mathlib.Core.List.{List, map}
-use mathlib.Core.Option.{none}
 use native.Mathlib.Omega.{arith}
 use lib.ListN.{length, take, drop}
 use Rattle.clusters.specs.Sets.{whole}
@@ -18,7 +17,7 @@ use Rattle.roster.specs.Roster.{names, faulty}
 use Rattle.roster.specs.Judged.{species_most, done}
 use Rattle.roster.specs.declared.Reply.{Reply}
 use Rattle.tokens.specs.Answers.{Answer}
-use Rattle.tokens.specs.declared.answer.Threshold.TheVariants.{NoThreshold}
+use Rattle.std.proofs.Common.{None}
 use Rattle.reader.specs.declared.Kind.TheVariants.{Species}
 use Rattle.branches.specs.Ends.{ends_from}
 use Rattle.branches.proofs.DrawnEnds.{answer_ends}
@@ -56,14 +55,14 @@ module _ (line : List ℕ) {genes : List ℕ} {count : ℕ} {species : List ℕ}
       ∙ drawn_record v.valid (gene-small (good-names line good).few v)
 
   -- its counts are right
-  own-counts : first_wrong (weight_in genes count) (clusters tree) (ends_from (length (clusters tree)) (drop 0 text) 0) ≡ none
+  own-counts : first_wrong (weight_in genes count) (clusters tree) (ends_from (length (clusters tree)) (drop 0 text) 0) ≡ None
   own-counts =
       let behind = count_behind (weight_in genes count) in
       let drawn-tree = drawn (listed species) (largest species) in
       let same = bearing-clusters behind drawn-tree in
       let many : length (all_nodes tree) ≡ length (clusters tree) = bearing_many behind drawn-tree ∙ ap length (sym same) in
-      let ends = (answer_ends Species NoThreshold line text 0 (text-read line good o)).1 in
-      subst (λ (m : ℕ). first_wrong (weight_in genes count) (clusters tree) (ends_from m (drop 0 text) 0) ≡ none) many
+      let ends = (answer_ends Species None line text 0 (text-read line good o)).1 in
+      subst (λ (m : ℕ). first_wrong (weight_in genes count) (clusters tree) (ends_from m (drop 0 text) 0) ≡ None) many
       (none_wrong (weight_in genes count) (clusters tree) _ (λ a m. let s = in_order_small line good o a in omega arith)
       (ends.behind ∙ bearing-behinds behind drawn-tree ∙ ap (map behind) (sym same)))
 

@@ -5,7 +5,7 @@ use native.Mathlib.Omega.{arith}
 use mathlib.Core.Path.{◌≡◌, refl, sym, ap, ◌∙◌, subst}
 use mathlib.Core.Logic.{inl, inr, ◌↔◌}
 use mathlib.Core.Bool.{false}
-use mathlib.Core.Option.{Option, some, none}
+use Rattle.std.proofs.Common.{Option, Some, None}
 use mathlib.Core.List.Memᴰ
 use mathlib.Core.List.Memᴰ.{head as here}
 use mathlib.Core.List.{List, [], ◌∷◌, ◌++◌, append_assoc, Memᴰ}
@@ -28,12 +28,12 @@ use Rattle.counts.proofs.FirstWrong.{FirstAt, all_right, none_wrong, first_at, a
 
 -- ---- what the tests of the counts say
 
-counts_fail : (o : Option ℕ) → (verdict (counts_test o ∷ [])).number ≡ 23 → o ≡ some (verdict (counts_test o ∷ [])).place
+counts_fail : (o : Option ℕ) → (verdict (counts_test o ∷ [])).number ≡ 23 → o ≡ Some (verdict (counts_test o ∷ [])).place
 unfolding verdict
-counts_fail (some place) z = refl
-counts_fail none z = absurd (omega arith)
+counts_fail (Some place) z = refl
+counts_fail None z = absurd (omega arith)
 
-counts_say : {o : Option ℕ} (place : ℕ) → o ≡ some place → ((verdict (counts_test o ∷ [])).number ≡ 23) × ((verdict (counts_test o ∷ [])).place ≡ place)
+counts_say : {o : Option ℕ} (place : ℕ) → o ≡ Some place → ((verdict (counts_test o ∷ [])).number ≡ 23) × ((verdict (counts_test o ∷ [])).place ≡ place)
 unfolding verdict
 counts_say place is = rw is (refl, refl)
 
@@ -125,14 +125,14 @@ module _ (line text : List ℕ) (start : ℕ) (genes : List ℕ) (count : ℕ) (
             let both = drawn_of line text start genes count scores splits (inl (sym number-said ∙ z)) in
             let d = both.0 in
             let told = drawn-said line text start d genes count scores splits both.1 in
-            let none = counts-pass _ (sym (ap (λ (v : Verdict). v.number) told) ∙ sym number-said ∙ z) in
-            (record { draws = d; counts = none_wrong (weight_in genes count) (drawn-beside line text start d) none }, both.1)
+            let right = counts-pass _ (sym (ap (λ (v : Verdict). v.number) told) ∙ sym number-said ∙ z) in
+            (record { draws = d; counts = none_wrong (weight_in genes count) (drawn-beside line text start d) right }, both.1)
 
         back : Passes line text start genes count × CallInOrder line genes count scores splits → r.number ≡ 0
         back (passes, order) =
             let d = passes.draws in
-            let none = all_right (weight_in genes count) (drawn-beside line text start d) passes.counts in
-            number-said ∙ ap (λ (v : Verdict). v.number) (drawn-said line text start d genes count scores splits order ∙ counts_none none)
+            let right = all_right (weight_in genes count) (drawn-beside line text start d) passes.counts in
+            number-said ∙ ap (λ (v : Verdict). v.number) (drawn-said line text start d genes count scores splits order ∙ counts_none right)
 
     -- so it is, where the gene trees and the tables are in order
     pub yes_exactly : CallInOrder line genes count scores splits → (r.number ≡ 0) ↔ Passes line text start genes count
@@ -153,7 +153,7 @@ module _ (line text : List ℕ) (start : ℕ) (genes : List ℕ) (count : ℕ) (
             let told = drawn-said line text start d genes count scores splits both.1 in
             let first = counts_fail _ (sym (ap (λ (v : Verdict). v.number) told) ∙ sym number-said ∙ z) in
             let same = sym (ap (λ (v : Verdict). v.place) told) ∙ sym place-said ∙ at in
-            let f = first_at (weight_in genes count) (drawn-beside line text start d) (first ∙ ap (λ (q : ℕ). some q) same) in
+            let f = first_at (weight_in genes count) (drawn-beside line text start d) (first ∙ ap (λ (q : ℕ). Some q) same) in
             (is_fault genes count d f, both.1)
 
         back : FirstFault line text start genes count place × CallInOrder line genes count scores splits → (r.number ≡ 23) × (r.place ≡ place)

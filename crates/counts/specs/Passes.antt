@@ -1,7 +1,6 @@
 -- What `check` says of a text in the words of #114, over the tree that the grammar draws and the definition of the weight:
 -- when it says yes, and which count is at fault first.
-use Rattle.std.specs.Prelude.{ℕ, ◌+◌, ◌^◌, ◌≤◌, ◌<◌, ◌≡◌, true, false, length, drop}
-use Rattle.std.proofs.Math.Option.{some}
+use Rattle.std.specs.Prelude.{ℕ, ◌+◌, ◌^◌, ◌≤◌, ◌<◌, ◌≡◌, true, false, length, drop, Some}
 use mathlib.Core.List.{List, [], ◌∷◌, ◌++◌, Memᴰ}
 use Rattle.clusters.specs.Sets.{whole}
 use Rattle.trees.specs.Tree.{Tree, Behind, On, Binary, cluster}
@@ -37,7 +36,7 @@ pub record DrawsBinary (line text : List ℕ) (start : ℕ) : Type 0 where
 
 -- behind the node stands "one whole number after a colon", and it "is the weight of that node's cluster" (#114)
 abbrev pub CountRight : List ℕ → ℕ → Tree → Type 0
-CountRight genes count u = count_in (behind_of u) ≡ some (weight_in genes count (cluster u))
+CountRight genes count u = count_in (behind_of u) ≡ Some (weight_in genes count (cluster u))
 
 -- "Say yes exactly when the text draws a binary tree on the roster and each number is the weight of that node's cluster", "the root included" (#114)
 pub record Passes (line text : List ℕ) (start : ℕ) (genes : List ℕ) (count : ℕ) : Type 0 where
@@ -50,7 +49,7 @@ pub data Fault (w : ℕ) (b : Behind) : Type 0 where
   missing : b.distance ≡ [] → Fault w b
   fractional : (v d : List ℕ) → b.distance ≡ v ++ 46 ∷ d → Fault w b
   second : is_count b.distance ≡ true → 0 < length b.support → Fault w b
-  wrong : {other : ℕ} → count_in b ≡ some other → (other ≡ w → ⊥) → Fault w b
+  wrong : {other : ℕ} → count_in b ≡ Some other → (other ≡ w → ⊥) → Fault w b
 
 -- "23 .. of the first such node to end, place the byte just after its closing parenthesis or, for a leaf, its name" (#114):
 -- of the nodes in the order in which they end, those before it have their counts, and it has not; of the texts behind them, its own begins at the place

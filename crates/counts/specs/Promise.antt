@@ -1,6 +1,5 @@
 -- What `check` and `write_counts` promise (#114).
-use Rattle.std.specs.Prelude.{ℕ, ◌-◌, ◌*◌, ◌^◌, ◌≡◌, Bool, true, false, not, List, [], ◌∷◌, length, drop, eqb}
-use Rattle.std.proofs.Math.Option.{Option, some, none}
+use Rattle.std.specs.Prelude.{ℕ, ◌-◌, ◌*◌, ◌^◌, ◌≡◌, Bool, true, false, not, List, [], ◌∷◌, length, drop, eqb, Option, Some, None}
 use Rattle.clusters.specs.Sets.{whole}
 use Rattle.trees.specs.Tree.{Tree, clusters}
 use Rattle.trees.specs.Records.{record_of, records_in}
@@ -10,7 +9,6 @@ use Rattle.roster.specs.Verdict.{Test, Verdict, verdict, length_test, reply_of}
 use Rattle.roster.specs.declared.Reply.{Reply}
 use Rattle.tokens.specs.Answers.{Answer}
 use Rattle.tokens.specs.Answers.Answer.{parsed, refused}
-use Rattle.tokens.specs.declared.answer.Threshold.TheVariants.{NoThreshold}
 use Rattle.reader.specs.Promise.{answer_to}
 use Rattle.reader.specs.declared.Kind.TheVariants.{Species}
 use Rattle.branches.specs.Ends.{End, ends_from, count_in}
@@ -42,18 +40,18 @@ distance n genes t = score Rooted genes (record_of (clusters t)) - least_score n
 
 -- "each number is the weight of that node's cluster" (#114); "a missing, fractional or wrong count or a second number" is not
 abbrev pub is_right : ℕ → Option ℕ → Bool
-is_right w (some count) = eqb count w
-is_right w none = false
+is_right w (Some count) = eqb count w
+is_right w None = false
 
 -- the first of two places, where there is one
 abbrev pub place_unless : Bool → ℕ → Option ℕ → Option ℕ
 place_unless true place later = later
-place_unless false place later = some place
+place_unless false place later = Some place
 
 -- "of the first such node to end" (#114): the place of its end; the clusters and the ends are those of the nodes in the order in which they end
 unfoldable pub first_wrong : (ℕ → ℕ) → List ℕ → List End → Option ℕ
-first_wrong w [] ends = none
-first_wrong w (a ∷ l) [] = none
+first_wrong w [] ends = None
+first_wrong w (a ∷ l) [] = None
 first_wrong w (a ∷ l) (e ∷ ends) = place_unless (is_right (w a) (count_in e.behind)) e.place (first_wrong w l ends)
 
 -- ---- check
@@ -68,8 +66,8 @@ drawn_test n t = tree_test (binary (whole n) (record_of (clusters t)))
 
 -- "23 for a missing, fractional or wrong count or a second number" (#114)
 abbrev pub counts_test : Option ℕ → Test
-counts_test (some place) = record { fault = true; number = 23; place = place }
-counts_test none = record { fault = false; number = 23; place = 0 }
+counts_test (Some place) = record { fault = true; number = 23; place = place }
+counts_test None = record { fault = false; number = 23; place = 0 }
 
 -- "after the reader's own, 11, 12, 16 and 15" (#114)
 unfoldable pub check_tests : ℕ → List ℕ → ℕ → List ℕ → List ℕ → Tree → List End → List Test
@@ -95,14 +93,14 @@ distance_of n genes (refused number place) = 0
 -- the promise of `check`: "Say yes exactly when .." (#114), which is number 0, with the distance; both tables filled as by the search over all clusters, on a refusal kept
 pub record Checks (line text : List ℕ) (start : ℕ) (genes : List ℕ) (count : ℕ) (scores splits : List ℕ) (r : Reply) (scores_after splits_after : List ℕ) : Type 0 where
   pub reply :
-      r ≡ reply_of (check_verdict line text start genes count scores splits (answer_to Species NoThreshold line text start))
-      (distance_of (length (names line)) (records_in count genes) (answer_to Species NoThreshold line text start))
+      r ≡ reply_of (check_verdict line text start genes count scores splits (answer_to Species None line text start))
+      (distance_of (length (names line)) (records_in count genes) (answer_to Species None line text start))
   pub score_table :
-      scores_after ≡ filled_by (check_verdict line text start genes count scores splits (answer_to Species NoThreshold line text start)).number (length (names line))
+      scores_after ≡ filled_by (check_verdict line text start genes count scores splits (answer_to Species None line text start)).number (length (names line))
       (λ a. score_entry (weight Rooted (records_in count genes)) (best_for Rooted (length (names line)) (records_in count genes) (every_cluster (length (names line))) a))
       scores
   pub split_table :
-      splits_after ≡ filled_by (check_verdict line text start genes count scores splits (answer_to Species NoThreshold line text start)).number (length (names line))
+      splits_after ≡ filled_by (check_verdict line text start genes count scores splits (answer_to Species None line text start)).number (length (names line))
       (λ a. split_entry (best_for Rooted (length (names line)) (records_in count genes) (every_cluster (length (names line))) a))
       splits
 

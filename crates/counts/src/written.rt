@@ -1,32 +1,47 @@
 // The text of a species tree with the weight of its cluster behind each node.
-ghost use Rattle.std.specs.Prelude.{◌≡◌, ◌*◌, ◌≤◌, length};
-ghost use Rattle.trees.specs.Records.{Form, records_in};
-ghost use Rattle.weights.specs.Work.{AllCountable};
+ghost use Rattle.trees.specs.Records.{Form};
+ghost use Rattle.roster.specs.Judged.{reply_to};
 ghost use Rattle.counts.specs.Promise.{WritesCounts};
 ghost use Rattle.counts.specs.Work.{Weighed};
 
-use crate::judged::judge;
+use crate::judged::{GeneTrees, judge};
+use faults::Refusal;
 use lineages::checks::is_species_tree;
-use roster::{Reply, refused};
+use roster::{Reply, reply_to};
 use trees::Record;
-use weights::Rooting;
-use weights::adding::weigh;
 
-// The weight of each cluster of the record, at the cluster's own index. `write_counts` calls it, with what `judge` has passed.
-fn weigh_all(genes: &[u16], count: usize, numbers: &[u16], counts: &mut [u32])
-    requires count_bound { count ≤ 4096 }
-    requires count_in_bounds { 32 * count ≤ length genes.now }
-    requires all_countable { AllCountable (records_in count genes.now) }
-    requires form { Form numbers.now }
-    requires counts_len { length counts.old ≡ 32 }
-    ensures { Weighed genes.now count numbers.now counts.new }
+// The weight of each cluster of the record, at the cluster's own index. `written` calls it, with a species record that `judge` has passed.
+fn weigh_all(trees: &GeneTrees, numbers: &[u16]) -> [u32; 32]
+    requires { Form numbers.now }
+    ensures { Weighed trees.now.genes.now trees.now.count numbers.now result }
 {
+    let mut counts = [0; 32];
     let m = numbers[0] as usize;
-    let mut i = 1;
-    while i <= m {
-        counts[i] = weigh(Rooting::Rooted, genes, count, numbers[i] as u32) as u32;
-        i += 1;
+    for i in 1..=m {
+        counts[i] = trees.weigh(numbers[i] as u32) as u32;
     }
+    counts
+}
+
+// The checks of `write_counts` in their order, and the text behind them.
+fn written(
+    line: &[u8],
+    genes: &[u16],
+    count: usize,
+    species: Record,
+    out: &mut [u8],
+) -> Result<usize, Refusal>
+    ensures { WritesCounts line.now genes.now count species.numbers out.old (reply_to result) out.new }
+{
+    let roster = roster::parse(line, 16)?;
+    let n = roster.count;
+    let table = roster.table;
+    let numbers = species.numbers;
+    let binary = is_species_tree(n, &numbers);
+    judge(n, genes, count, 0, &[], &[], binary)?;
+    let trees = GeneTrees { n, genes, count };
+    let counts = weigh_all(&trees, &numbers);
+    writer::put(&table, n, &numbers, Some(&counts), out)
 }
 
 // Writes the text of the species tree, behind each node `:` and the weight of its cluster, into out, and answers its length.
@@ -39,20 +54,5 @@ pub fn write_counts(
 ) -> Reply
     ensures { WritesCounts line.now genes.now count species.numbers out.old result out.new }
 {
-    let roster = roster::parse(line, 16);
-    let number = roster.number;
-    if number != 0 {
-        return refused(1, roster.place);
-    }
-    let n = roster.count;
-    let table = roster.table;
-    let numbers = species.numbers;
-    let binary = is_species_tree(n, &numbers);
-    let judged = judge(n, genes, count, 0, &[], &[], binary);
-    if judged.number != 0 {
-        return judged;
-    }
-    let mut counts = [0u32; 32];
-    weigh_all(genes, count, &numbers, &mut counts);
-    writer::put(&table, n, &numbers, &counts, out)
+    reply_to(written(line, genes, count, species, out))
 }

@@ -1,9 +1,9 @@
 -- Trees that come with branch counts (#114): when `check` says yes, what goes with a yes, and that what `write_counts` writes is always passed.
-use Prim.Native.Nat.{ℕ, ◌+◌, ◌-◌, ◌^◌, ◌≤◌}
+use Prim.Native.Nat.{ℕ, ◌-◌, ◌^◌, ◌≤◌}
 use mathlib.Core.Path.{◌≡◌, refl, sym, ap, ap₂, ◌∙◌, subst}
 use mathlib.Core.Logic.{◌⊎◌, inl, inr, ◌↔◌}
 use mathlib.Core.Bool.{Bool, true, false}
-use mathlib.Core.Option.{Option, some, none}
+use Rattle.std.proofs.Common.{Option, Some, None}
 use mathlib.Core.List.Memᴰ
 use mathlib.Core.List.Memᴰ.{head as here}
 use mathlib.Core.List.Memᴰ.{tail as there}
@@ -22,7 +22,7 @@ use Rattle.roster.specs.Judged.{species_most}
 use Rattle.roster.specs.Verdict.{Test, Verdict, verdict_by, verdict, value_by}
 use Rattle.roster.specs.declared.Reply.{Reply}
 use Rattle.tokens.specs.Answers.{Answer}
-use Rattle.tokens.specs.declared.answer.Threshold.TheVariants.{NoThreshold}
+use Rattle.std.proofs.Common.{None}
 use Rattle.reader.specs.Accepted.{Draws}
 use Rattle.reader.specs.Promise.{Reads, reading_of, answer_to}
 use Rattle.reader.specs.declared.Kind.TheVariants.{Species}
@@ -164,29 +164,29 @@ module _ (line text : List ℕ) (start : ℕ) (genes : List ℕ) (count : ℕ) (
 
     -- "With a yes goes the distance of its score above the least one over all clusters" (#114): the text is read to a valid binary record, and it is that record's
     pub yes_goes_with :
-        (q : Reading) → Reads Species NoThreshold line text start q → (q.number ≡ 0) × BinarySpecies n q.numbers × GoesWithYes n genes count q.numbers r.value
+        (q : Reading) → Reads Species None line text start q → (q.number ≡ 0) × BinarySpecies n q.numbers × GoesWithYes n genes count q.numbers r.value
     unfolding Reads
     yes_goes_with q reads =
-        let is = reads ∙ ap (reading_of NoThreshold start) (read_as line text start own-tree) in
+        let is = reads ∙ ap (reading_of None start) (read_as line text start own-tree) in
         rw is (refl, own-species, drawn_goes)
 
     -- "each number is the weight of that node's cluster" (#114): the count behind each node is what the call that weighs gives for its cluster
-    pub yes_counts_weighed : (t : Tree) (rest : List ℕ) → Draws Species NoThreshold line text start t rest → CountsWeighed n genes count t
+    pub yes_counts_weighed : (t : Tree) (rest : List ℕ) → Draws Species None line text start t rest → CountsWeighed n genes count t
     yes_counts_weighed t rest draws =
-        let answered = sym (derives-accepted Species NoThreshold line text start draws) ∙ read_as line text start own-tree in
+        let answered = sym (derives-accepted Species None line text start draws) ∙ read_as line text start own-tree in
         let same : t ≡ own-tree.tree = cc in
         rw same (record { each = each })
       where
         each : (u : Tree) → Memᴰ u (all_nodes own-tree.tree) → (w : Reply) → Weighs Rooted n genes count (cluster u) w
-            → (w.number ≡ 0) × (count_in (behind_of u) ≡ some w.value)
+            → (w.number ≡ 0) × (count_in (behind_of u) ≡ Some w.value)
         each u m w weighs =
             let listed = record_among 16 (clusters own-tree.tree) (subst (λ (l : List ℕ). Among (cluster u) l) (nodes-clusters own-tree.tree) (Memᴰ.map cluster m)) in
             let inside = own-species.valid.inside (cluster u) listed in
             let z = (weighed_exactly Rooted n genes count (cluster u) w weighs).1 (record { in_order = order.genes_in_order; cluster = (inside.0, below_of_within n inside.1) }) in
-            (z, passes.counts u m ∙ ap (λ (x : ℕ). some x) (sym (weighed-value Rooted n genes count (cluster u) w weighs z)))
+            (z, passes.counts u m ∙ ap (λ (x : ℕ). Some x) (sym (weighed-value Rooted n genes count (cluster u) w weighs z)))
 
     -- a text that passes is, its counts read as distances, read to the record of its tree
-    pub yes_counts_distances : (q : Reading) → Reads Species NoThreshold line text start q → CountsAsDistances line text start genes count q
+    pub yes_counts_distances : (q : Reading) → Reads Species None line text start q → CountsAsDistances line text start genes count q
     yes_counts_distances q reads =
         let d = passed-draws line text start genes count scores splits c yes in
         let is = passed_reads line text start genes count scores splits c yes q reads in
@@ -194,7 +194,7 @@ module _ (line text : List ℕ) (start : ℕ) (genes : List ℕ) (count : ℕ) (
           is_read = is.0;
           tree = d.tree;
           rest = d.rest;
-          draws = (accepted-derives Species NoThreshold line text start (read_as line text start d)).draws;
+          draws = (accepted-derives Species None line text start (read_as line text start d)).draws;
           numbers = is.1;
           distances = passed-distances line text start genes count scores splits c yes d;
         }
@@ -221,36 +221,36 @@ module _ (f g : Tree → Option ℕ) where
 -- all counts are right exactly when they are the weights of the clusters, one by one
 right_exactly :
     (genes : List ℕ) (count : ℕ) (t : Tree)
-    → ((u : Tree) → Memᴰ u (all_nodes t) → CountRight genes count u) ↔ (counts_of t ≡ map (λ (a : ℕ). some (weight_in genes count a)) (clusters t))
+    → ((u : Tree) → Memᴰ u (all_nodes t) → CountRight genes count u) ↔ (counts_of t ≡ map (λ (a : ℕ). Some (weight_in genes count a)) (clusters t))
 right_exactly genes count t =
     let own : Tree → Option ℕ = λ u. count_in (behind_of u) in
-    let due : Tree → Option ℕ = λ u. some (weight_in genes count (cluster u)) in
-    let weighed : map due (all_nodes t) ≡ map (λ (a : ℕ). some (weight_in genes count a)) (clusters t)
-    = sym (map-map (λ (a : ℕ). some (weight_in genes count a)) cluster (all_nodes t)) ∙ ap (map (λ (a : ℕ). some (weight_in genes count a))) (nodes-clusters t) in
+    let due : Tree → Option ℕ = λ u. Some (weight_in genes count (cluster u)) in
+    let weighed : map due (all_nodes t) ≡ map (λ (a : ℕ). Some (weight_in genes count a)) (clusters t)
+    = sym (map-map (λ (a : ℕ). Some (weight_in genes count a)) cluster (all_nodes t)) ∙ ap (map (λ (a : ℕ). Some (weight_in genes count a))) (nodes-clusters t) in
     (λ right. each_agrees own due (all_nodes t) right ∙ weighed, λ same. agree-each own due (all_nodes t) (same ∙ sym weighed))
 
 -- so no count of a drawn tree is wrong exactly then
 none_wrong_exactly :
     {line text : List ℕ} {start : ℕ} (genes : List ℕ) (count : ℕ) (d : DrawsBinary line text start)
-    → (wrong_in text start genes count d.tree ≡ none) ↔ (counts_of d.tree ≡ map (λ (a : ℕ). some (weight_in genes count a)) (clusters d.tree))
+    → (wrong_in text start genes count d.tree ≡ None) ↔ (counts_of d.tree ≡ map (λ (a : ℕ). Some (weight_in genes count a)) (clusters d.tree))
 none_wrong_exactly {line} {text} {start} genes count d =
     let w = weight_in genes count in
     let ends = ends_from (length (clusters d.tree)) (drop start text) start in
     let beside = drawn-beside line text start d in
     let all = nodes-clusters d.tree in
     let exactly = right_exactly genes count d.tree in (
-      λ z. exactly.0 (none_wrong w beside (subst (λ (l : List ℕ). first_wrong w l ends ≡ none) (sym all) z)),
-      λ same. subst (λ (l : List ℕ). first_wrong w l ends ≡ none) all (all_right w beside (exactly.1 same)),
+      λ z. exactly.0 (none_wrong w beside (subst (λ (l : List ℕ). first_wrong w l ends ≡ None) (sym all) z)),
+      λ same. subst (λ (l : List ℕ). first_wrong w l ends ≡ None) all (all_right w beside (exactly.1 same)),
     )
 
 -- behind the same tests, the counts of two texts lead to one number where in both or in neither one is wrong
 same_number :
-    (l : List Test) (o o' : Option ℕ) → ((o ≡ none) ↔ (o' ≡ none)) → (verdict (l ++ (counts_test o ∷ []))).number ≡ (verdict (l ++ (counts_test o' ∷ []))).number
+    (l : List Test) (o o' : Option ℕ) → ((o ≡ None) ↔ (o' ≡ None)) → (verdict (l ++ (counts_test o ∷ []))).number ≡ (verdict (l ++ (counts_test o' ∷ []))).number
 unfolding verdict
-same_number [] (some p) (some q) h = refl
-same_number [] (some p) none h = absurd (some_none (h.1 refl))
-same_number [] none (some q) h = absurd (some_none (h.0 refl))
-same_number [] none none h = refl
+same_number [] (Some p) (Some q) h = refl
+same_number [] (Some p) None h = absurd (some_none (h.1 refl))
+same_number [] None (Some q) h = absurd (some_none (h.0 refl))
+same_number [] None None h = refl
 same_number (t ∷ l) o o' h = go t.fault (same_number l o o' h)
   where
     go : (b : Bool) → (verdict (l ++ (counts_test o ∷ []))).number ≡ (verdict (l ++ (counts_test o' ∷ []))).number
@@ -269,7 +269,7 @@ unfolding distance
 only-counts_matter line text text' start start' genes count scores splits r r' s p s' p' c c' d d' same counts =
     let n = length (names line) in
     let recs = records_in count genes in
-    let due : List ℕ → List (Option ℕ) = map (λ (a : ℕ). some (weight_in genes count a)) in
+    let due : List ℕ → List (Option ℕ) = map (λ (a : ℕ). Some (weight_in genes count a)) in
     let own = none_wrong_exactly genes count d in
     let other = none_wrong_exactly genes count d' in
     let wrong = wrong_in text start genes count d.tree in
@@ -282,7 +282,7 @@ only-counts_matter line text text' start start' genes count scores splits r r' s
     ∙ same_number (drawn_tests n genes count (record_of (clusters d'.tree)) scores splits) wrong wrong'
     (λ z. other.1 (sym counts ∙ own.0 z ∙ ap due same), λ z. own.1 (counts ∙ other.0 z ∙ ap due (sym same)))
     ∙ sym (ap (λ (v : Verdict). v.number) (said_as line text' start' genes count scores splits answered')) in
-    let far : distance_of n recs (answer_to Species NoThreshold line text start) ≡ distance_of n recs (answer_to Species NoThreshold line text' start')
+    let far : distance_of n recs (answer_to Species None line text start) ≡ distance_of n recs (answer_to Species None line text' start')
     = ap (λ (a : Answer Tree). distance_of n recs a) answered
     ∙ ap (λ (l : List ℕ). score Rooted recs (record_of l) - least_score n recs) same
     ∙ sym (ap (λ (a : Answer Tree). distance_of n recs a) answered') in (
@@ -354,7 +354,7 @@ pub written-passes :
     → (r.number ≡ 0) × GoesWithYes (length (names line)) genes count species r.value
 written-passes line genes count species out w after writes z scores splits r s p long-scores long-splits c =
     let yes = (always_passed writes z long-scores long-splits c).0 in
-    let read = replies-read Species NoThreshold line (take w.value after) 0 in
+    let read = replies-read Species None line (take w.value after) 0 in
     let back = ap (λ (q : Reading). q.numbers) (write_counts_read writes z read.meets) in
     let goes = (yes_goes_with line (take w.value after) 0 genes count scores splits c yes read.outcome read.meets).2 in
     (yes, rw back at goes)

@@ -3,7 +3,7 @@ use Prim.Native.Nat.{ℕ, ◌*◌, ◌^◌, ◌≤◌}
 use mathlib.Core.Path.{◌≡◌, refl, sym, ap, ◌∙◌}
 use mathlib.Core.Logic.{◌↔◌}
 use mathlib.Core.Bool.{true, false, not}
-use mathlib.Core.Option.{Option, some, none}
+use Rattle.std.proofs.Common.{Option, Some, None}
 use mathlib.Core.List.{List, [], ◌∷◌}
 use native.Mathlib.Omega.{arith}
 use lib.ListN.{length, drop}
@@ -21,7 +21,7 @@ use Rattle.roster.specs.Judged.{species_most}
 use Rattle.roster.specs.Verdict.{Verdict, verdict, length_test}
 use Rattle.roster.specs.declared.Reply.{Reply}
 use Rattle.roster.proofs.Names.{names-count}
-use Rattle.tokens.specs.declared.answer.Threshold.TheVariants.{NoThreshold}
+use Rattle.std.proofs.Common.{None}
 use Rattle.tokens.specs.Answers.{Answer}
 use Rattle.tokens.specs.Answers.Answer.{parsed, refused}
 use Rattle.reader.specs.Accepted.{Draws}
@@ -52,7 +52,7 @@ binary-told {s} {t} on =
     tells_also (λ b. binary_of_clusters on (rw (count_record 16 (clusters t)) at b)) (λ b. rw (count_record 16 (clusters t)) (clusters_of_binary on b))
     (binary_decides s (record_of (clusters t)))
 
-module _ (line text : List ℕ) (start : ℕ) {t : Tree} {rest : List ℕ} (d : Draws Species NoThreshold line text start t rest) where
+module _ (line text : List ℕ) (start : ℕ) {t : Tree} {rest : List ℕ} (d : Draws Species None line text start t rest) where
   told : Tells (binary (whole (length (names line))) (record_of (clusters t))) (Binary t)
   told = binary-told (record { once = d.once; all = d.species })
 
@@ -63,7 +63,7 @@ module _ (line text : List ℕ) (start : ℕ) {t : Tree} {rest : List ℕ} (d : 
     where
       only : {k p : ℕ} → UnresolvedFault line text start k p → (not (binary (whole (length (names line))) (record_of (clusters t))) ≡ true) × (k ≡ 16) × (p ≡ 0)
       only (not_binary {t = u} d' wide) =
-          let same : u ≡ t = (draws_one Species Species NoThreshold NoThreshold line text start d' d).value in
+          let same : u ≡ t = (draws_one Species Species None None line text start d' d).value in
           (ap not (unless (binary (whole (length (names line))) (record_of (clusters t))) (λ e. wide (rw same (told.holds e)))), refl, refl)
 
 module _ (line text : List ℕ) (start : ℕ) (genes : List ℕ) (count : ℕ) (scores splits : List ℕ) where
@@ -89,14 +89,14 @@ module _ (line text : List ℕ) (start : ℕ) (genes : List ℕ) (count : ℕ) (
       (o : Option ℕ) → CallInOrder line genes count scores splits → verdict (counts_test o ∷ []) ≡ said
       → Exact (verdict (counts_test o ∷ [])) (CountsFault line text start genes count)
   unfolding verdict
-  counts-exact (some place) order same =
+  counts-exact (Some place) order same =
       let number : said.number ≡ 23 = sym (ap (λ (v : Verdict). v.number) same) in
       let at : said.place ≡ place = sym (ap (λ (v : Verdict). v.place) same) in
       exact_one (λ z. omega arith) (first_node_at_fault ((said_which place).0 (number, at)).0) (λ j q f. only at f)
     where
       only : said.place ≡ place → {j q : ℕ} → CountsFault line text start genes count j q → (j ≡ 23) × (q ≡ place)
       only at (first_node_at_fault {place = q} f) = (refl, sym ((said_which q).1 (f, order)).1 ∙ at)
-  counts-exact none order same = exact_none (λ k p f. never (ap (λ (v : Verdict). v.number) same) f)
+  counts-exact None order same = exact_none (λ k p f. never (ap (λ (v : Verdict). v.number) same) f)
     where
       never : 0 ≡ said.number → {j q : ℕ} → CountsFault line text start genes count j q → ⊥
       never passed (first_node_at_fault {place = q} f) = omega (arith, ((said_which q).1 (f, order)).0)
@@ -111,9 +111,9 @@ module _ (line text : List ℕ) (start : ℕ) (genes : List ℕ) (count : ℕ) (
   unfolding call_tests drawn_test verdict
   calls-pass t c l s p b v = rw (c, l, s, p, b, v)
 
-  module _ {t : Tree} {rest : List ℕ} {next : ℕ} (e : answer_to Species NoThreshold line text start ≡ parsed t rest next) where
-    draws : Draws Species NoThreshold line text start t rest
-    draws = (accepted-derives Species NoThreshold line text start e).draws
+  module _ {t : Tree} {rest : List ℕ} {next : ℕ} (e : answer_to Species None line text start ≡ parsed t rest next) where
+    draws : Draws Species None line text start t rest
+    draws = (accepted-derives Species None line text start e).draws
 
     few : (1 ≤ n) × (n ≤ 16)
     few = names-count species_most line draws.good
@@ -134,11 +134,11 @@ module _ (line text : List ℕ) (start : ℕ) (genes : List ℕ) (count : ℕ) (
 
   pub check_exact : Exact said (CheckFault line text start genes count scores splits)
   unfolding check_verdict
-  check_exact = by (answer_to Species NoThreshold line text start) refl
+  check_exact = by (answer_to Species None line text start) refl
     where
-      by : (a : Answer Tree) → answer_to Species NoThreshold line text start ≡ a → Exact said (CheckFault line text start genes count scores splits)
+      by : (a : Answer Tree) → answer_to Species None line text start ≡ a → Exact said (CheckFault line text start genes count scores splits)
       by (refused k q) e =
-          let own = fault_of_refusal Species NoThreshold line text start k q e in
+          let own = fault_of_refusal Species None line text start k q e in
           let few = plain-fault-numbers own in
           rw e (names_first k q own (exact_one (λ z. omega (arith, few.0)) own (λ j p f. fault_one f own)))
       by (parsed t rest q) e = rw e (names_later (λ k p f. read-has_none e f) (behind_reading e))

@@ -14,7 +14,7 @@ use Rattle.trees.proofs.Lent.{records-needed}
 use Rattle.roster.specs.Roster.{names}
 use Rattle.roster.specs.Verdict.{length_test, reply_of}
 use Rattle.roster.specs.declared.Reply.{Reply}
-use Rattle.tokens.specs.declared.answer.Threshold.TheVariants.{NoThreshold}
+use Rattle.std.proofs.Common.{None}
 use Rattle.tokens.specs.Answers.{Answer}
 use Rattle.tokens.specs.Answers.Answer.{parsed, refused}
 use Rattle.nodes.specs.Grammar.{strict, Text}
@@ -61,10 +61,10 @@ self_alike text start (refused number place) = both_refused
 -- the ends of a tree are decided by its bytes
 ends_local :
     (line text text' : List ℕ) (start : ℕ) {t : Tree} {rest : List ℕ} {next : ℕ}
-    → answer_to Species NoThreshold line text start ≡ parsed t rest next → SameBytes text text' start (next - start)
+    → answer_to Species None line text start ≡ parsed t rest next → SameBytes text text' start (next - start)
     → ends_from (length (clusters t)) (drop start text) start ≡ ends_from (length (clusters t)) (drop start text') start
 ends_local line text text' start {t} {rest} {next} h agree =
-    let a = accepted-derives Species NoThreshold line text start h in
+    let a = accepted-derives Species None line text start h in
     let u = take (next - start) (drop start text) in
     let before = before_the_rests text text' start a.place agree in
     let derives = subst (λ (l : List ℕ). Text (strict false (names line)) open_most l t rest) before.0 a.draws.derives in
@@ -75,16 +75,16 @@ ends_local line text text' start {t} {rest} {next} h agree =
 
 -- so texts that agree on the bytes that decide a reading are read alike
 agree-alike :
-    (line text text' : List ℕ) (start : ℕ) (q : Reading) → Reads Species NoThreshold line text start q → length text ≤ text_most → length text' ≤ text_most
-    → Agree text text' start q → Alike text text' start (answer_to Species NoThreshold line text start) (answer_to Species NoThreshold line text' start)
+    (line text text' : List ℕ) (start : ℕ) (q : Reading) → Reads Species None line text start q → length text ≤ text_most → length text' ≤ text_most
+    → Agree text text' start q → Alike text text' start (answer_to Species None line text start) (answer_to Species None line text' start)
 unfolding Reads
-agree-alike line text text' start q reads short short' agree = by (answer_to Species NoThreshold line text start) refl
+agree-alike line text text' start q reads short short' agree = by (answer_to Species None line text start) refl
   where
-    again : q ≡ reading_of NoThreshold start (answer_to Species NoThreshold line text' start)
-    again = reading_is_local Species NoThreshold line text text' start q _ short short' reads refl agree
+    again : q ≡ reading_of None start (answer_to Species None line text' start)
+    again = reading_is_local Species None line text text' start q _ short short' reads refl agree
 
     refused-again :
-        {number place : ℕ} → 1 ≤ number → q ≡ reading_of NoThreshold start (refused number place) → (a : Answer Tree) → q ≡ reading_of NoThreshold start a
+        {number place : ℕ} → 1 ≤ number → q ≡ reading_of None start (refused number place) → (a : Answer Tree) → q ≡ reading_of None start a
         → Alike text text' start (refused number place) a
     refused-again some is (parsed t rest next) same =
         absurd (omega (arith, sym (ap (λ (r : Reading). r.number) is) ∙ ap (λ (r : Reading). r.number) same))
@@ -93,15 +93,15 @@ agree-alike line text text' start q reads short short' agree = by (answer_to Spe
         let places : place ≡ p = sym (ap (λ (r : Reading). r.place) is) ∙ ap (λ (r : Reading). r.place) same in
         rw (numbers, places) both_refused
 
-    by : (a : Answer Tree) → answer_to Species NoThreshold line text start ≡ a → Alike text text' start a (answer_to Species NoThreshold line text' start)
+    by : (a : Answer Tree) → answer_to Species None line text start ≡ a → Alike text text' start a (answer_to Species None line text' start)
     by (refused number place) e =
-        let some = (plain-fault-numbers (fault_of_refusal Species NoThreshold line text start number place e)).0 in
-        refused-again some (reads ∙ ap (reading_of NoThreshold start) e) (answer_to Species NoThreshold line text' start) again
+        let some = (plain-fault-numbers (fault_of_refusal Species None line text start number place e)).0 in
+        refused-again some (reads ∙ ap (reading_of None start) e) (answer_to Species None line text' start) again
     by (parsed t rest next) e =
-        let is = reads ∙ ap (reading_of NoThreshold start) e in
+        let is = reads ∙ ap (reading_of None start) e in
         let bytes : SameBytes text text' start (next - start)
         = subst (λ (m : ℕ). SameBytes text text' start (m - start)) (ap (λ (r : Reading). r.next) is) (agree.tree (ap (λ (r : Reading). r.number) is)) in
-        let drawn = tree_is_local Species NoThreshold line text text' start e short' bytes in
+        let drawn = tree_is_local Species None line text text' start e short' bytes in
         rw drawn.1 (both_drawn (ends_local line text text' start e bytes))
 
 -- ---- two calls that agree on what is read
@@ -193,7 +193,7 @@ module _ (line text text' : List ℕ) (start count : ℕ) (genes genes' scores s
       )
 
   alike-outcome :
-      Alike text text' start (answer_to Species NoThreshold line text start) (answer_to Species NoThreshold line text' start) → {r r' : Reply} {s p s' p' : List ℕ}
+      Alike text text' start (answer_to Species None line text start) (answer_to Species None line text' start) → {r r' : Reply} {s p s' p' : List ℕ}
       → Checks line text start genes count scores splits r s p → Checks line text' start genes' count scores' splits' r' s' p'
       → (r ≡ r') × (r.number ≡ 0 → SameTable n scores s scores' s' × SameTable n splits p splits' p')
   alike-outcome alike {r} {r'} c c' =
@@ -204,7 +204,7 @@ module _ (line text text' : List ℕ) (start count : ℕ) (genes genes' scores s
   -- "Entries beyond the need are not read", and bytes that do not decide how the text is read are not looked at:
   -- the replies are equal, and with a yes so are the entries of both tables, those beyond the need kept
   pub check_beyond_the_need :
-      (q : Reading) → Reads Species NoThreshold line text start q → length text ≤ text_most → length text' ≤ text_most → Agree text text' start q
+      (q : Reading) → Reads Species None line text start q → length text ≤ text_most → length text' ≤ text_most → Agree text text' start q
       → (r r' : Reply) (s p s' p' : List ℕ) → Checks line text start genes count scores splits r s p
       → Checks line text' start genes' count scores' splits' r' s' p'
       → (r ≡ r') × (r.number ≡ 0 → SameTable n scores s scores' s' × SameTable n splits p splits' p')
@@ -220,11 +220,11 @@ pub check_entries_beyond_the_need :
     × (r.number ≡ 0 → SameTable (length (names line)) scores s scores' s' × SameTable (length (names line)) splits p splits' p')
 check_entries_beyond_the_need line text start count genes genes' scores scores' splits splits' same-genes scores_fit splits_fit r r' s p s' p' c c' =
     alike-outcome line text text start count genes genes' scores scores' splits splits' same-genes scores_fit splits_fit
-    (self_alike text start (answer_to Species NoThreshold line text start)) c c'
+    (self_alike text start (answer_to Species None line text start)) c c'
 
 -- "bytes behind that are not looked at": a text that is read, and another that has its bytes up to the offset just after `;`
 pub check_bytes_behind :
-    (line text text' : List ℕ) (start : ℕ) (genes : List ℕ) (count : ℕ) (scores splits : List ℕ) (q : Reading) → Reads Species NoThreshold line text start q
+    (line text text' : List ℕ) (start : ℕ) (genes : List ℕ) (count : ℕ) (scores splits : List ℕ) (q : Reading) → Reads Species None line text start q
     → length text ≤ text_most → length text' ≤ text_most → q.number ≡ 0 → SameBytes text text' start (q.next - start)
     → (r r' : Reply) (s p s' p' : List ℕ) → Checks line text start genes count scores splits r s p → Checks line text' start genes count scores splits r' s' p'
     → r ≡ r'

@@ -16,7 +16,7 @@ use Rattle.weights.specs.Marks.{shown}
 use Rattle.lineages.specs.Promise.{marks}
 use Rattle.tokens.specs.Supports.{supported}
 use Rattle.tokens.specs.Values.{leading, decimals, written_behind, written as writes, filled, too_fine, thousandths}
-use Rattle.tokens.specs.declared.answer.Value.TheVariants.{Thousandths, NoValue}
+use Rattle.std.proofs.Common.{None, Some}
 use Rattle.tokens.specs.Tokens.{blanks, skip, number, number_behind, numbers, name, inner_name}
 use Rattle.reader.specs.Promise.{answer_within}
 use Rattle.nodes.specs.Reading.{leaf_by, closing_by, read_tree_to_by, read_tree_by, read_node_by}
@@ -119,10 +119,10 @@ examples =
     -- `(a,b);` on roster `a b c d`, its own clusters as they stand | 14 (#104)
     ∷ searched Rooted abcd (ab ∷ []) own 14 0 []
     -- `7` is 7000 thousandths, `0.5` is 500, `1.250` is 1250, and `0.5000` has no value (#113)
-    ∷ valued (55 ∷ []) (Thousandths 7000)
-    ∷ valued (48 ∷ 46 ∷ 53 ∷ []) (Thousandths 500)
-    ∷ valued (49 ∷ 46 ∷ 50 ∷ 53 ∷ 48 ∷ []) (Thousandths 1250)
-    ∷ valued (48 ∷ 46 ∷ 53 ∷ 48 ∷ 48 ∷ 48 ∷ []) NoValue
+    ∷ valued (55 ∷ []) (Some 7000)
+    ∷ valued (48 ∷ 46 ∷ 53 ∷ []) (Some 500)
+    ∷ valued (49 ∷ 46 ∷ 50 ∷ 53 ∷ 48 ∷ []) (Some 1250)
+    ∷ valued (48 ∷ 46 ∷ 53 ∷ 48 ∷ 48 ∷ 48 ∷ []) None
     -- `((a,b)::0.5,c);`, threshold 500 | keeps cluster 3; 501 | drops it (#113)
     ∷ read_below abc ab-half-c 500 0 0 (5 ∷ 1 ∷ 2 ∷ 3 ∷ 4 ∷ 7 ∷ replicate 26 0)
     ∷ read_below abc ab-half-c 501 0 0 (4 ∷ 1 ∷ 2 ∷ 4 ∷ 7 ∷ replicate 27 0)

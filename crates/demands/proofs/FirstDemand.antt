@@ -3,7 +3,8 @@ use Prim.Native.Nat.{ℕ, ◌-◌, ◌^◌, ◌≤◌}
 use mathlib.Core.Path.{◌≡◌, refl, ap, ap₂, ◌∙◌}
 use mathlib.Core.Logic.{◌⊎◌, inl, inr}
 use mathlib.Core.Bool.{Bool, true, false}
-use mathlib.Core.Option.{Option, some, none}
+use mathlib.Core.Option.{Option}
+use Rattle.std.proofs.Common.{Option as Optional, Some, None}
 use mathlib.Core.List.Memᴰ
 use mathlib.Core.List.Memᴰ.{head as here}
 use mathlib.Core.List.Memᴰ.{tail as there}
@@ -18,8 +19,8 @@ use Rattle.roster.specs.Roster.{names, faulty, first_fault}
 use Rattle.roster.specs.Judged.{Judged, judged_by, species_most}
 use Rattle.roster.specs.Verdict.{Test, Verdict, verdict, length_test, value_by, reply_of}
 use Rattle.roster.specs.declared.Reply.{Reply}
-use Rattle.tokens.specs.declared.answer.Threshold.{Threshold}
-use Rattle.tokens.specs.declared.answer.Threshold.TheVariants.{NoThreshold}
+use Rattle.tokens.specs.Supports.{Threshold}
+use Rattle.std.proofs.Common.{None}
 use Rattle.tokens.specs.Answers.{Answer}
 use Rattle.tokens.specs.Answers.Answer.{parsed, refused}
 use Rattle.reader.specs.Promise.{reading_of, answer_to, Reads}
@@ -195,7 +196,7 @@ replies_check line text start genes count scores splits =
     let said : Verdict = said_of line text start genes count scores splits in
     let n : ℕ = length (names line) in
     let trees : ℕ → Option Binary = best_for Rooted n (records_in count genes) (every_cluster n) in
-    let reply : Reply = reply_of said (distance_of n (records_in count genes) (answer_to Species NoThreshold line text start)) in
+    let reply : Reply = reply_of said (distance_of n (records_in count genes) (answer_to Species None line text start)) in
     let s : List ℕ = filled_by said.number n (λ a. score_entry (weight Rooted (records_in count genes)) (trees a)) scores in
     let p : List ℕ = filled_by said.number n (λ a. split_entry (trees a)) splits in
     let meets : Checks line text start genes count scores splits reply s p = record { reply = refl; score_table = refl; split_table = refl } in
@@ -400,9 +401,9 @@ sheet_refused rooting n genes count records entries r after p f =
     (reply_of-refused (sheet_tests rooting n genes count) 0 r p.reply f, none_altered p f)
 
 -- the number of the last test of `check`
-counts-number : (o : Option ℕ) → (counts_test o).number ≡ 23
-counts-number (some place) = refl
-counts-number none = refl
+counts-number : (o : Optional ℕ) → (counts_test o).number ≡ 23
+counts-number (Some place) = refl
+counts-number None = refl
 
 -- the numbers of the reader for species text
 read-listed : {k : ℕ} (l : List ℕ) → 1 ≤ k → k ≤ 10 → Among k ((1 ∷ 2 ∷ 3 ∷ 4 ∷ 5 ∷ 6 ∷ 7 ∷ 8 ∷ 9 ∷ 10 ∷ []) ++ l)
@@ -421,15 +422,15 @@ pub check_refused :
 unfolding check_verdict check_tests count_test length_test drawn_test records_test
 check_refused line text start genes count scores splits r s p c f =
     let kept = refusal-keeps line text start genes count scores splits c f in
-    (record { listed = go (answer_to Species NoThreshold line text start) refl; value = kept.0 }, kept.1, kept.2)
+    (record { listed = go (answer_to Species None line text start) refl; value = kept.0 }, kept.1, kept.2)
   where
     own : List ℕ
     own = 1 ∷ 2 ∷ 3 ∷ 4 ∷ 5 ∷ 6 ∷ 7 ∷ 8 ∷ 9 ∷ 10 ∷ []
 
-    go : (a : Answer Tree) → answer_to Species NoThreshold line text start ≡ a
+    go : (a : Answer Tree) → answer_to Species None line text start ≡ a
         → Among r.number (1 ∷ 2 ∷ 3 ∷ 4 ∷ 5 ∷ 6 ∷ 7 ∷ 8 ∷ 9 ∷ 10 ∷ 11 ∷ 12 ∷ 16 ∷ 15 ∷ 23 ∷ [])
     go (refused k q) e =
-        let few = plain-fault-numbers (fault_of_refusal Species NoThreshold line text start k q e) in
+        let few = plain-fault-numbers (fault_of_refusal Species None line text start k q e) in
         rw (c.reply, e) (read-listed (11 ∷ 12 ∷ 16 ∷ 15 ∷ 23 ∷ []) few.0 few.1)
     go (parsed t rest q) e =
         let n = length (names line) in
@@ -543,11 +544,11 @@ pub check_done :
     (line text : List ℕ) (start : ℕ) (genes : List ℕ) (count : ℕ) (scores splits : List ℕ) (r : Reply) (s p : List ℕ)
     → Checks line text start genes count scores splits r s p → r.number ≡ 0 → r.place ≡ 0
 unfolding check_verdict check_tests count_test length_test drawn_test records_test NoneGives
-check_done line text start genes count scores splits r s p c z = go (answer_to Species NoThreshold line text start) refl
+check_done line text start genes count scores splits r s p c z = go (answer_to Species None line text start) refl
   where
-    go : (a : Answer Tree) → answer_to Species NoThreshold line text start ≡ a → r.place ≡ 0
+    go : (a : Answer Tree) → answer_to Species None line text start ≡ a → r.place ≡ 0
     go (refused k q) e =
-        let few = plain-fault-numbers (fault_of_refusal Species NoThreshold line text start k q e) in
+        let few = plain-fault-numbers (fault_of_refusal Species None line text start k q e) in
         let is : r.number ≡ k = ap (λ (r : Reply). r.number) c.reply ∙ rw e in
         absurd (omega (arith, few.0))
     go (parsed t rest q) e =

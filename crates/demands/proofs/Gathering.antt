@@ -14,7 +14,7 @@ use Rattle.labels.proofs.Runs.{run-within, run-behind}
 use Rattle.trees.specs.Tree.{Tree, clusters}
 use Rattle.trees.specs.Records.{record_of}
 use Rattle.roster.specs.Roster.{names}
-use Rattle.tokens.specs.declared.answer.Threshold.TheVariants.{NoThreshold}
+use Rattle.std.proofs.Common.{None}
 use Rattle.tokens.specs.Answers.Answer.{parsed, refused}
 use Rattle.tokens.specs.Tokens.{blanks, skip}
 use Rattle.nodes.specs.Grammar.{Rules, Blanks, Text}
@@ -50,7 +50,7 @@ module _ (line txt : List ℕ) (at : ℕ) where
   blanks_from = rw (← drop-drop (blanks (drop at txt)) at txt) (skip-blanks (drop at txt))
 
   -- a tree drawn behind blanks is drawn with them
-  draws-behind-blanks : {t : Tree} {rest : List ℕ} → Draws Gene NoThreshold line txt (begun txt at) t rest → Draws Gene NoThreshold line txt at t rest
+  draws-behind-blanks : {t : Tree} {rest : List ℕ} → Draws Gene None line txt (begun txt at) t rest → Draws Gene None line txt at t rest
   draws-behind-blanks d = record {
     good = d.good;
     short = d.short;
@@ -119,10 +119,10 @@ turns line txt shift = record { begins = record { trees = []; trees_reach = no_t
   where
     reads :
         {genes : List (List ℕ)} {at : ℕ} {t : Tree} {rest : List ℕ} {q : ℕ} → ReadTo line txt genes at → begun txt at < length txt
-        → answer_to Gene NoThreshold line txt (begun txt at) ≡ parsed t rest q
+        → answer_to Gene None line txt (begun txt at) ≡ parsed t rest q
         → ReadTo line txt (genes ++ (record_of (clusters t) ∷ [])) q
     reads {at = at} {t = t} now inside e =
-        let a = accepted-derives Gene NoThreshold line txt (begun txt at) e in
+        let a = accepted-derives Gene None line txt (begun txt at) e in
         record {
           trees = now.trees ++ (t ∷ []);
           trees_reach = with_more now.trees_reach (draws-behind-blanks line txt at a.draws) (behind-blanks line txt at a.place);
@@ -150,11 +150,11 @@ turns line txt shift = record { begins = record { trees = []; trees_reach = no_t
 
     refuses :
         {genes : List (List ℕ)} {at number place : ℕ} → ReadTo line txt genes at → length genes < genes_most → begun txt at < length txt
-        → answer_to Gene NoThreshold line txt (begun txt at) ≡ refused number place → TreesFault line txt shift number (shift + place)
+        → answer_to Gene None line txt (begun txt at) ≡ refused number place → TreesFault line txt shift number (shift + place)
     refuses {at = at} {number} {place} now room inside e =
-        let some = refusal_some narrow Gene NoThreshold line txt (begun txt at) e in
-        refused_tree (reading_of NoThreshold (begun txt at) (refused number place)) (more_behind line txt at now.trees_reach inside) (omega (arith, as_many now))
-        (ap (reading_of NoThreshold (begun txt at)) (sym e)) (λ z. omega arith)
+        let some = refusal_some narrow Gene None line txt (begun txt at) e in
+        refused_tree (reading_of None (begun txt at) (refused number place)) (more_behind line txt at now.trees_reach inside) (omega (arith, as_many now))
+        (ap (reading_of None (begun txt at)) (sym e)) (λ z. omega arith)
 
 pub gathered_from : (line txt : List ℕ) (genes : List (List ℕ)) → gather line txt ≡ gathered genes → GatheredFrom line txt genes
 gathered_from line txt genes e = gathered_so (turns line txt 0) (sym e)
@@ -184,7 +184,7 @@ module _ (line txt : List ℕ) (at : ℕ) where
   begun-within h = omega (arith, run-within is_blank (drop at txt), length-drop at txt)
 
   -- a tree drawn with blanks before it is drawn behind them
-  pub draws_from_begun : {t : Tree} {rest : List ℕ} → Draws Gene NoThreshold line txt at t rest → Draws Gene NoThreshold line txt (begun txt at) t rest
+  pub draws_from_begun : {t : Tree} {rest : List ℕ} → Draws Gene None line txt at t rest → Draws Gene None line txt (begun txt at) t rest
   unfolding blanks skip
   draws_from_begun d = record {
     good = d.good;
@@ -197,11 +197,11 @@ module _ (line txt : List ℕ) (at : ℕ) where
 
   -- so it is read there
   pub reads_from_begun :
-      {t : Tree} {rest : List ℕ} {next : ℕ} → Draws Gene NoThreshold line txt at t rest → JustBehind txt at rest next
-      → (begun txt at < length txt) × (answer_to Gene NoThreshold line txt (begun txt at) ≡ parsed t rest next)
+      {t : Tree} {rest : List ℕ} {next : ℕ} → Draws Gene None line txt at t rest → JustBehind txt at rest next
+      → (begun txt at < length txt) × (answer_to Gene None line txt (begun txt at) ≡ parsed t rest next)
   reads_from_begun {t} {rest} {next} d j =
-      let e = derives-accepted Gene NoThreshold line txt (begun txt at) (draws_from_begun d) in
-      let p = (accepted-derives Gene NoThreshold line txt (begun txt at) e).place in
+      let e = derives-accepted Gene None line txt (begun txt at) (draws_from_begun d) in
+      let p = (accepted-derives Gene None line txt (begun txt at) e).place in
       let l : length rest ≡ length txt - next = ap length j.left ∙ length-drop next txt in
       let q : length txt - length rest ≡ next = let w = j.within in omega arith in
       (let a = p.after in let w = p.within in omega arith, e ∙ ap (λ (q : ℕ). parsed t rest q) q)
@@ -210,7 +210,7 @@ module _ (line txt : List ℕ) where
   -- a tree that is read is one more turn
   step :
       (k : ℕ) (genes : List (List ℕ)) (at : ℕ) {t : Tree} {rest : List ℕ} {next : ℕ}
-      → begun txt at < length txt → length genes < genes_most → answer_to Gene NoThreshold line txt (begun txt at) ≡ parsed t rest next
+      → begun txt at < length txt → length genes < genes_most → answer_to Gene None line txt (begun txt at) ≡ parsed t rest next
       → gather_to (suc k) line txt genes at ≡ gather_to k line txt (genes ++ (record_of (clusters t) ∷ [])) next
   unfolding gather_to
   step k genes at inside few e = rw (lt-leb (length txt) (begun txt at) inside, lt-leb genes_most (length genes) few, e) refl

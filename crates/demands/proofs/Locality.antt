@@ -13,7 +13,7 @@ use Rattle.trees.specs.Tree.{Tree}
 use Rattle.roster.specs.Roster.{names, faulty}
 use Rattle.roster.specs.Judged.{species_most}
 use Rattle.tokens.specs.Supports.{is_given}
-use Rattle.tokens.specs.declared.answer.Threshold.{Threshold}
+use Rattle.tokens.specs.Supports.{Threshold}
 use Rattle.tokens.specs.Answers.{Answer}
 use Rattle.tokens.specs.Answers.Answer.{parsed, refused}
 use Rattle.nodes.specs.Reading.{open_most, read_tree}

@@ -13,7 +13,7 @@ use Rattle.roster.specs.Judged.{species_most, judged_by, Judged}
 use Rattle.roster.specs.Letters.{base_names}
 use Rattle.roster.specs.declared.Reply.{Reply}
 use Rattle.roster.proofs.OfLetters.{first_fault_same, faulty_same, names_same}
-use Rattle.tokens.specs.declared.answer.Threshold.TheVariants.{NoThreshold}
+use Rattle.std.proofs.Common.{None}
 use Rattle.nodes.proofs.OfLetters.{read_as_by_letters}
 use Rattle.nodes.specs.Reading.{open_most}
 use Rattle.reader.specs.Promise.{narrow, text_most, needed, from_start, in_limit, on_roster, answer_within, answer_to, reading_of, Reads}
@@ -32,23 +32,23 @@ judged_as_by_01 line r none p =
     by false good = rw (names_same species_most line none good) refl
 
 module _ (kind : Kind) (line text : List ℕ) (start : ℕ) (plain-line : Unmarked line) (plain-text : Unmarked text) where
-  started_same : (ns : List (List ℕ)) (t : Bool) → from_start narrow kind NoThreshold t ns text start ≡ base_from_start kind t ns text start
+  started_same : (ns : List (List ℕ)) (t : Bool) → from_start narrow kind None t ns text start ≡ base_from_start kind t ns text start
   started_same ns true = sym (read_as_by_letters ns open_most (needed kind (length ns)) (drop start text) start (all_drop start (unquoted_of text plain-text)))
   started_same ns false = refl
 
-  limited_same : (ns : List (List ℕ)) (t : Bool) → in_limit narrow kind NoThreshold t ns text start ≡ base_in_limit kind t ns text start
+  limited_same : (ns : List (List ℕ)) (t : Bool) → in_limit narrow kind None t ns text start ≡ base_in_limit kind t ns text start
   limited_same ns true = started_same ns (leb start (length text))
   limited_same ns false = refl
 
   -- a text without quotes and underscores, on such a roster, is answered as by 01: the same tree, or the same number and place
-  pub answered_as_by_01 : answer_to kind NoThreshold line text start ≡ base_answer_to kind line text start
+  pub answered_as_by_01 : answer_to kind None line text start ≡ base_answer_to kind line text start
   unfolding answer_within
   answered_as_by_01 = by (faulty species_most line) refl ∙ ap (λ (t : Bool). base_on_roster kind t line text start) (faulty_same species_most line plain-line)
     where
-      by : (t : Bool) → faulty species_most line ≡ t → on_roster narrow kind NoThreshold t line text start ≡ base_on_roster kind t line text start
+      by : (t : Bool) → faulty species_most line ≡ t → on_roster narrow kind None t line text start ≡ base_on_roster kind t line text start
       by true f = rw (first_fault_same species_most line plain-line) refl
       by false good = rw (names_same species_most line plain-line good) (limited_same (base_names line) (leb (length text) text_most))
 
-  pub read_as_by_01 : (r : Reading) → Reads kind NoThreshold line text start r → r ≡ reading_of NoThreshold start (base_answer_to kind line text start)
+  pub read_as_by_01 : (r : Reading) → Reads kind None line text start r → r ≡ reading_of None start (base_answer_to kind line text start)
   unfolding Reads
-  read_as_by_01 r p = p ∙ ap (reading_of NoThreshold start) answered_as_by_01
+  read_as_by_01 r p = p ∙ ap (reading_of None start) answered_as_by_01

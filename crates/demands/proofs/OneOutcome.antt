@@ -5,7 +5,7 @@ use mathlib.Core.List.{List}
 use Rattle.roster.specs.Judged.{Judged}
 use Rattle.roster.specs.declared.Reply.{Reply}
 use Rattle.roster.proofs.Judging.{judged-once}
-use Rattle.tokens.specs.declared.answer.Threshold.{Threshold}
+use Rattle.tokens.specs.Supports.{Threshold}
 use Rattle.reader.specs.Promise.{Reads}
 use Rattle.reader.specs.declared.Kind.{Kind}
 use Rattle.reader.specs.declared.Reading.{Reading}

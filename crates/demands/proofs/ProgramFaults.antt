@@ -19,7 +19,7 @@ use Rattle.nodes.specs.Grammar.{Blanks}
 use Rattle.splits.specs.BinaryTrees.{Binary}
 use Rattle.splits.specs.Best.{best_for, found_by}
 use Rattle.reader.specs.Promise.{text_most}
-use Rattle.tokens.specs.declared.answer.Threshold.TheVariants.{NoThreshold}
+use Rattle.std.proofs.Common.{None}
 use Rattle.reader.specs.declared.Kind.TheVariants.{Gene}
 use Rattle.writer.specs.Promise.{roster_test}
 use Rattle.weights.specs.declared.Rooting.{Rooting}
@@ -30,11 +30,11 @@ use Rattle.gather.proofs.GeneTrees.{stopped-inside}
 use Rattle.printing.specs.Words.{refused_text, at_text, newline, decimal}
 use Rattle.printing.specs.Texts.{refusal_text}
 use Rattle.printing.specs.declared.Report.{Report}
-use Rattle.report.proofs.Bytewise.{line-within}
+use Rattle.report.proofs.InputParts.{line-within}
 use Rattle.report.proofs.Outcomes.{program-never-nine}
 use Rattle.report.specs.Input.{line_length, first_line, behind_line, ends_in_feed, mode_place, trees_place, mode_word}
-use Rattle.report.specs.declared.modes.Mode.{Mode}
-use Rattle.report.specs.declared.modes.Mode.TheVariants.{Another, Over}
+use Rattle.report.specs.Program.{Mode}
+use Rattle.std.proofs.Common.{Option as Optional, Some, None}
 use Rattle.report.specs.Promise.{output, Reports}
 use Rattle.report.specs.Program.{mode_of, on_mode, on_feeds, on_species, on_roster, on_text, program}
 use Rattle.search.specs.TiesPromise.{ties_for, with_ties}
@@ -210,12 +210,12 @@ module _ (input : List ℕ) where
   abbrev FromMode : ℕ → ℕ → Type 0
   FromMode = ModeFault input before FromTrees
 
-  says-mode : (m : Mode) → length (names line) ≤ 16 → ModeTold mode m → program input ≡ on_mode m input → Says (program input) FromMode
-  says-mode Another few told e = says_first 3 (mode_place input) e (another_word told) (λ j q f. one f)
+  says-mode : (m : Optional Mode) → length (names line) ≤ 16 → ModeTold mode m → program input ≡ on_mode m input → Says (program input) FromMode
+  says-mode None few told e = says_first 3 (mode_place input) e (another_word told) (λ j q f. one f)
     where
       one : {j q : ℕ} → ModeFault input j q → (j ≡ 3) × (q ≡ mode_place input)
       one (another_word f) = (refl, refl)
-  says-mode (Over all rooting) few told e = names_later (λ k p f. never f) (says-trees all rooting (gather line text) few told refl e)
+  says-mode (Some (all, rooting)) few told e = names_later (λ k p f. never f) (says-trees all rooting (gather line text) few told refl e)
     where
       never : {k p : ℕ} → ModeFault input k p → ⊥
       never (another_word f) = f all rooting told
@@ -308,7 +308,7 @@ module _ (input : List ℕ) where
   trees-within : {k p : ℕ} → length input ≤ text_most → faulty species_most line ≡ false → TreesFault line text (trees_place input) k p → (k ≤ 19) × (p ≤ 200000)
   trees-within {k} {p} short good f = (number (trees-fault-means f), place (fault-stops line text f))
     where
-      number : (k ≡ 17) ⊎ ((b : ℕ) × (q : ℕ) × TextFault Gene NoThreshold line text b k q × (p ≡ trees_place input + q)) → k ≤ 19
+      number : (k ≡ 17) ⊎ ((b : ℕ) × (q : ℕ) × TextFault Gene None line text b k q × (p ≡ trees_place input + q)) → k ≤ 19
       number (inl e) = omega arith
       number (inr h) = omega (arith, (plain-fault-numbers h.2).1)
 

@@ -18,9 +18,9 @@ use Rattle.weights.specs.declared.Rooting.{Rooting}
 use Rattle.lineages.specs.Checks.{records_test, rooting_test}
 use Rattle.lineages.specs.InOrder.{Shaped}
 use Rattle.lineages.specs.Promise.{Scores}
-use Rattle.lineages.specs.Work.{shape_tests}
+use Rattle.lineages.specs.Work.{shape_tests, said}
 use Rattle.lineages.proofs.Calls.{genes_then}
-use Rattle.lineages.proofs.Verdicts.{NoneGives, many_species, shape_at_0, shaped_at}
+use Rattle.lineages.proofs.Verdicts.{NoneGives, wrong_species, shape_at_0, shaped_at}
 use Rattle.terms.specs.Allowed.{allowed_in, allowed_test}
 use Rattle.terms.specs.Answers.{without, found_or}
 use Rattle.terms.specs.declared.Found.{Found}
@@ -51,7 +51,7 @@ trees-visited t n some few = roster-visited t n some (omega arith)
 -- ---- what the engine says of a fault in shape
 
 module _ (rooting : Rooting) (n : ℕ) (genes : List ℕ) (count : ℕ) (allowed : List ℕ) (q : Found) (plain : FindsPlainly rooting n genes count allowed q) where
-  says : {number : ℕ} → ShapeJudged n genes count allowed number → (number ≡ 0 → ⊥) → q ≡ without number 0
+  says : {number : ℕ} → ShapeJudged n genes count allowed (said number 0) → (number ≡ 0 → ⊥) → q ≡ without number 0
   says {number} judged f =
       plain-once rooting n genes count allowed q (without number 0) plain (plain-shape rooting n genes count allowed judged f refl)
 
@@ -135,7 +135,7 @@ module _ (rooting : Rooting) (n : ℕ) (genes : List ℕ) (count : ℕ) (allowed
   many_alike : 16 < n → q ≡ r
   many_alike l =
       says rooting n genes count allowed q plain (over-sixteen n genes count allowed l) (λ z. omega arith)
-      ∙ sym (search_says (finds-shape rooting n genes count allowed scores splits (many_species n genes count l) (λ z. omega arith) refl refl refl))
+      ∙ sym (search_says (finds-shape rooting n genes count allowed scores splits (wrong_species n genes count (inr (omega arith, l))) (λ z. omega arith) refl refl refl))
 
   -- and of the allowed set
   short-alike : n ≤ 7 → Shaped n genes count → length allowed < 2 ^ n → q ≡ r

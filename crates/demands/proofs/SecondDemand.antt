@@ -23,8 +23,8 @@ use Rattle.trees.proofs.GeneRecords.{gene-small, gene_decides}
 use Rattle.roster.specs.Roster.{names, faulty}
 use Rattle.roster.specs.Judged.{species_most}
 use Rattle.roster.specs.declared.Reply.{Reply}
-use Rattle.tokens.specs.declared.answer.Threshold.{Threshold}
-use Rattle.tokens.specs.declared.answer.Threshold.TheVariants.{NoThreshold, Below}
+use Rattle.tokens.specs.Supports.{Threshold}
+use Rattle.std.proofs.Common.{None, Some}
 use Rattle.tokens.specs.Supports.{weak}
 use Rattle.tokens.specs.Answers.{Answer}
 use Rattle.tokens.specs.Answers.Answer.{parsed, refused}
@@ -130,17 +130,17 @@ written_ends ns r rest =
 module _ (line tree out : List ℕ) (r : Reply) (after : List ℕ) (q : Reading) (w : Writes line tree out r after) (z : r.number ≡ 0) where
   -- "reading that form gives the same clusters": what was written reads back to the record, to the end of the text, as either kind that has its species
   pub written-reads_back :
-      (kind : Kind) → MayHave kind (length (names line)) (largest tree) → Reads kind NoThreshold line (take r.value after) 0 q
+      (kind : Kind) → MayHave kind (length (names line)) (largest tree) → Reads kind None line (take r.value after) 0 q
       → (q.number ≡ 0) × (q.next ≡ r.value) × (q.numbers ≡ tree)
   written-reads_back kind species p = rw (write_read kind w z species p) (refl, refl, refl)
 
   -- as a gene tree: always (#104)
-  pub written-reads_back_as_gene_tree : Reads Gene NoThreshold line (take r.value after) 0 q → (q.number ≡ 0) × (q.next ≡ r.value) × (q.numbers ≡ tree)
+  pub written-reads_back_as_gene_tree : Reads Gene None line (take r.value after) 0 q → (q.number ≡ 0) × (q.next ≡ r.value) × (q.numbers ≡ tree)
   written-reads_back_as_gene_tree p = rw (write_read_gene w z p) (refl, refl, refl)
 
   -- as species text: where every species is there, and else "9 | `;` with a species missing | the `;`", the text's last byte (#104)
   pub written-reads_back_as_species_text :
-      Reads Species NoThreshold line (take r.value after) 0 q
+      Reads Species None line (take r.value after) 0 q
       → ((largest tree ≡ whole (length (names line))) × (q.number ≡ 0) × (q.next ≡ r.value) × (q.numbers ≡ tree))
       ⊎ ((largest tree ≡ whole (length (names line)) → ⊥) × (q.number ≡ 9) × (q.place + 1 ≡ r.value) × (get_or after q.place 0 ≡ 59))
   written-reads_back_as_species_text p = go (ℕ_discrete (largest tree) (whole (length (names line))))
@@ -166,7 +166,7 @@ module _ (line tree out : List ℕ) (r : Reply) (after : List ℕ) (q : Reading)
 pub read-written-read :
     (kind : Kind) (threshold : Threshold) (line text : List ℕ) (start : ℕ) (q : Reading) (out : List ℕ) (r : Reply) (after : List ℕ) (q' : Reading)
     → Reads kind threshold line text start q → q.number ≡ 0 → Writes line q.numbers out r after → r.number ≡ 0
-    → Reads kind NoThreshold line (take r.value after) 0 q'
+    → Reads kind None line (take r.value after) 0 q'
     → (q'.number ≡ 0) × SameClusters (listed q'.numbers) (listed q.numbers)
 read-written-read kind threshold line text start q out r after q' p z w y p' =
     let b = written-reads_back line q.numbers out r after q' w y kind (reads-zero kind threshold line text start p z).species p' in
@@ -174,8 +174,8 @@ read-written-read kind threshold line text start q out r after q' p z w y p' =
 
 -- no cluster is read twice
 clusters-read-once : (threshold : Threshold) (t : Tree) → NoneTwice (leaves t) → NoneTwice (clusters_read threshold t)
-clusters-read-once NoThreshold t once = clusters-once t once
-clusters-read-once (Below amount) t once = sublist_once (left_of_all (λ b. weak (Below amount) b) t) (clusters-once t once)
+clusters-read-once None t once = clusters-once t once
+clusters-read-once (Some amount) t once = sublist_once (left_of_all (λ b. weak (Some amount) b) t) (clusters-once t once)
 
 -- the clusters that were read say which record it is
 same_record :

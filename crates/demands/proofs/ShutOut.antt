@@ -22,8 +22,8 @@ use Rattle.roster.specs.Roster.{same, position, in_quotes, begins, beginnings, n
 use Rattle.roster.specs.Judged.{Judged}
 use Rattle.roster.specs.Verdict.{verdict, length_test}
 use Rattle.roster.specs.declared.Reply.{Reply}
-use Rattle.tokens.specs.declared.answer.Threshold.{Threshold}
-use Rattle.tokens.specs.declared.answer.Threshold.TheVariants.{NoThreshold, Below}
+use Rattle.tokens.specs.Supports.{Threshold}
+use Rattle.std.proofs.Common.{None, Some}
 use Rattle.tokens.specs.Supports.{supported}
 use Rattle.tokens.specs.Values.{leading, decimals, written_behind, written as writes, filled, too_fine, thousandths}
 use Rattle.tokens.specs.Tokens.{blanks, skip, number, number_behind, numbers, name, inner_name}
@@ -98,16 +98,16 @@ unfolding a_line a_text a_record Reads ones ones_in count_trailing_zeros whole s
     read_tree_to_by read_tree_by read_node_by next_is next_label blanks skip number number_behind numbers supported name inner_name run bare_letters letters letters_from
     doubled raw_to told padded up_to same position in_quotes begins beginnings name_at names stray_at long_at many_at again_at open_at fault_at least first_fault
     faulty keep some insert sorted record_for cluster clusters clusters_left too_fine decimals leading
-read_a Species NoThreshold r p = p
-read_a Species (Below amount) r p = p
-read_a Gene NoThreshold r p = p
-read_a Gene (Below amount) r p = p
+read_a Species None r p = p
+read_a Species (Some amount) r p = p
+read_a Gene None r p = p
+read_a Gene (Some amount) r p = p
 
 -- roster `a b`, of which `a;` has one species: a gene tree, but no species tree
 ab_line : List ℕ
 ab_line = 97 ∷ 32 ∷ 98 ∷ []
 
-read_a_of_two : (r : Reading) → Reads Species NoThreshold ab_line a_text 0 r → Reads Gene NoThreshold ab_line a_text 0 r → ⊥
+read_a_of_two : (r : Reading) → Reads Species None ab_line a_text 0 r → Reads Gene None ab_line a_text 0 r → ⊥
 unfolding ab_line a_text Reads ones ones_in count_trailing_zeros whole single union has within apart size lowest answer_within leaf_by closing_by read_tree_to_by
     read_tree_by read_node_by next_is next_label blanks skip number number_behind numbers supported name inner_name run bare_letters letters letters_from doubled raw_to
     told padded up_to same position in_quotes begins beginnings name_at names stray_at long_at many_at again_at open_at fault_at least first_fault faulty keep
@@ -118,7 +118,7 @@ read_a_of_two r p q = omega (arith, ap (λ (r : Reading). r.number) (sym p ∙ q
 half-text : List ℕ
 half-text = 40 ∷ 40 ∷ 97 ∷ 44 ∷ 98 ∷ 41 ∷ 58 ∷ 58 ∷ 48 ∷ 46 ∷ 53 ∷ 44 ∷ 99 ∷ 41 ∷ 59 ∷ []
 
-read-half : (kind : Kind) (r : Reading) → Reads kind (Below 500) abc-line half-text 0 r → Reads kind (Below 501) abc-line half-text 0 r → ⊥
+read-half : (kind : Kind) (r : Reading) → Reads kind (Some 500) abc-line half-text 0 r → Reads kind (Some 501) abc-line half-text 0 r → ⊥
 unfolding abc-line half-text Reads ones ones_in count_trailing_zeros whole single union has within apart size lowest answer_within leaf_by closing_by read_tree_to_by
     read_tree_by read_node_by next_is next_label blanks skip number number_behind numbers supported name inner_name run bare_letters letters letters_from doubled raw_to
     told padded up_to same position in_quotes begins beginnings name_at names stray_at long_at many_at again_at open_at fault_at least first_fault faulty keep
@@ -438,8 +438,8 @@ module _ (kind : Kind) (threshold : Threshold) (f : List ℕ → List ℕ → �
 -- "so the reading call is told the kind" (#104): without it, no function meets both promises
 pub reading_is_told_the_kind :
     (f : List ℕ → List ℕ → ℕ → Reading)
-    → ((line text : List ℕ) (start : ℕ) → ToRead line text start → Reads Species NoThreshold line text start (f line text start))
-    → ((line text : List ℕ) (start : ℕ) → ToRead line text start → Reads Gene NoThreshold line text start (f line text start)) → ⊥
+    → ((line text : List ℕ) (start : ℕ) → ToRead line text start → Reads Species None line text start (f line text start))
+    → ((line text : List ℕ) (start : ℕ) → ToRead line text start → Reads Gene None line text start (f line text start)) → ⊥
 reading_is_told_the_kind f species gene =
     read_a_of_two (f ab_line a_text 0) (species ab_line a_text 0 to_read_a_of_two) (gene ab_line a_text 0 to_read_a_of_two)
 
@@ -448,7 +448,7 @@ pub reading_is_told_the_threshold :
     (kind : Kind) (f : List ℕ → List ℕ → ℕ → Reading)
     → ((threshold : Threshold) (line text : List ℕ) (start : ℕ) → ToRead line text start → Reads kind threshold line text start (f line text start)) → ⊥
 reading_is_told_the_threshold kind f meets =
-    read-half kind (f abc-line half-text 0) (meets (Below 500) abc-line half-text 0 to_read_half) (meets (Below 501) abc-line half-text 0 to_read_half)
+    read-half kind (f abc-line half-text 0) (meets (Some 500) abc-line half-text 0 to_read_half) (meets (Some 501) abc-line half-text 0 to_read_half)
 
 -- ---- writing
 

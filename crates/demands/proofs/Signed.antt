@@ -14,7 +14,7 @@ use Rattle.trees.proofs.GeneRecords.{gene_of_species, largest_of_valid}
 use Rattle.roster.specs.Roster.{names, faulty}
 use Rattle.roster.specs.Judged.{species_most}
 use Rattle.roster.proofs.Names.{names-count}
-use Rattle.tokens.specs.declared.answer.Threshold.TheVariants.{NoThreshold}
+use Rattle.std.proofs.Common.{None}
 use Rattle.reader.specs.Promise.{Reads}
 use Rattle.reader.specs.Accepted.{MayHave}
 use Rattle.reader.specs.declared.Kind.{Kind}
@@ -88,7 +88,7 @@ module _ {n : ℕ} {genes : List (List ℕ)} {trees : List Tree} (all : Bool) (r
 -- the text of a species record is read back as species text, and as a gene tree too
 species-reads_back :
     (line : List ℕ) {r : List ℕ} → faulty species_most line ≡ false → SpeciesValid (length (names line)) r → (kind : Kind) {q : Reading}
-    → Reads kind NoThreshold line (written (names line) r) 0 q → q ≡ record { number = 0; place = 0; next = length (written (names line) r); numbers = r }
+    → Reads kind None line (written (names line) r) 0 q → q ≡ record { number = 0; place = 0; next = length (written (names line) r); numbers = r }
 species-reads_back line {r} good v kind h = reads_back line good gene kind (species kind) h
   where
     gene : GeneValid (length (names line)) r

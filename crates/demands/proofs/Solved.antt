@@ -23,8 +23,8 @@ use Rattle.reader.specs.Promise.{text_most}
 use Rattle.gather.specs.GeneTrees.{Gathered, gather}
 use Rattle.gather.specs.GeneTrees.Gathered.{gathered, stopped}
 use Rattle.report.specs.Input.{first_line, behind_line, ends_in_feed, trees_place, mode_word}
-use Rattle.report.specs.declared.modes.Mode.{Mode}
-use Rattle.report.specs.declared.modes.Mode.TheVariants.{Another, Over}
+use Rattle.report.specs.Program.{Mode}
+use Rattle.std.proofs.Common.{Option as Optional, Some, None}
 use Rattle.report.specs.Program.{mode_of, on_mode, on_feeds, on_species, on_roster, on_text, program}
 use Rattle.outcomes.specs.Outcome.{Outcome, program_most, outcome_of, searched, allowed_by, tree_place, on_rooting, with_genes, on_trees}
 use Rattle.outcomes.specs.Outcome.Outcome.{refused, solved}
@@ -141,9 +141,9 @@ module _ (input : List ℕ) {o : Outcome} (late : Late o) (short : length input 
   from_trees all rooting (gathered genes) mode g e =
       from_genes all rooting genes (tree_place (first_line input) (drop (trees_place input) input) (trees_place input)) mode g e
 
-  from_mode : (mode : Mode) → ModeTold (first_line (behind_line input)) mode → on_mode mode input ≡ o → Reached input o
-  from_mode Another told e = absurd (early late (λ k. omega arith) e)
-  from_mode (Over all rooting) told e = from_trees all rooting (gather (first_line input) (drop (trees_place input) input)) told refl e
+  from_mode : (mode : Optional Mode) → ModeTold (first_line (behind_line input)) mode → on_mode mode input ≡ o → Reached input o
+  from_mode None told e = absurd (early late (λ k. omega arith) e)
+  from_mode (Some (all, rooting)) told e = from_trees all rooting (gather (first_line input) (drop (trees_place input) input)) told refl e
 
 pub program-reached : (input : List ℕ) {o : Outcome} → Late o → program input ≡ o → Reached input o
 unfolding program

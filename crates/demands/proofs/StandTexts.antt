@@ -7,7 +7,7 @@ use mathlib.Core.List.{List}
 use native.Mathlib.Omega.{arith}
 use lib.ListN.{drop}
 use Rattle.roster.specs.Roster.{names}
-use Rattle.tokens.specs.declared.answer.Threshold.TheVariants.{NoThreshold}
+use Rattle.std.proofs.Common.{None}
 use Rattle.meanings.specs.Meaning.{Means}
 use Rattle.meanings.proofs.Refusals.{says_8}
 use Rattle.reader.specs.WidePromise.{wide_reading_of, ReadsWide}
@@ -22,7 +22,7 @@ use Rattle.demands.proofs.TextFaults.{fault_of_refusal, refusal_of_fault, plain-
 module _ (individuals text : List ℕ) (start : ℕ) (q : WideReading) (reads : ReadsWide individuals text start q) where
   -- what is refused has the fault that its number and place name
   pub stand-text-fault : (q.number ≡ 0 → ⊥) → StandTextFault individuals text start q.number q.place
-  stand-text-fault some = fault_of_refusal Gene NoThreshold individuals text start q.number q.place (stand-refused individuals text start q reads some).answered
+  stand-text-fault some = fault_of_refusal Gene None individuals text start q.number q.place (stand-refused individuals text start q reads some).answered
 
   -- and a text that has a fault is refused by it
   pub stand-refused_exactly :

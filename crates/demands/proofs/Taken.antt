@@ -26,7 +26,7 @@ use Rattle.reader.specs.Promise.{text_most}
 use Rattle.gather.specs.GeneTrees.{Gathered, gather}
 use Rattle.gather.specs.GeneTrees.Gathered.{gathered}
 use Rattle.report.specs.Input.{first_line, behind_line, ends_in_feed, trees_place, mode_word}
-use Rattle.report.specs.declared.modes.Mode.TheVariants.{Over}
+use Rattle.std.proofs.Common.{Some}
 use Rattle.report.specs.Program.{on_mode, program}
 use Rattle.outcomes.specs.Outcome.{Outcome, program_most, searched, allowed_by, tree_place, with_genes, on_trees, printed}
 use Rattle.outcomes.specs.Outcome.Outcome.{refused, solved}
@@ -83,7 +83,7 @@ module _ {input line : List ℕ} {all : Bool} {rooting : Rooting} {trees : List 
   good : faulty species_most (first_line input) ≡ false
   good = ap (faulty species_most) first ∙ h.roster_good
 
-  to_mode : program input ≡ on_mode (Over all rooting) input
+  to_mode : program input ≡ on_mode (Some (all, rooting)) input
   unfolding program
   to_mode =
       rw (

@@ -12,12 +12,13 @@ use Rattle.clusters.proofs.Members.{has-zero}
 use Rattle.trees.specs.Tree.{Tree}
 use Rattle.roster.specs.Roster.{names, faulty, first_fault}
 use Rattle.tokens.specs.Supports.{is_given}
-use Rattle.tokens.specs.declared.answer.Threshold.{Threshold}
-use Rattle.tokens.specs.declared.answer.Threshold.TheVariants.{NoThreshold}
+use Rattle.tokens.specs.Supports.{Threshold}
+use Rattle.std.proofs.Common.{None}
 use Rattle.tokens.specs.Answers.{Answer}
 use Rattle.tokens.specs.Answers.Answer.{parsed, refused}
 use Rattle.nodes.proofs.Answers.{refused-parsed}
-use Rattle.reader.specs.Promise.{Limits, text_most, needed, from_start, in_limit, on_roster, answer_within}
+use Rattle.reader.specs.declared.Limits.{Limits}
+use Rattle.reader.specs.Promise.{text_most, needed, from_start, in_limit, on_roster, answer_within}
 use Rattle.reader.specs.declared.Kind.{Kind}
 use Rattle.reader.specs.declared.Kind.TheVariants.{Gene}
 use Rattle.meanings.specs.Meaning.{Means}
@@ -85,7 +86,7 @@ fault-numbers {limits} {kind} {threshold} {line} {text} {start} {number} (as_met
 
 -- without a threshold they are those from 1 to 10
 pub plain-fault-numbers :
-    {limits : Limits} {kind : Kind} {line text : List ℕ} {start number place : ℕ} → TextFaultWithin limits kind NoThreshold line text start number place → (1 ≤ number) × (number ≤ 10)
+    {limits : Limits} {kind : Kind} {line text : List ℕ} {start number place : ℕ} → TextFaultWithin limits kind None line text start number place → (1 ≤ number) × (number ≤ 10)
 plain-fault-numbers {number = number} f = let k = fault-numbers f in (k.0, by k.1)
   where
     by : (number ≤ 10) ⊎ ((number ≡ 18) × (false ≡ true)) → number ≤ 10

@@ -16,8 +16,8 @@ use Rattle.trees.proofs.Lent.{length-records_in}
 use Rattle.roster.specs.Roster.{names}
 use Rattle.roster.specs.Verdict.{Verdict, verdict, reply_of}
 use Rattle.roster.specs.declared.Reply.{Reply}
-use Rattle.tokens.specs.declared.answer.Threshold.{Threshold}
-use Rattle.tokens.specs.declared.answer.Threshold.TheVariants.{NoThreshold, Below}
+use Rattle.tokens.specs.Supports.{Threshold}
+use Rattle.std.proofs.Common.{None, Some}
 use Rattle.reader.specs.Promise.{Reads}
 use Rattle.reader.specs.declared.Kind.{Kind}
 use Rattle.reader.specs.declared.Kind.TheVariants.{Gene}
@@ -47,10 +47,10 @@ thinned_by_higher :
     {threshold threshold' : Threshold} → Raised threshold threshold' → (kind : Kind) (line text : List ℕ) (start : ℕ) (r r' : Reading)
     → Reads kind threshold line text start r → Reads kind threshold' line text start r' → r.number ≡ 0 → r'.number ≡ 0 → Thinned r.numbers r'.numbers
 thinned_by_higher (no_lower {m} {n} l) kind line text start r r' p p' z z' = (higher_drops_more kind line text start r r' m n l p p').numbers_thinned z
-thinned_by_higher (from_none {threshold = Below amount}) kind line text start r r' p p' z z' =
+thinned_by_higher (from_none {threshold = Some amount}) kind line text start r r' p p' z z' =
     (given_drops kind line text start r r' amount p p' (λ e. omega arith)).numbers_thinned z
-thinned_by_higher (from_none {threshold = NoThreshold}) kind line text start r r' p p' z z' =
-    let same = ap (λ (r : Reading). r.numbers) (read-once kind NoThreshold line text start r r' p p') in
+thinned_by_higher (from_none {threshold = None}) kind line text start r r' p p' z z' =
+    let same = ap (λ (r : Reading). r.numbers) (read-once kind None line text start r r' p p') in
     record { same_species = rw same refl; fewer = λ x m. rw same m }
 
 -- "a higher threshold never leaves a cluster that a lower one dropped" (#113): each cluster that is read with the higher one is read with the lower one

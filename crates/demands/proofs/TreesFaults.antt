@@ -13,7 +13,7 @@ use Rattle.labels.specs.Bytes.{is_blank}
 use Rattle.labels.proofs.Runs.{run-off}
 use Rattle.trees.specs.Tree.{Tree, clusters}
 use Rattle.trees.specs.Records.{record_of}
-use Rattle.tokens.specs.declared.answer.Threshold.TheVariants.{NoThreshold}
+use Rattle.std.proofs.Common.{None}
 use Rattle.tokens.specs.Tokens.{blanks, skip}
 use Rattle.nodes.proofs.Exact.{blanks-skip}
 use Rattle.reader.specs.Promise.{Reads}
@@ -72,14 +72,14 @@ module _ (line txt : List ℕ) where
 -- a 513th tree, or a text from b on that has the fault of the number, at the place in the input
 pub trees-fault-means :
     {line txt : List ℕ} {shift number place : ℕ} → TreesFault line txt shift number place
-    → (number ≡ 17) ⊎ ((b : ℕ) × (q : ℕ) × TextFault Gene NoThreshold line txt b number q × (place ≡ shift + q))
-trees-fault-means {line} {txt} (refused_tree {b = b} r h few reads f) = inr (b, r.place, (read-refused Gene NoThreshold line txt b r reads f).0, refl)
+    → (number ≡ 17) ⊎ ((b : ℕ) × (q : ℕ) × TextFault Gene None line txt b number q × (place ≡ shift + q))
+trees-fault-means {line} {txt} (refused_tree {b = b} r h few reads f) = inr (b, r.place, (read-refused Gene None line txt b r reads f).0, refl)
 trees-fault-means (tree_513 h full) = inl refl
 
 -- "14" is not said of a tree's text
 pub stopped-early : (line txt : List ℕ) {number place : ℕ} → gather line txt ≡ stopped number place → number ≡ 14 → ⊥
 stopped-early line txt {number} {place} e f = go (trees-fault-means (stopped-fault line txt 0 e))
   where
-    go : (number ≡ 17) ⊎ ((b : ℕ) × (q : ℕ) × TextFault Gene NoThreshold line txt b number q × (0 + place ≡ 0 + q)) → ⊥
+    go : (number ≡ 17) ⊎ ((b : ℕ) × (q : ℕ) × TextFault Gene None line txt b number q × (0 + place ≡ 0 + q)) → ⊥
     go (inl k) = omega arith
     go (inr h) = omega (arith, plain-fault-numbers h.2)

@@ -20,9 +20,9 @@ use Rattle.weights.specs.declared.Rooting.{Rooting}
 use Rattle.weights.specs.declared.Rooting.TheVariants.{Rooted, Unrooted}
 use Rattle.report.specs.Input.{line_length, first_line, behind_line, ends_in_feed, mode_place, trees_place, mode_word}
 use Rattle.report.specs.Program.{mode_by, mode_of}
-use Rattle.report.specs.declared.modes.Mode.{Mode}
-use Rattle.report.specs.declared.modes.Mode.TheVariants.{Another, Over}
-use Rattle.report.proofs.Bytewise.{line-within}
+use Rattle.report.specs.Program.{Mode}
+use Rattle.std.proofs.Common.{Option, Some, None}
+use Rattle.report.proofs.InputParts.{line-within}
 
 -- ---- where a run ends
 
@@ -110,9 +110,9 @@ mode-line false Unrooted = refl
 -- ---- the mode that a line asks for
 
 -- what is known of a line by its mode: it is the mode's word, or none of the four
-abbrev pub ModeTold : List ℕ → Mode → Type 0
-ModeTold w (Over all rooting) = w ≡ mode_word all rooting
-ModeTold w Another = (all : Bool) (rooting : Rooting) → w ≡ mode_word all rooting → ⊥
+abbrev pub ModeTold : List ℕ → Option Mode → Type 0
+ModeTold w (Some (all, rooting)) = w ≡ mode_word all rooting
+ModeTold w None = (all : Bool) (rooting : Rooting) → w ≡ mode_word all rooting → ⊥
 
 -- a line is known by the mode that it asks for
 pub mode-told : (w : List ℕ) → ModeTold w (mode_of w)
@@ -139,7 +139,7 @@ mode-told w =
         none false Unrooted = other (mode_word false Unrooted) s
 
 -- each of the four words asks for its own mode
-pub mode_of_word : (all : Bool) (rooting : Rooting) → mode_of (mode_word all rooting) ≡ Over all rooting
+pub mode_of_word : (all : Bool) (rooting : Rooting) → mode_of (mode_word all rooting) ≡ Some (all, rooting)
 unfolding mode_of same
 mode_of_word true Rooted = refl
 mode_of_word false Rooted = refl

@@ -4,7 +4,7 @@ use mathlib.Core.Path.{◌≡◌, refl, sym, ap, ◌∙◌, subst}
 use mathlib.Core.Bool.{Bool, true, ◌&&◌}
 use mathlib.Core.List.Memᴰ
 use mathlib.Core.List.Memᴰ.{head as here}
-use mathlib.Core.List.{List, [], ◌∷◌, ◌++◌, map, map-append, append_assoc, Memᴰ}
+use mathlib.Core.List.{List, [], ◌∷◌, ◌++◌, map-append, append_assoc, Memᴰ}
 use native.Mathlib.Decide.{dec_lt}
 use native.Mathlib.Omega.{arith}
 use lib.ListN.{length, get_or, length-append, length-map, get_or-append}
@@ -17,7 +17,7 @@ use Rattle.trees.specs.Unrooted.{may_unroot}
 use Rattle.trees.proofs.Booleans.{both, unless, never_both}
 use Rattle.trees.proofs.Places.{among_at}
 use Rattle.roster.specs.Roster.{names}
-use Rattle.tokens.specs.declared.answer.Threshold.TheVariants.{NoThreshold}
+use Rattle.std.proofs.Common.{None}
 use Rattle.tokens.specs.Answers.{Answer}
 use Rattle.tokens.specs.Answers.Answer.{parsed}
 use Rattle.reader.specs.Promise.{reading_of, answer_to}
@@ -33,7 +33,9 @@ use Rattle.gather.proofs.Beginnings.{begins_next}
 use Rattle.outcomes.specs.Outcome.{tree_place}
 use Rattle.report.specs.Input.{mode_word}
 use Rattle.report.specs.Program.{mode_of}
-use Rattle.report.specs.declared.modes.Mode.TheVariants.{Over}
+use Rattle.std.proofs.Common.{Option, Some}
+use Rattle.std.proofs.lemmas.Option.{same_Some}
+use Rattle.report.specs.Program.{Mode}
 use Rattle.demands.specs.GeneTrees.{OnSome}
 use Rattle.demands.specs.Input.{TreesTo, TreesStand}
 use Rattle.demands.specs.Input.TreesTo.{no_tree_yet, with_more}
@@ -57,7 +59,7 @@ module _ (line text : List ℕ) where
       let l : length (trees ++ (t ∷ [])) ≡ suc (length trees) = omega (arith, length-append trees (t ∷ [])) in
       let ends : end_of line text (begins_at (length trees) line text 0) ≡ next =
       ap (end_of line text) (sym (begins_behind earlier))
-      ∙ ap (λ (a : Answer Tree). (reading_of NoThreshold (begun text at) a).next) (reads_from_begun line text at d j).1
+      ∙ ap (λ (a : Answer Tree). (reading_of None (begun text at) a).next) (reads_from_begun line text at d j).1
       in
       sym (ap (λ (k : ℕ). begins_at k line text 0) l ∙ begins_next line text (length trees) 0 ∙ ap (begun text) ends)
 
@@ -73,8 +75,8 @@ module _ (line text : List ℕ) where
     inside : begun text at < length text
     rest : List ℕ
     next : ℕ
-    draws : Draws Gene NoThreshold line text (begun text at) tree rest
-    read : answer_to Gene NoThreshold line text (begins_at i line text 0) ≡ parsed tree rest next
+    draws : Draws Gene None line text (begun text at) tree rest
+    read : answer_to Gene None line text (begins_at i line text 0) ≡ parsed tree rest next
 
   parted : {trees : List Tree} {end : ℕ} → TreesTo line text trees end → (i : ℕ) → i < length trees → Parted trees i
   parted no_tree_yet i h = absurd (omega arith)
@@ -112,7 +114,7 @@ module _ (line text : List ℕ) where
             rest = rest;
             next = next;
             draws = draws_from_begun line text at d;
-            read = ap (answer_to Gene NoThreshold line text) (sym (begins_behind earlier ∙ ap (λ (k : ℕ). begins_at k line text 0) last)) ∙ r.1;
+            read = ap (answer_to Gene None line text) (sym (begins_behind earlier ∙ ap (λ (k : ℕ). begins_at k line text 0) last)) ∙ r.1;
           }
 
   parted_begins : {trees : List Tree} {i : ℕ} (p : Parted trees i) → begun text p.at ≡ begins_at i line text 0
@@ -149,7 +151,8 @@ same_tree {t = t} {u = u} {rest = rest} {rest' = rest'} {q = q} {q' = q'} e e' =
 -- how the gene trees are counted, a mode's word says
 rooting_of : (all all' : Bool) (rooting rooting' : Rooting) → mode_word all rooting ≡ mode_word all' rooting' → rooting ≡ rooting'
 rooting_of all all' rooting rooting' e =
-    let s : Over all rooting ≡ Over all' rooting' = sym (mode_of_word all rooting) ∙ ap mode_of e ∙ mode_of_word all' rooting' in cc
+    let s : ◌≡◌ {A = Option Mode} (Some (all, rooting)) (Some (all', rooting')) = sym (mode_of_word all rooting) ∙ ap mode_of e ∙ mode_of_word all' rooting' in
+    ap (λ (m : Mode). m.1) (same_Some (all, rooting) (all', rooting') s)
 
 module _ (line text : List ℕ) (shift : ℕ) {trees : List Tree} (stand : TreesStand line text trees) (few : length (names line) ≤ 16) where
   abbrev n : ℕ
@@ -163,7 +166,7 @@ module _ (line text : List ℕ) (shift : ℕ) {trees : List Tree} (stand : Trees
 
   -- the tree that begins at an offset behind others is that of their number
   module _ {others : List Tree} {t : Tree} {b : ℕ} {rest : List ℕ} (more : MoreBehind line text others b)
-      (draws : Draws Gene NoThreshold line text b t rest) where
+      (draws : Draws Gene None line text b t rest) where
     begins_there : b ≡ begins_at (length others) line text 0
     begins_there = sym (begins_at_lem line text more) ∙ begins_behind line text more.trees_reach
 
@@ -187,9 +190,9 @@ module _ (line text : List ℕ) (shift : ℕ) {trees : List Tree} (stand : Trees
     there : get_or (records_of trees) (length others) [] ≡ record_of (clusters t)
     there =
         let p = parted line text stand.trees_reach (length others) within in
-        let e = derives-accepted Gene NoThreshold line text b draws in
+        let e = derives-accepted Gene None line text b draws in
         parted_record line text p
-        ∙ ap (λ (u : Tree). record_of (clusters u)) (same_tree p.read (ap (answer_to Gene NoThreshold line text) (sym begins_there) ∙ e))
+        ∙ ap (λ (u : Tree). record_of (clusters u)) (same_tree p.read (ap (answer_to Gene None line text) (sym begins_there) ∙ e))
 
     others_there : (j : ℕ) → j < length others → (u : Tree) × Memᴰ u others × (get_or (records_of trees) j [] ≡ record_of (clusters u))
     others_there j l =

@@ -1,6 +1,6 @@
 -- Trees that come with branch counts (#114): what goes with a yes, by what the single calls reply, and what the writer with counts accepts.
 use Rattle.std.specs.Prelude.{ℕ, ◌+◌, ◌*◌, ◌^◌, ◌≤◌, ◌<◌, ◌≡◌, ◌↔◌, false, length, get_or, take}
-use Rattle.std.proofs.Math.Option.{Option, some}
+use Rattle.std.specs.Prelude.{Option, Some}
 use mathlib.Core.List.{List, map, Memᴰ}
 use Rattle.trees.specs.Tree.{Tree, cluster, clusters}
 use Rattle.trees.specs.Thinned.{all_nodes}
@@ -8,8 +8,7 @@ use Rattle.trees.specs.Records.{record_of, records_in}
 use Rattle.roster.specs.Roster.{names, faulty}
 use Rattle.roster.specs.Judged.{species_most}
 use Rattle.roster.specs.declared.Reply.{Reply}
-use Rattle.tokens.specs.declared.answer.Threshold.TheVariants.{NoThreshold}
-use Rattle.tokens.specs.declared.answer.Value.TheVariants.{Thousandths}
+use Rattle.std.specs.Prelude.{None, Some}
 use Rattle.nodes.specs.Worth.{behind_of, distance_value}
 use Rattle.reader.specs.Accepted.{Draws}
 use Rattle.reader.specs.declared.Kind.TheVariants.{Species}
@@ -37,7 +36,7 @@ counts_of t = map (λ (u : Tree). count_in (behind_of u)) (all_nodes t)
 
 -- "each number is the weight of that node's cluster" (#114), by the call that weighs
 pub record CountsWeighed (n : ℕ) (genes : List ℕ) (count : ℕ) (t : Tree) : Type 0 where
-  pub each : (u : Tree) → Memᴰ u (all_nodes t) → (w : Reply) → Weighs Rooted n genes count (cluster u) w → (w.number ≡ 0) × (count_in (behind_of u) ≡ some w.value)
+  pub each : (u : Tree) → Memᴰ u (all_nodes t) → (w : Reply) → Weighs Rooted n genes count (cluster u) w → (w.number ≡ 0) × (count_in (behind_of u) ≡ Some w.value)
 
 -- what the reader makes of a text that passes, its counts read as distances (#114): the record of the tree that is drawn, whose nodes have the weights of their clusters
 -- as distances, in thousandths
@@ -45,10 +44,10 @@ pub record CountsAsDistances (line text : List ℕ) (start : ℕ) (genes : List 
   pub is_read : q.number ≡ 0
   pub tree : Tree
   pub rest : List ℕ
-  pub draws : Draws Species NoThreshold line text start tree rest
+  pub draws : Draws Species None line text start tree rest
   pub numbers : q.numbers ≡ record_of (clusters tree)
   pub distances :
-      (u : Tree) → Memᴰ u (all_nodes tree) → distance_value u ≡ Thousandths (1000 * weight_in genes count (cluster u))
+      (u : Tree) → Memᴰ u (all_nodes tree) → distance_value u ≡ Some (1000 * weight_in genes count (cluster u))
 
 -- "With a yes goes the distance of its score above the least one over all clusters" (#114), by the calls that score and search
 pub record GoesWithYes (n : ℕ) (genes : List ℕ) (count : ℕ) (tree : List ℕ) (distance : ℕ) : Type 0 where

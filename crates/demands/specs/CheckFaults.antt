@@ -3,7 +3,7 @@ use Rattle.std.specs.Prelude.{ℕ, ◌*◌, ◌^◌, List, length}
 use Rattle.trees.specs.Tree.{Tree, Binary}
 use Rattle.trees.specs.Records.{records_in}
 use Rattle.roster.specs.Roster.{names}
-use Rattle.tokens.specs.declared.answer.Threshold.TheVariants.{NoThreshold}
+use Rattle.std.specs.Prelude.{None}
 use Rattle.reader.specs.Accepted.{Draws}
 use Rattle.reader.specs.declared.Kind.TheVariants.{Species}
 use Rattle.counts.specs.Passes.{FirstFault}
@@ -12,7 +12,7 @@ use Rattle.demands.specs.TextFaults.{TextFault}
 
 -- "16 (the tree drawn is not binary)"
 pub data UnresolvedFault (line text : List ℕ) (start : ℕ) : ℕ → ℕ → Type 0 where
-  not_binary : {t : Tree} {rest : List ℕ} → Draws Species NoThreshold line text start t rest → (Binary t → ⊥) → UnresolvedFault line text start 16 0
+  not_binary : {t : Tree} {rest : List ℕ} → Draws Species None line text start t rest → (Binary t → ⊥) → UnresolvedFault line text start 16 0
 
 -- "23 for a missing, fractional or wrong count or a second number, of the first such node to end" (#114)
 pub data CountsFault (line text : List ℕ) (start : ℕ) (genes : List ℕ) (count : ℕ) : ℕ → ℕ → Type 0 where
@@ -29,4 +29,4 @@ BehindReading line text start genes count scores splits =
 -- "after the reader's own, 11, 12, 16 and 15" (#114)
 abbrev pub CheckFault : List ℕ → List ℕ → ℕ → List ℕ → ℕ → List ℕ → List ℕ → ℕ → ℕ → Type 0
 CheckFault line text start genes count scores splits =
-    TextFault Species NoThreshold line text start before BehindReading line text start genes count scores splits
+    TextFault Species None line text start before BehindReading line text start genes count scores splits

@@ -5,9 +5,8 @@ use Rattle.trees.specs.Valid.{among}
 use Rattle.roster.specs.Roster.{names, same}
 use Rattle.trees.specs.Lists.{up_to}
 use Rattle.tokens.specs.Values.{thousandths}
-use Rattle.tokens.specs.declared.answer.Value.{Value}
-use Rattle.tokens.specs.declared.answer.Value.TheVariants.{Thousandths, NoValue}
-use Rattle.tokens.specs.declared.answer.Threshold.TheVariants.{NoThreshold, Below}
+use Rattle.tokens.specs.Values.{Value}
+use Rattle.std.specs.Prelude.{None, Some}
 use Rattle.reader.specs.Promise.{answer_to, reading_of}
 use Rattle.reader.specs.declared.Kind.{Kind}
 use Rattle.reader.specs.declared.Kind.TheVariants.{Species, Gene}
@@ -42,7 +41,7 @@ pub data Row : Type 0 where
 
 -- the record that a text of the kind reads to
 unfoldable pub record_in : Kind → List ℕ → List ℕ → List ℕ
-record_in kind line text = (reading_of NoThreshold 0 (answer_to kind NoThreshold line text 0)).numbers
+record_in kind line text = (reading_of None 0 (answer_to kind None line text 0)).numbers
 
 -- the allowed set as bytes
 abbrev pub bytes_of : Rooting → Allowed → ℕ → List (List ℕ) → List ℕ
@@ -67,14 +66,14 @@ ties_in rooting line genes allowed =
 
 -- two values are the same
 abbrev pub same_value : Value → Value → Bool
-same_value NoValue NoValue = true
-same_value NoValue (Thousandths n) = false
-same_value (Thousandths m) NoValue = false
-same_value (Thousandths m) (Thousandths n) = eqb m n
+same_value None None = true
+same_value None (Some n) = false
+same_value (Some m) None = false
+same_value (Some m) (Some n) = eqb m n
 
 -- what a text reads to as a gene tree with a threshold
 unfoldable pub reading_below : ℕ → List ℕ → List ℕ → Reading
-reading_below amount line text = reading_of (Below amount) 0 (answer_to Gene (Below amount) line text 0)
+reading_below amount line text = reading_of (Some amount) 0 (answer_to Gene (Some amount) line text 0)
 
 -- the row says what the definitions give
 unfoldable pub holds : Row → Bool

@@ -6,7 +6,7 @@ use Rattle.trees.specs.Lists.{Among}
 use Rattle.trees.specs.Tree.{Tree}
 use Rattle.roster.specs.Roster.{names, faulty}
 use Rattle.roster.specs.Judged.{species_most}
-use Rattle.tokens.specs.declared.answer.Threshold.TheVariants.{NoThreshold}
+use Rattle.std.specs.Prelude.{None}
 use Rattle.nodes.specs.Grammar.{Blanks}
 use Rattle.reader.specs.Promise.{text_most}
 use Rattle.reader.specs.declared.Kind.TheVariants.{Gene}
@@ -23,7 +23,7 @@ pub data TreesTo (line text : List ℕ) : List Tree → ℕ → Type 0 where
   no_tree_yet : TreesTo line text [] 0
   with_more :
       {trees : List Tree} {at next : ℕ} {t : Tree} {rest : List ℕ}
-      → TreesTo line text trees at → Draws Gene NoThreshold line text at t rest → JustBehind text at rest next → TreesTo line text (trees ++ (t ∷ [])) next
+      → TreesTo line text trees at → Draws Gene None line text at t rest → JustBehind text at rest next → TreesTo line text (trees ++ (t ∷ [])) next
 
 -- "then trees until only blanks remain"
 pub record TreesStand (line text : List ℕ) (trees : List Tree) : Type 0 where

@@ -1,6 +1,6 @@
 -- Lots of gene trees (#102, "Two batches of loci"): a search over each of them, and one over the whole.
 use Rattle.std.specs.Prelude.{ℕ, ◌*◌, ◌^◌, ◌≤◌, ◌≡◌, ◌⊎◌, length, take}
-use mathlib.Core.List.{List, [], ◌∷◌, map, Memᴰ}
+use mathlib.Core.List.{List, map, Memᴰ}
 use Rattle.trees.specs.Lists.{total, InAnyOrder}
 use Rattle.trees.specs.Records.{records_in}
 use Rattle.splits.specs.BinaryTrees.{each}

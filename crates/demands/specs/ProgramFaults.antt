@@ -4,7 +4,7 @@ use mathlib.Core.List.{List, [], ◌∷◌, ◌++◌, Memᴰ}
 use Rattle.labels.specs.Bytes.{is_blank}
 use Rattle.trees.specs.Tree.{Tree}
 use Rattle.roster.specs.Roster.{names}
-use Rattle.tokens.specs.declared.answer.Threshold.TheVariants.{NoThreshold}
+use Rattle.std.specs.Prelude.{None}
 use Rattle.nodes.specs.Grammar.{Blanks}
 use Rattle.reader.specs.Promise.{text_most, Reads}
 use Rattle.reader.specs.declared.Kind.TheVariants.{Gene}
@@ -50,7 +50,7 @@ pub data TreesFault (line text : List ℕ) (shift : ℕ) : ℕ → ℕ → Type 
   -- behind fewer than 512 trees stands what the reader refuses as a gene tree
   refused_tree :
       {trees : List Tree} {b : ℕ} (r : Reading) → MoreBehind line text trees b → length trees < genes_most
-      → Reads Gene NoThreshold line text b r → (r.number ≡ 0 → ⊥)
+      → Reads Gene None line text b r → (r.number ≡ 0 → ⊥)
       → TreesFault line text shift r.number (shift + r.place)
   -- "a 513th tree is 17 at its first byte that is no blank, before it is read"
   tree_513 : {trees : List Tree} {b : ℕ} → MoreBehind line text trees b → length trees ≡ genes_most → TreesFault line text shift 17 (shift + b)
@@ -63,7 +63,7 @@ pub data NoGeneTreeFault (text : List ℕ) : ℕ → ℕ → Type 0 where
 pub data UnresolvedFault (line mode text : List ℕ) (shift : ℕ) : ℕ → ℕ → Type 0 where
   unresolved_or_incomplete :
       (all : Bool) {trees : List Tree} {t : Tree} {b : ℕ} {rest : List ℕ} → mode ≡ mode_word all Unrooted → MoreBehind line text trees b
-      → ((u : Tree) → Memᴰ u trees → Enters (length (names line)) u) → Draws Gene NoThreshold line text b t rest → (Enters (length (names line)) t → ⊥)
+      → ((u : Tree) → Memᴰ u trees → Enters (length (names line)) u) → Draws Gene None line text b t rest → (Enters (length (names line)) t → ⊥)
       → UnresolvedFault line mode text shift 19 (shift + b)
 
 -- "14 | no binary tree over the allowed clusters | 0"

@@ -1,5 +1,5 @@
 -- A sheet of candidate trees (#107): what an entry gets.
-use Rattle.std.specs.Prelude.{ℕ, ◌+◌, ◌*◌, ◌≤◌, ◌<◌, List, length}
+use Rattle.std.specs.Prelude.{ℕ, ◌+◌, ◌*◌, ◌≤◌, List, length}
 use Rattle.clusters.specs.Sets.{whole}
 use Rattle.trees.specs.Records.{SpeciesValid, BinaryOn, records_in}
 use Rattle.roster.specs.declared.Reply.{Reply}

@@ -5,7 +5,7 @@ use Rattle.trees.specs.Lists.{Among}
 use Rattle.trees.specs.Tree.{Tree}
 use Rattle.trees.specs.Records.{listed, SpeciesValid, BinaryOn}
 use Rattle.roster.specs.Roster.{names}
-use Rattle.tokens.specs.declared.answer.Threshold.TheVariants.{NoThreshold}
+use Rattle.std.specs.Prelude.{None}
 use Rattle.reader.specs.Promise.{Reads}
 use Rattle.reader.specs.declared.Kind.{Kind}
 use Rattle.reader.specs.declared.Reading.{Reading}
@@ -65,7 +65,7 @@ pub record Signed (input : List ℕ) (n m s t : ℕ) (r : List ℕ) : Type 0 whe
   pub ties : NumberOf (Reaches n all rooting trees s) t
   -- the tree's text, read on the roster as either kind, gives that very tree
   pub reads_back :
-      (kind : Kind) (q : Reading) → Reads kind NoThreshold line (written (names line) r) 0 q
+      (kind : Kind) (q : Reading) → Reads kind None line (written (names line) r) 0 q
       → q ≡ record { number = 0; place = 0; next = length (written (names line) r); numbers = r }
   -- and the output is four lines: species and gene trees, the score, "after the score .. `ties` and the number" (#111), the tree
   pub lines :

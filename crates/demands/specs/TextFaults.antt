@@ -2,9 +2,10 @@
 use Rattle.std.specs.Prelude.{ℕ, ◌≤◌, ◌<◌, ◌≡◌, false, List, length, drop}
 use Rattle.roster.specs.Roster.{names, faulty}
 use Rattle.tokens.specs.Supports.{is_given}
-use Rattle.tokens.specs.declared.answer.Threshold.{Threshold}
-use Rattle.tokens.specs.declared.answer.Threshold.TheVariants.{NoThreshold}
-use Rattle.reader.specs.Promise.{Limits, narrow, text_most, needed}
+use Rattle.tokens.specs.Supports.{Threshold}
+use Rattle.std.specs.Prelude.{None}
+use Rattle.reader.specs.Promise.{narrow, text_most, needed}
+use Rattle.reader.specs.declared.Limits.{Limits}
 use Rattle.reader.specs.WidePromise.{wide}
 use Rattle.reader.specs.declared.Kind.{Kind}
 use Rattle.reader.specs.declared.Kind.TheVariants.{Gene}
@@ -34,4 +35,4 @@ TextFault kind threshold line text start = TextFaultWithin narrow kind threshold
 
 -- of a gene tree on individuals: "the second roster gives 1 for a fault or a thirty-third name"; "8 is for the thirty-second parenthesis" (#110)
 abbrev pub StandTextFault : List ℕ → List ℕ → ℕ → ℕ → ℕ → Type 0
-StandTextFault individuals text start = TextFaultWithin wide Gene NoThreshold individuals text start
+StandTextFault individuals text start = TextFaultWithin wide Gene None individuals text start

@@ -1,16 +1,16 @@
 -- Gene trees read with thresholds (#113): thresholds in their order, and the same texts read with two of them.
 use Rattle.std.specs.Prelude.{ℕ, ◌≤◌, ◌≡◌, List, [], ◌∷◌}
 use Rattle.trees.specs.Records.{records_in}
-use Rattle.tokens.specs.declared.answer.Threshold.{Threshold}
-use Rattle.tokens.specs.declared.answer.Threshold.TheVariants.{NoThreshold, Below}
+use Rattle.tokens.specs.Supports.{Threshold}
+use Rattle.std.specs.Prelude.{None, Some}
 use Rattle.reader.specs.Promise.{Reads}
 use Rattle.reader.specs.declared.Kind.TheVariants.{Gene}
 use Rattle.reader.specs.declared.Reading.{Reading}
 
 -- "a higher threshold" (#113), or the same: one is given where none was, or it is no lower than it was
 pub data Raised : Threshold → Threshold → Type 0 where
-  from_none : {threshold : Threshold} → Raised NoThreshold threshold
-  no_lower : {m n : ℕ} → m ≤ n → Raised (Below m) (Below n)
+  from_none : {threshold : Threshold} → Raised None threshold
+  no_lower : {m n : ℕ} → m ≤ n → Raised (Some m) (Some n)
 
 -- a gene tree to be read: the text that it stands in, and the offset from which on it does
 pub record TreeAt : Type 0 where

@@ -8,7 +8,7 @@ use lib.ListN.{length, get_or, length-append, get_or-append}
 use lib.Seq.{get_or_at}
 use Rattle.trees.specs.Tree.{Tree, clusters}
 use Rattle.trees.specs.Records.{record_of}
-use Rattle.tokens.specs.declared.answer.Threshold.TheVariants.{NoThreshold}
+use Rattle.std.proofs.Common.{None}
 use Rattle.tokens.specs.Answers.Answer.{parsed}
 use Rattle.reader.specs.Promise.{answer_to, reading_of, Reads}
 use Rattle.reader.specs.declared.Kind.TheVariants.{Gene}
@@ -34,7 +34,7 @@ passed_none {line} {trees} {index} e =
 module _ {line trees : List ℕ} {index at i : ℕ} (now : Passed line trees index at i) where
   -- one is read again, and passed
   pub passed_more :
-      {at' : ℕ} (r : Reading) → i < index → Reads Gene NoThreshold line trees at r → at' ≡ begun trees r.next → Passed line trees index at' (i + 1)
+      {at' : ℕ} (r : Reading) → i < index → Reads Gene None line trees at r → at' ≡ begun trees r.next → Passed line trees index at' (i + 1)
   unfolding Reads begins_at
   passed_more r h read e =
       let turns : index - i ≡ suc (index - (i + 1)) = omega arith in
@@ -67,7 +67,7 @@ pub record ReadAt (line trees : List ℕ) (p : ℕ) (g : List ℕ) : Type 0 wher
   pub tree : Tree
   pub rest : List ℕ
   pub next : ℕ
-  pub read : answer_to Gene NoThreshold line trees p ≡ parsed tree rest next
+  pub read : answer_to Gene None line trees p ≡ parsed tree rest next
   pub recorded : g ≡ record_of (clusters tree)
 
 -- each of these trees was read where the tree of its index begins, and the next begins behind `at`
@@ -78,11 +78,11 @@ record BegunTo (line trees : List ℕ) (genes : List (List ℕ)) (at : ℕ) : Ty
 module _ (line trees : List ℕ) where
   with_more :
       {genes : List (List ℕ)} {at : ℕ} {t : Tree} {rest : List ℕ} {q : ℕ} → BegunTo line trees genes at → begun trees at < length trees
-      → answer_to Gene NoThreshold line trees (begun trees at) ≡ parsed t rest q → BegunTo line trees (genes ++ (record_of (clusters t) ∷ [])) q
+      → answer_to Gene None line trees (begun trees at) ≡ parsed t rest q → BegunTo line trees (genes ++ (record_of (clusters t) ∷ [])) q
   with_more {genes} {at} {t} {rest} {q} now inside e =
       let l : length (genes ++ (record_of (clusters t) ∷ [])) ≡ suc (length genes) = omega (arith, length-append genes (record_of (clusters t) ∷ [])) in
       let ends : end_of line trees (begins_at (length genes) line trees 0) ≡ q =
-      ap (end_of line trees) (sym now.next) ∙ ap (λ a. (reading_of NoThreshold (begun trees at) a).next) e
+      ap (end_of line trees) (sym now.next) ∙ ap (λ a. (reading_of None (begun trees at) a).next) e
       in
       record {
         next = sym (ap (λ (k : ℕ). begins_at k line trees 0) l ∙ begins_next line trees (length genes) 0 ∙ ap (begun trees) ends);

@@ -8,9 +8,14 @@ use lib.ListN.{length, length-append}
 use lib.Seq.{sets, length-sets}
 use lib.Dec.{leb}
 use borrow.Author.Tests.{le-leb, lt-leb, leb-false}
+use Rattle.faults.specs.Faults.{number}
+use Rattle.faults.specs.declared.Fault.TheVariants.{TooLarge}
+use Rattle.faults.specs.declared.Refusal.{Refusal}
 use Rattle.trees.specs.Lists.{pieces}
-use Rattle.tokens.specs.declared.answer.Threshold.TheVariants.{NoThreshold}
-use Rattle.reader.specs.Promise.{answer_to, reading_of, Reads}
+use Rattle.std.proofs.Common.{None, Result, Ok, Err}
+use Rattle.roster.proofs.Refusals.{number-some}
+use Rattle.reader.specs.Promise.{answer_to, reading_of, reading_by, Reads}
+use Rattle.reader.specs.declared.Drawn.{Drawn}
 use Rattle.reader.specs.declared.Kind.TheVariants.{Gene}
 use Rattle.reader.specs.declared.Reading.{Reading}
 use Rattle.trees.specs.Records.{records_in}
@@ -19,8 +24,6 @@ use Rattle.trees.proofs.Stores.{sets_append}
 use Rattle.gather.specs.GeneTrees.{Gathered, Walked, ended, halted, gather_on, gather_at, gather_more, begun, gather_to, walk, gather}
 use Rattle.gather.specs.GeneTrees.Gathered.{gathered, stopped}
 use Rattle.gather.specs.Work.{gathered_in, joined, Gathers}
-use Rattle.gather.specs.declared.Trees.{Trees}
-use Rattle.gather.specs.declared.Trees.TheVariants.{Gathered as Read, Stopped}
 use Rattle.gather.proofs.Kept.{records_more}
 
 module _ (line trees : List ℕ) where
@@ -46,7 +49,7 @@ module _ (line trees : List ℕ) where
 
     -- a tree is refused
     pub left_refused :
-        (r : Reading) → p < length trees → length genes < 512 → Reads Gene NoThreshold line trees p r → (r.number ≡ 0 → ⊥)
+        (r : Reading) → p < length trees → length genes < 512 → Reads Gene None line trees p r → (r.number ≡ 0 → ⊥)
         → left_from k genes p ≡ halted genes r.number r.place
     unfolding left_from Reads
     left_refused r h l e some = rw (lt-leb (length trees) p h, lt-leb 512 (length genes) l, ← e) (go r.number refl)
@@ -60,7 +63,7 @@ module _ (line trees : List ℕ) where
   -- a tree is read
   pub left_read :
       (k : ℕ) (genes : List (List ℕ)) (p : ℕ) (r : Reading)
-      → p < length trees → length genes < 512 → Reads Gene NoThreshold line trees p r → r.number ≡ 0
+      → p < length trees → length genes < 512 → Reads Gene None line trees p r → r.number ≡ 0
       → left_from (suc k) genes p ≡ left_from k (genes ++ (r.numbers ∷ [])) (begun trees r.next)
   unfolding left_from Reads gather_to
   left_read k genes p r h l e z = rw (lt-leb (length trees) p h, lt-leb 512 (length genes) l, ← e, z)
@@ -87,33 +90,36 @@ left_begins {line} {trees} e place =
 
 module _ {line trees lent : List ℕ} {count : ℕ} {genes : List ℕ} {at : ℕ} (now : Left line trees lent count genes at) where
   -- where nothing is left to do, all that was read stands there
-  answers : {r : Trees} (says : Gathered) → record { read = records_in count genes; says = says } ≡ walk line trees → gathered_in genes r ≡ says → Gathers line trees lent r genes
+  answers : {r : Result ℕ Refusal} (says : Gathered) → record { read = records_in count genes; says = says } ≡ walk line trees → gathered_in genes r ≡ says → Gathers line trees lent r genes
   unfolding gather
   answers says e told = record {
     answer = told ∙ ap (λ (w : Walked). w.says) e;
     numbers = now.stands ∙ ap (λ (w : Walked). sets lent 0 (joined w.read)) e;
   }
 
-  pub left_done : length trees ≤ at → Gathers line trees lent (Read count) genes
+  pub left_done : length trees ≤ at → Gathers line trees lent (Ok count) genes
   left_done h =
       answers (gathered (records_in count genes)) (sym (left_none line trees (513 - count) (records_in count genes) at h) ∙ now.same) refl
 
-  pub left_full : at < length trees → count ≡ 512 → Gathers line trees lent (Stopped 17 at) genes
-  left_full h e =
-      answers (stopped 17 at) (sym (left_many line trees (513 - count) (records_in count genes) at h (length-records_in count genes ∙ e)) ∙ now.same) refl
+  pub left_full : at < length trees → count ≡ 512 → {e : Refusal} → e ≡ record { fault = TooLarge; place = at } → Gathers line trees lent (Err e) genes
+  left_full h full e =
+      answers (stopped 17 at) (sym (left_many line trees (513 - count) (records_in count genes) at h (length-records_in count genes ∙ full)) ∙ now.same)
+      (ap (λ (e : Refusal). stopped (number e.fault) e.place) e)
 
-  module _ (r : Reading) (inside : at < length trees) (room : count ≡ 512 → ⊥) (read : Reads Gene NoThreshold line trees at r) where
+  module _ (inside : at < length trees) (room : count ≡ 512 → ⊥) where
     below : length (records_in count genes) < 512
     below = omega (arith, length-records_in count genes, now.few, room)
 
-    pub left_stops : (r.number ≡ 0 → ⊥) → Gathers line trees lent (Stopped r.number r.place) genes
-    left_stops some =
-        answers (stopped r.number r.place) (sym (left_refused line trees (513 - count) (records_in count genes) at r inside below read some) ∙ now.same) refl
+    pub left_stops : (e : Refusal) → Reads Gene None line trees at (reading_by at (Err e)) → Gathers line trees lent (Err e) genes
+    left_stops e read =
+        let some : number e.fault ≡ 0 → ⊥ = λ z. omega (arith, number-some e.fault) in
+        answers (stopped (number e.fault) e.place)
+        (sym (left_refused line trees (513 - count) (records_in count genes) at (reading_by at (Err e)) inside below read some) ∙ now.same) refl
 
     pub left_goes :
-        {genes' : List ℕ} {at' : ℕ} → r.number ≡ 0 → length r.numbers ≡ 32 → genes' ≡ sets genes (32 * count) r.numbers
-        → at' ≡ begun trees r.next → Left line trees lent (count + 1) genes' at'
-    left_goes {genes'} {at'} z e stored place =
+        (r : Drawn) {genes' : List ℕ} {at' : ℕ} → Reads Gene None line trees at (reading_by at (Ok r)) → length r.numbers ≡ 32
+        → genes' ≡ sets genes (32 * count) r.numbers → at' ≡ begun trees r.next → Left line trees lent (count + 1) genes' at'
+    left_goes r {genes'} {at'} read e stored place =
         let fits : 32 * count + 32 ≤ length genes = omega (arith, now.few, now.long, room) in
         let turns : 513 - count ≡ suc (513 - (count + 1)) = omega (arith, now.few, room) in
         let front = joined (records_in count genes) in
@@ -125,7 +131,7 @@ module _ {line trees lent : List ℕ} {count : ℕ} {genes : List ℕ} {at : ℕ
           long = ap length stored ∙ (length-sets genes (32 * count) r.numbers ∙ now.long);
           same =
               rw (records, place)
-              (sym (left_read line trees (513 - (count + 1)) (records_in count genes) at r inside below read z) ∙ (rw turns at now.same));
+              (sym (left_read line trees (513 - (count + 1)) (records_in count genes) at (reading_by at (Ok r)) inside below read refl) ∙ (rw turns at now.same));
           size = omega (arith, ap length more, length-append front r.numbers, now.size);
           stands =
               stored ∙ ap (λ (l : List ℕ). sets l (32 * count) r.numbers) now.stands
@@ -156,8 +162,8 @@ module _ (line trees : List ℕ) where
           ≡ gather_at b line trees genes p (λ numbers at. gather_to k' line trees (genes ++ (numbers ∷ [])) at)
       same_at true e = refl
       same_at false e =
-          same_on (leb-false 512 (length genes) e) (reading_of NoThreshold p (answer_to Gene NoThreshold line trees p)).number
-          (reading_of NoThreshold p (answer_to Gene NoThreshold line trees p))
+          same_on (leb-false 512 (length genes) e) (reading_of None p (answer_to Gene None line trees p)).number
+          (reading_of None p (answer_to Gene None line trees p))
 
       same_more :
           (b : Bool)

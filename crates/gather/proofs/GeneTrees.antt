@@ -15,7 +15,7 @@ use Rattle.trees.specs.Tree.{Tree, clusters}
 use Rattle.trees.specs.Records.{GeneValid, record_of, AllValid}
 use Rattle.roster.specs.Roster.{names, faulty}
 use Rattle.roster.specs.Judged.{species_most}
-use Rattle.tokens.specs.declared.answer.Threshold.TheVariants.{NoThreshold}
+use Rattle.std.proofs.Common.{None}
 use Rattle.tokens.specs.Answers.{Answer}
 use Rattle.tokens.specs.Answers.Answer.{parsed, refused as refused_at}
 use Rattle.nodes.specs.Reading.{open_most}
@@ -42,12 +42,12 @@ pub record Turns (line trees : List ℕ) (P : List (List ℕ) → ℕ → Type 0
   pub begins : P [] 0
   pub reads :
       {genes : List (List ℕ)} {at : ℕ} {t : Tree} {rest : List ℕ} {q : ℕ} → P genes at → begun trees at < length trees
-      → answer_to Gene NoThreshold line trees (begun trees at) ≡ parsed t rest q → P (genes ++ (record_of (clusters t) ∷ [])) q
+      → answer_to Gene None line trees (begun trees at) ≡ parsed t rest q → P (genes ++ (record_of (clusters t) ∷ [])) q
   pub ends : {genes : List (List ℕ)} {at : ℕ} → P genes at → length genes ≤ genes_most → length trees ≤ begun trees at → R genes
   pub many : {genes : List (List ℕ)} {at : ℕ} → P genes at → length genes ≡ genes_most → begun trees at < length trees → Q 17 (begun trees at)
   pub refuses :
       {genes : List (List ℕ)} {at number place : ℕ} → P genes at → length genes < genes_most → begun trees at < length trees
-      → answer_to Gene NoThreshold line trees (begun trees at) ≡ refused_at number place → Q number place
+      → answer_to Gene None line trees (begun trees at) ≡ refused_at number place → Q number place
 
 module _ {line trees : List ℕ} {P : List (List ℕ) → ℕ → Type 0} {R : List (List ℕ) → Type 0} {Q : ℕ → ℕ → Type 0} (turns : Turns line trees P R Q) where
   -- k more turns are enough
@@ -60,17 +60,17 @@ module _ {line trees : List ℕ} {P : List (List ℕ) → ℕ → Type 0} {R : L
     next numbers at = gather_to k line trees (genes ++ (numbers ∷ [])) at
 
     answered :
-        begun trees at < length trees → length genes < genes_most → (a : Answer Tree) → answer_to Gene NoThreshold line trees (begun trees at) ≡ a
-        → Holds R Q (gather_on (reading_of NoThreshold (begun trees at) a).number (reading_of NoThreshold (begun trees at) a) genes next).says
+        begun trees at < length trees → length genes < genes_most → (a : Answer Tree) → answer_to Gene None line trees (begun trees at) ≡ a
+        → Holds R Q (gather_on (reading_of None (begun trees at) a).number (reading_of None (begun trees at) a) genes next).says
     answered inside room (parsed t rest q) e =
         let l = length-append genes (record_of (clusters t) ∷ []) in
         later (genes ++ (record_of (clusters t) ∷ [])) q (omega arith) (omega arith) (turns.reads now inside e)
-    answered inside room (refused_at zero q) e = absurd (omega (arith, refusal_some narrow Gene NoThreshold line trees (begun trees at) e))
+    answered inside room (refused_at zero q) e = absurd (omega (arith, refusal_some narrow Gene None line trees (begun trees at) e))
     answered inside room (refused_at (suc number) q) e = turns.refuses now room inside e
 
     room : begun trees at < length trees → (b : Bool) → leb genes_most (length genes) ≡ b → Holds R Q (gather_at b line trees genes (begun trees at) next).says
     room inside true e = let full = leb-true genes_most (length genes) e in turns.many now (omega arith) inside
-    room inside false e = answered inside (leb-false genes_most (length genes) e) (answer_to Gene NoThreshold line trees (begun trees at)) refl
+    room inside false e = answered inside (leb-false genes_most (length genes) e) (answer_to Gene None line trees (begun trees at)) refl
 
     turned : (b : Bool) → leb (length trees) (begun trees at) ≡ b → Holds R Q (gather_more b line trees genes (begun trees at) next).says
     turned true e = turns.ends now few (leb-true (length trees) (begun trees at) e)
@@ -107,16 +107,16 @@ among n genes r all one g m =
 
 -- a tree that is read has a valid gene record
 read-valid :
-    (line trees : List ℕ) (p : ℕ) {t : Tree} {rest : List ℕ} {q : ℕ} → answer_to Gene NoThreshold line trees p ≡ parsed t rest q
+    (line trees : List ℕ) (p : ℕ) {t : Tree} {rest : List ℕ} {q : ℕ} → answer_to Gene None line trees p ≡ parsed t rest q
     → GeneValid (length (names line)) (record_of (clusters t))
-read-valid line trees p e = (draws-gene (accepted-derives Gene NoThreshold line trees p e).draws).0
+read-valid line trees p e = (draws-gene (accepted-derives Gene None line trees p e).draws).0
 
 module _ (line trees : List ℕ) (good : faulty species_most line ≡ false) where
   -- one that is refused has a number from 3 on, and its place lies in the text
   refused-inside :
-      (p : ℕ) {number q : ℕ} → length trees ≤ text_most → p < length trees → answer_to Gene NoThreshold line trees p ≡ refused_at number q → (3 ≤ number) × (q ≤ length trees)
+      (p : ℕ) {number q : ℕ} → length trees ≤ text_most → p < length trees → answer_to Gene None line trees p ≡ refused_at number q → (3 ≤ number) × (q ≤ length trees)
   refused-inside p {number} short inside e =
-      let read = sym (answer_is_read narrow Gene NoThreshold line trees p good short (omega arith)) ∙ e in
+      let read = sym (answer_is_read narrow Gene None line trees p good short (omega arith)) ∙ e in
       let r = refusal-said false (names line) open_most 0 (drop p trees) p read in
       let d = byte-within r.means (ℕ_discrete number 10) in
       ((refusal-numbers false r.means).0, omega (arith, r.place, length-drop p trees))
@@ -155,5 +155,5 @@ stopped-never-nine line trees e = stopped_so turns e
       reads = λ now inside e. tt;
       ends = λ now few none. tt;
       many = λ now full inside nine. omega arith;
-      refuses = λ {genes} {at} {number} {place} now room inside e nine. gene-never-nine narrow NoThreshold line trees (begun trees at) (e ∙ ap (λ (m : ℕ). refused_at m place) nine);
+      refuses = λ {genes} {at} {number} {place} now room inside e nine. gene-never-nine narrow None line trees (begun trees at) (e ∙ ap (λ (m : ℕ). refused_at m place) nine);
     }

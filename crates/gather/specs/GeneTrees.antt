@@ -1,6 +1,5 @@
 -- The gene trees of the program's input, read one after the other (01, "The program").
-use Rattle.std.specs.Prelude.{ℕ, zero, suc, ◌+◌, Bool, true, false, List, [], ◌∷◌, ◌++◌, length, drop, leb}
-use Rattle.tokens.specs.declared.answer.Threshold.TheVariants.{NoThreshold}
+use Rattle.std.specs.Prelude.{ℕ, zero, suc, ◌+◌, Bool, true, false, List, [], ◌∷◌, ◌++◌, length, drop, leb, None}
 use Rattle.tokens.specs.Tokens.{blanks}
 use Rattle.reader.specs.Promise.{answer_to, reading_of}
 use Rattle.reader.specs.declared.Kind.TheVariants.{Gene}
@@ -37,7 +36,7 @@ gather_on (suc number) r genes next = halted genes (suc number) r.place
 abbrev pub gather_at : Bool → List ℕ → List ℕ → List (List ℕ) → ℕ → (List ℕ → ℕ → Walked) → Walked
 gather_at true line trees genes p next = halted genes 17 p
 gather_at false line trees genes p next =
-    gather_on (reading_of NoThreshold p (answer_to Gene NoThreshold line trees p)).number (reading_of NoThreshold p (answer_to Gene NoThreshold line trees p)) genes
+    gather_on (reading_of None p (answer_to Gene None line trees p)).number (reading_of None p (answer_to Gene None line trees p)) genes
     (λ numbers at. next numbers at)
 
 -- "then trees until only blanks remain"
@@ -67,7 +66,7 @@ gather line trees = (walk line trees).says
 
 -- where the reading of a tree at p ends, just after its `;`
 abbrev pub end_of : List ℕ → List ℕ → ℕ → ℕ
-end_of line trees p = (reading_of NoThreshold p (answer_to Gene NoThreshold line trees p)).next
+end_of line trees p = (reading_of None p (answer_to Gene None line trees p)).next
 
 -- from a place on, where the tree of an index begins, in the program the place of 19, "its first byte" (#106): the first that is no blank
 unfoldable pub begins_at : ℕ → List ℕ → List ℕ → ℕ → ℕ

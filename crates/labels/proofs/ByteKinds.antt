@@ -1,48 +1,18 @@
--- Bytes by their kind, told by comparisons one after the other.
+-- Bytes by their kind: what one kind says of another.
 use Prim.Native.Nat.{ℕ, ◌≤◌, ◌<◌}
 use native.Mathlib.Omega.{arith}
 use native.Mathlib.Decide.{dec_le}
 use mathlib.Core.Path.{◌≡◌, refl, sym, ap, ◌∙◌}
 use mathlib.Core.Bool.{Bool, true, false, not, ◌||◌, true≢false, and-eq-true_iff}
-use lib.Dec.{eqb, leb}
+use lib.Dec.{eqb}
 use borrow.Author.Tests.{le-leb, lt-leb, ne_eqb, eqb-true}
-use Rattle.labels.specs.Bytes.{is_digit, is_name, is_bare, is_printable, is_plain, is_label, is_blank}
+use Rattle.labels.specs.Bytes.{is_name, is_bare, is_printable, is_plain}
 
 -- a byte that passes a test is none that does not
 pub passes_other : (test : ℕ → Bool) (b c : ℕ) → test b ≡ true → test c ≡ false → eqb b c ≡ false
 passes_other test b c p f = ne_eqb b c (λ e. true≢false (sym p ∙ ap test e ∙ f))
 
 module _ (b : ℕ) where
-  pub digit_is_name : is_digit b ≡ true → true ≡ is_name b
-  digit_is_name d = rw d
-
-  pub below-upper : is_digit b ≡ false → b < 65 → false ≡ is_name b
-  below-upper d h = rw (d, lt-leb 65 b h, lt-leb 97 b (omega arith))
-
-  pub upper_is_name : is_digit b ≡ false → 65 ≤ b → b ≤ 90 → true ≡ is_name b
-  upper_is_name d l h = rw (d, le-leb 65 b l, le-leb b 90 h)
-
-  pub between-cases : is_digit b ≡ false → 90 < b → b < 97 → false ≡ is_name b
-  between-cases d l h = rw (d, le-leb 65 b (omega arith), lt-leb b 90 l, lt-leb 97 b h)
-
-  pub from_lower : is_digit b ≡ false → 90 < b → 97 ≤ b → leb b 122 ≡ is_name b
-  from_lower d l h = rw (d, le-leb 65 b (omega arith), lt-leb b 90 l, le-leb 97 b h)
-
-  pub last_blank : (b ≡ 32 → ⊥) → (b ≡ 9 → ⊥) → (b ≡ 10 → ⊥) → eqb b 13 ≡ is_blank b
-  last_blank e f g = rw (ne_eqb b 32 e, ne_eqb b 9 f, ne_eqb b 10 g)
-
-  pub name_is_bare : is_name b ≡ true → true ≡ is_bare b
-  name_is_bare n = rw n
-
-  pub score_is_bare : is_name b ≡ false → eqb b 95 ≡ is_bare b
-  score_is_bare n = rw n
-
-  pub bare_is_label : is_bare b ≡ true → true ≡ is_label b
-  bare_is_label n = rw n
-
-  pub quote_is_label : is_bare b ≡ false → eqb b 39 ≡ is_label b
-  quote_is_label n = rw n
-
   name_from : b < 48 → is_name b ≡ false
   name_from h = rw (lt-leb 48 b h, lt-leb 65 b (omega arith), lt-leb 97 b (omega arith))
 

@@ -10,6 +10,8 @@ use lib.ListN.{length, get_or, take, drop, length-append, length-take, length-dr
 use lib.Seq.{length-take-le, take-append-le, take-take, take_at}
 use lib.Dec.{eqb}
 use borrow.Author.Tests.{eqb-true, le-leb, lt-leb}
+use Rattle.faults.specs.declared.Fault.{Fault}
+use Rattle.faults.specs.declared.Fault.TheVariants.{StrayByte, LongWord, TextEnds}
 use Rattle.labels.specs.Bytes.{is_bare, is_printable, is_plain, run, next_is, next_label}
 use Rattle.labels.specs.Spelling.{Spells, goes_on}
 use Rattle.labels.specs.Labels.{label_bytes, letters_from, twice_by, doubled, letters, raw_to, closed_by, closing, told}
@@ -26,15 +28,15 @@ use Rattle.labels.proofs.Spelled.{whole_exact, told_sound, run_no_quote}
 use Rattle.labels.proofs.ByteKinds.{bare_no_quote}
 use Rattle.labels.proofs.Telling.{letters-quoted, raw-quoted, told-bare, raw-bare, told-long, bare-length, told-ending, told-quoted-fits}
 
--- the fault of a label by its number and how many bytes stand before it: a sixteenth letter; a byte that is not printable behind printable ones;
+-- the fault of a label, and how many bytes stand before it: a sixteenth letter; a byte that is not printable behind printable ones;
 -- the closing quote of an empty label; the end of the text
-pub data Fault (s : List ℕ) : ℕ → ℕ → Type 0 where
-  long : label_bytes < length (letters s) → Fault s 4 (raw_to label_bytes s)
+pub data AtFault (s : List ℕ) : Fault → ℕ → Type 0 where
+  long : label_bytes < length (letters s) → AtFault s LongWord (raw_to label_bytes s)
   stray :
       (w : List ℕ) (b : ℕ) (rest : List ℕ)
-      → s ≡ 39 ∷ doubled w ++ b ∷ rest → All is_printable w → length w ≤ label_bytes → is_printable b ≡ false → Fault s 3 (suc (length (doubled w)))
-  empty : (rest : List ℕ) → s ≡ 39 ∷ 39 ∷ rest → next_is 39 rest ≡ false → Fault s 3 1
-  unclosed : (w : List ℕ) → s ≡ 39 ∷ doubled w → All is_printable w → length w ≤ label_bytes → Fault s 10 (suc (length (doubled w)))
+      → s ≡ 39 ∷ doubled w ++ b ∷ rest → All is_printable w → length w ≤ label_bytes → is_printable b ≡ false → AtFault s StrayByte (suc (length (doubled w)))
+  empty : (rest : List ℕ) → s ≡ 39 ∷ 39 ∷ rest → next_is 39 rest ≡ false → AtFault s StrayByte 1
+  unclosed : (w : List ℕ) → s ≡ 39 ∷ doubled w → All is_printable w → length w ≤ label_bytes → AtFault s TextEnds (suc (length (doubled w)))
 
 -- ---- each is told
 
@@ -54,11 +56,11 @@ no_letter_at_end : letters_from false [] ≡ []
 unfolding letters_from
 no_letter_at_end = refl
 
-empty-told : (rest : List ℕ) → letters_from false (39 ∷ rest) ≡ [] → told (39 ∷ 39 ∷ rest) ≡ faulty 3 1
+empty-told : (rest : List ℕ) → letters_from false (39 ∷ rest) ≡ [] → told (39 ∷ 39 ∷ rest) ≡ faulty StrayByte 1
 unfolding doubled
 empty-told rest none = told-ending [] (39 ∷ rest) no_byte (omega arith) none
 
-pub fault-told : {s : List ℕ} {number d : ℕ} → Fault s number d → told s ≡ faulty number d
+pub fault-told : {s : List ℕ} {fault : Fault} {d : ℕ} → AtFault s fault d → told s ≡ faulty fault d
 fault-told {s} (long l) = told-long s l
 fault-told (stray w b rest split all short non) =
     rw split (told-ending w (b ∷ rest) all short (stray_no_letter b rest non) ∙ rw (stray_no_quote b non) refl)
@@ -75,61 +77,61 @@ not_printable b non other = by (is_printable b) (rw other at non)
     by false e = refl
 
 fault-behind :
-    (t w r : List ℕ) (number d : ℕ) → t ≡ doubled w ++ r → All is_printable w → length w ≤ label_bytes → letters_from false r ≡ []
-    → closing (length w) r (suc (length (doubled w))) ≡ faulty number d → Fault (39 ∷ t) number d
+    (t w r : List ℕ) (fault : Fault) (d : ℕ) → t ≡ doubled w ++ r → All is_printable w → length w ≤ label_bytes → letters_from false r ≡ []
+    → closing (length w) r (suc (length (doubled w))) ≡ faulty fault d → AtFault (39 ∷ t) fault d
 unfolding doubled
-fault-behind t w [] number d split all short none e =
-    let f : 10 ≡ number = cc in
+fault-behind t w [] fault d split all short none e =
+    let f : TextEnds ≡ fault = cc in
     let g : suc (length (doubled w)) ≡ d = cc in
     rw (← f, ← g) (unclosed w (ap (λ (l : List ℕ). 39 ∷ l) (split ∙ append-nil (doubled w))) all short)
-fault-behind t w (b ∷ rest) number d split all short none e = by (eqb b 39) refl w split all short e
+fault-behind t w (b ∷ rest) fault d split all short none e = by (eqb b 39) refl w split all short e
   where
     by : (q : Bool) → eqb b 39 ≡ q → (w : List ℕ) → t ≡ doubled w ++ b ∷ rest → All is_printable w → length w ≤ label_bytes
-        → closed_by q (length w) (suc (length (doubled w))) ≡ faulty number d → Fault (39 ∷ t) number d
+        → closed_by q (length w) (suc (length (doubled w))) ≡ faulty fault d → AtFault (39 ∷ t) fault d
     by false other w split all short e =
-        let f : 3 ≡ number = cc in
+        let f : StrayByte ≡ fault = cc in
         let g : suc (length (doubled w)) ≡ d = cc in
         rw (← f, ← g)
         (stray w b rest (ap (λ (l : List ℕ). 39 ∷ l) split) all short (not_printable b (over_plain b rest none) other))
     by true is [] split all short e =
-        let f : 3 ≡ number = cc in
+        let f : StrayByte ≡ fault = cc in
         let g : 1 ≡ d = cc in
         let h = eqb-true b 39 is in
         rw (← f, ← g)
         (empty rest (ap (λ (l : List ℕ). 39 ∷ l) (split ∙ ap (λ (c : ℕ). c ∷ rest) h)) (over_single rest (ap (λ (c : ℕ). letters_from false (c ∷ rest)) (sym h) ∙ none)))
     by true is (c ∷ w) split all short e = absurd (let z : ◌≡◌ {A = ℕ} 0 1 = cc in omega arith)
 
-quoted-fault : (t : List ℕ) (number d : ℕ) → length (letters_from false t) ≤ label_bytes → told (39 ∷ t) ≡ faulty number d → Fault (39 ∷ t) number d
-quoted-fault t number d short e =
+quoted-fault : (t : List ℕ) (fault : Fault) (d : ℕ) → length (letters_from false t) ≤ label_bytes → told (39 ∷ t) ≡ faulty fault d → AtFault (39 ∷ t) fault d
+quoted-fault t fault d short e =
     let w = letters_from false t in
-    fault-behind t w (behind_letters t) number d (letters-front t) (letters_from_printable false t) short (no_letter_behind t) (sym (told-quoted-fits t short) ∙ e)
+    fault-behind t w (behind_letters t) fault d (letters-front t) (letters_from_printable false t) short (no_letter_behind t) (sym (told-quoted-fits t short) ∙ e)
 
-bare_no_fault : (s : List ℕ) (number d : ℕ) → next_is 39 s ≡ false → length (letters s) ≤ label_bytes → told s ≡ faulty number d → ⊥
-bare_no_fault s number d other short e =
+bare_no_fault : (s : List ℕ) (fault : Fault) (d : ℕ) → next_is 39 s ≡ false → length (letters s) ≤ label_bytes → told s ≡ faulty fault d → ⊥
+bare_no_fault s fault d other short e =
     let told-so : told s ≡ ended (run is_bare s) =
     told-bare s other ∙ rw (le-leb (run is_bare s) label_bytes (rw (bare-length s other) at short)) refl
     in
     let z : ◌≡◌ {A = ℕ} 0 1 = cc in omega arith
 
-short-fault : (s : List ℕ) (number d : ℕ) → length (letters s) ≤ label_bytes → told s ≡ faulty number d → Fault s number d
+short-fault : (s : List ℕ) (fault : Fault) (d : ℕ) → length (letters s) ≤ label_bytes → told s ≡ faulty fault d → AtFault s fault d
 unfolding next_is
-short-fault [] number d short e = absurd (bare_no_fault [] number d refl short e)
-short-fault (b ∷ t) number d short e = by (eqb b 39) refl
+short-fault [] fault d short e = absurd (bare_no_fault [] fault d refl short e)
+short-fault (b ∷ t) fault d short e = by (eqb b 39) refl
   where
-    by : (q : Bool) → eqb b 39 ≡ q → Fault (b ∷ t) number d
-    by false other = absurd (bare_no_fault (b ∷ t) number d other short e)
-    by true is = let h = eqb-true b 39 is in rw h (quoted-fault t number d (rw (h, letters-quoted t) at short) (rw h at e))
+    by : (q : Bool) → eqb b 39 ≡ q → AtFault (b ∷ t) fault d
+    by false other = absurd (bare_no_fault (b ∷ t) fault d other short e)
+    by true is = let h = eqb-true b 39 is in rw h (quoted-fault t fault d (rw (h, letters-quoted t) at short) (rw h at e))
 
-pub told-fault : (s : List ℕ) (number d : ℕ) → told s ≡ faulty number d → Fault s number d
-told-fault s number d e = go (dec_lt label_bytes (length (letters s)))
+pub told-fault : (s : List ℕ) (fault : Fault) (d : ℕ) → told s ≡ faulty fault d → AtFault s fault d
+told-fault s fault d e = go (dec_lt label_bytes (length (letters s)))
   where
-    go : Dec (label_bytes < length (letters s)) → Fault s number d
+    go : Dec (label_bytes < length (letters s)) → AtFault s fault d
     go (yes l) =
         let f = told-long s l in
-        let g : 4 ≡ number = cc in
+        let g : LongWord ≡ fault = cc in
         let h : raw_to label_bytes s ≡ d = cc in
         rw (← g, ← h) (long l)
-    go (no l) = short-fault s number d (omega arith) e
+    go (no l) = short-fault s fault d (omega arith) e
 
 -- ---- which bytes decide
 
@@ -141,7 +143,7 @@ front-again u rest s s' n size split agree =
 -- "3": the bytes up to the one at fault, and where that is a closing quote, that no quote follows it
 stray-again :
     (w : List ℕ) (b : ℕ) (rest s s' : List ℕ) → s ≡ 39 ∷ doubled w ++ b ∷ rest → All is_printable w → length w ≤ label_bytes → is_printable b ≡ false
-    → take (suc (suc (length (doubled w)))) s' ≡ take (suc (suc (length (doubled w)))) s → Fault s' 3 (suc (length (doubled w)))
+    → take (suc (suc (length (doubled w)))) s' ≡ take (suc (suc (length (doubled w)))) s → AtFault s' StrayByte (suc (length (doubled w)))
 stray-again w b rest s s' split all short non agree =
     let u = 39 ∷ doubled w ++ b ∷ [] in
     let n = suc (suc (length (doubled w))) in
@@ -151,7 +153,7 @@ stray-again w b rest s s' split all short non agree =
     stray w b (drop n s') (again ∙ ap (λ (l : List ℕ). 39 ∷ l) (append_assoc (doubled w) (b ∷ []) (drop n s'))) all short non
 
 empty-again :
-    (rest s s' : List ℕ) → s ≡ 39 ∷ 39 ∷ rest → take 2 s' ≡ take 2 s → next_is 39 (drop 2 s') ≡ false → Fault s' 3 1
+    (rest s s' : List ℕ) → s ≡ 39 ∷ 39 ∷ rest → take 2 s' ≡ take 2 s → next_is 39 (drop 2 s') ≡ false → AtFault s' StrayByte 1
 empty-again rest s s' split agree over = empty (drop 2 s') (front-again (39 ∷ 39 ∷ []) rest s s' 2 refl split agree) over
 
 -- no quote follows, as none follows in the first text
@@ -166,16 +168,16 @@ not_on s s' rest split over on = by (next_is 39 (drop 2 s')) refl
     by false e = refl
 
 pub three-again :
-    (s s' : List ℕ) (d : ℕ) → told s ≡ faulty 3 d → take (suc d) s' ≡ take (suc d) s
-    → (next_is 39 (drop d s) ≡ true → next_is 39 (drop (suc d) s') ≡ true → next_is 39 (drop (suc d) s) ≡ true) → told s' ≡ faulty 3 d
-three-again s s' d e agree on = by (told-fault s 3 d e) refl agree on
+    (s s' : List ℕ) (d : ℕ) → told s ≡ faulty StrayByte d → take (suc d) s' ≡ take (suc d) s
+    → (next_is 39 (drop d s) ≡ true → next_is 39 (drop (suc d) s') ≡ true → next_is 39 (drop (suc d) s) ≡ true) → told s' ≡ faulty StrayByte d
+three-again s s' d e agree on = by (told-fault s StrayByte d e) refl agree on
   where
-    by : {number d : ℕ} → Fault s number d → number ≡ 3 → take (suc d) s' ≡ take (suc d) s
-        → (next_is 39 (drop d s) ≡ true → next_is 39 (drop (suc d) s') ≡ true → next_is 39 (drop (suc d) s) ≡ true) → told s' ≡ faulty 3 d
-    by (long l) is agree on = absurd (omega arith)
+    by : {fault : Fault} {d : ℕ} → AtFault s fault d → fault ≡ StrayByte → take (suc d) s' ≡ take (suc d) s
+        → (next_is 39 (drop d s) ≡ true → next_is 39 (drop (suc d) s') ≡ true → next_is 39 (drop (suc d) s) ≡ true) → told s' ≡ faulty StrayByte d
+    by (long l) is agree on = absurd (let z : ◌≡◌ {A = ℕ} 0 1 = cc in omega arith)
     by (stray w b rest split all short non) is agree on = fault-told (stray-again w b rest s s' split all short non agree)
     by (empty rest split over) is agree on = fault-told (empty-again rest s s' split agree (not_on s s' rest split over on))
-    by (unclosed w split all short) is agree on = absurd (omega arith)
+    by (unclosed w split all short) is agree on = absurd (let z : ◌≡◌ {A = ℕ} 0 1 = cc in omega arith)
 
 -- how many bytes from d on a letter takes: a quote takes two
 abbrev pub letter_end : Bool → ℕ → ℕ
@@ -252,7 +254,7 @@ module _ (t s' : List ℕ) (l : label_bytes < length (letters_from false t)) whe
       ∙ (ap (λ (x : List ℕ). doubled x ++ behind_letters t) (sym (take-append-drop 16 w))
       ∙ (ap (λ (x : List ℕ). x ++ behind_letters t) (doubled-joins sixteen (drop 16 w)) ∙ append_assoc (doubled sixteen) (doubled (drop 16 w)) (behind_letters t))))
 
-  long-quoted : take (raw_to 16 (39 ∷ t)) s' ≡ take (raw_to 16 (39 ∷ t)) (39 ∷ t) → told s' ≡ faulty 4 (raw_to label_bytes (39 ∷ t))
+  long-quoted : take (raw_to 16 (39 ∷ t)) s' ≡ take (raw_to 16 (39 ∷ t)) (39 ∷ t) → told s' ≡ faulty LongWord (raw_to label_bytes (39 ∷ t))
   long-quoted agree =
       let w = letters_from false t in
       let n = suc (length (doubled sixteen)) in
@@ -266,35 +268,35 @@ module _ (t s' : List ℕ) (l : label_bytes < length (letters_from false t)) whe
       take-append-le label_bytes sixteen (letters_from false z) (omega arith) ∙ take-take label_bytes 16 w (omega arith)
       in
       told-long s' far
-      ∙ ap (faulty 4)
+      ∙ ap (faulty LongWord)
       (ap (raw_to label_bytes) again
       ∙ (raw-quoted label_bytes (doubled sixteen ++ z)
       ∙ (ap (λ (x : List ℕ). suc (length (doubled (take label_bytes x)))) from
       ∙ (ap (λ (x : List ℕ). suc (length (doubled x))) front ∙ sym (raw-quoted label_bytes t)))))
 
-long-bare : (s s' : List ℕ) → label_bytes < run is_bare s → take 16 s' ≡ take 16 s → told s' ≡ faulty 4 label_bytes
+long-bare : (s s' : List ℕ) → label_bytes < run is_bare s → take 16 s' ≡ take 16 s → told s' ≡ faulty LongWord label_bytes
 long-bare s s' l agree =
     let runs : run is_bare (take 16 s') ≡ run is_bare (take 16 s) = ap (run is_bare) agree in
     let far : label_bytes < run is_bare s' = omega (arith, run_take is_bare 16 s, run_take is_bare 16 s') in
     told-bare s' (run_no_quote s' (omega arith)) ∙ rw (lt-leb (run is_bare s') label_bytes far) refl
 
-long-again : (s s' : List ℕ) → label_bytes < length (letters s) → take (raw_to 16 s) s' ≡ take (raw_to 16 s) s → told s' ≡ faulty 4 (raw_to label_bytes s)
+long-again : (s s' : List ℕ) → label_bytes < length (letters s) → take (raw_to 16 s) s' ≡ take (raw_to 16 s) s → told s' ≡ faulty LongWord (raw_to label_bytes s)
 long-again s s' =
-    by_first (λ (s : List ℕ). label_bytes < length (letters s) → take (raw_to 16 s) s' ≡ take (raw_to 16 s) s → told s' ≡ faulty 4 (raw_to label_bytes s))
+    by_first (λ (s : List ℕ). label_bytes < length (letters s) → take (raw_to 16 s) s' ≡ take (raw_to 16 s) s → told s' ≡ faulty LongWord (raw_to label_bytes s))
     (λ t l agree. long-quoted t s' (rw (letters-quoted t) at l) agree)
     (λ s other l agree. rw (raw-bare label_bytes s other) (long-bare s s' (rw (bare-length s other) at l) (rw (raw-bare 16 s other) at agree))) s
 
 pub four-again :
-    (s s' : List ℕ) (d : ℕ) → told s ≡ faulty 4 d → take (letter_end (next_is 39 (drop d s)) d) s' ≡ take (letter_end (next_is 39 (drop d s)) d) s
-    → told s' ≡ faulty 4 d
-four-again s s' d e agree = by (told-fault s 4 d e) refl agree
+    (s s' : List ℕ) (d : ℕ) → told s ≡ faulty LongWord d → take (letter_end (next_is 39 (drop d s)) d) s' ≡ take (letter_end (next_is 39 (drop d s)) d) s
+    → told s' ≡ faulty LongWord d
+four-again s s' d e agree = by (told-fault s LongWord d e) refl agree
   where
-    by : {number d : ℕ} → Fault s number d → number ≡ 4 → take (letter_end (next_is 39 (drop d s)) d) s' ≡ take (letter_end (next_is 39 (drop d s)) d) s
-        → told s' ≡ faulty 4 d
+    by : {fault : Fault} {d : ℕ} → AtFault s fault d → fault ≡ LongWord → take (letter_end (next_is 39 (drop d s)) d) s' ≡ take (letter_end (next_is 39 (drop d s)) d) s
+        → told s' ≡ faulty LongWord d
     by (long l) is agree = long-again s s' l (rw (raw_next s label_bytes l) agree)
-    by (stray w b rest split all short non) is agree = absurd (omega arith)
-    by (empty rest split over) is agree = absurd (omega arith)
-    by (unclosed w split all short) is agree = absurd (omega arith)
+    by (stray w b rest split all short non) is agree = absurd (let z : ◌≡◌ {A = ℕ} 0 1 = cc in omega arith)
+    by (empty rest split over) is agree = absurd (let z : ◌≡◌ {A = ℕ} 0 1 = cc in omega arith)
+    by (unclosed w split all short) is agree = absurd (let z : ◌≡◌ {A = ℕ} 0 1 = cc in omega arith)
 
 -- a label that ends: its bytes, and that what follows does not go on with it
 pub ended-again :

@@ -8,7 +8,7 @@ use mathlib.Core.List.{List, [], ◌∷◌}
 use lib.ListN.{length, get_or, take, drop, drop_of_length-le}
 use lib.Seq.{take-take, drop-cons}
 use lib.Dec.{eqb}
-use Rattle.labels.specs.Bytes.{next_is, next_bare, next_label}
+use Rattle.labels.specs.Bytes.{is_label, next_is, next_bare, next_label}
 
 module _ (b : ℕ) (s : List ℕ) (i : ℕ) where
   -- the byte at a place stands first from there on
@@ -28,6 +28,17 @@ module _ (b : ℕ) (s : List ℕ) (i : ℕ) where
       by : Dec (i < length s) → i < length s
       by (yes h) = h
       by (no n) = absurd (true≢false (sym e ∙ next_end_lem (omega arith)))
+
+module _ (s : List ℕ) (i : ℕ) where
+  -- a label is known by the byte that stands there
+  pub label_here : i < length s → next_label (drop i s) ≡ is_label (get_or s i 0)
+  unfolding next_label
+  label_here h = rw (drop-cons s i 0)
+
+  -- and none begins at the end
+  pub label_end : length s ≤ i → next_label (drop i s) ≡ false
+  unfolding next_label
+  label_end h = rw (drop_of_length-le s h)
 
 -- a test that looks at the first byte alone
 abbrev pub FirstByte : (List ℕ → Bool) → Type 0

@@ -1,5 +1,6 @@
 -- The mathematics behind the proofs of this crate, and the laws that other crates cite.
 pub mod ByteKinds
+pub mod Exits
 pub mod Bytewise
 pub mod FirstBytes
 pub mod Runs

@@ -19,8 +19,9 @@ use Rattle.labels.proofs.Bytewise.{All, all_take, all_append}
 use Rattle.labels.proofs.Bytewise.All.{no_byte, a_byte}
 use Rattle.labels.proofs.QuotedLetters.{letters-doubled, behind_letters, letters-front, doubled-joins, quoted_of, quoted-splits, quoted-printable}
 use Rattle.labels.proofs.Spelled.{bare_no_quote_next, bare-run, told_sound}
-use Rattle.labels.proofs.FaultyLabels.{Fault}
-use Rattle.labels.proofs.FaultyLabels.Fault.{long, stray, empty, unclosed}
+use Rattle.faults.specs.declared.Fault.{Fault}
+use Rattle.labels.proofs.FaultyLabels.{AtFault}
+use Rattle.labels.proofs.FaultyLabels.AtFault.{long, stray, empty, unclosed}
 use Rattle.labels.proofs.Letters.{letters_from_printable}
 use Rattle.labels.proofs.Telling.{letters-quoted, bare-length, raw-quoted, raw-bare, told-bare, ended-short}
 
@@ -260,7 +261,7 @@ sixteenth_open =
     absurd (false≢true (sym (bare_no_quote_next (drop label_bytes s) follows) ∙ rw (raw-bare label_bytes s other) at quote)))
 
 -- before the byte at fault
-pub fault_open : {s : List ℕ} {number f : ℕ} → Fault s number f → Open s f
+pub fault_open : {s : List ℕ} {fault : Fault} {f : ℕ} → AtFault s fault f → Open s f
 unfolding doubled
 fault_open {s} (long l) = long_open s l
 fault_open {s} (stray w b rest split all short other) = open_quoted s w (b ∷ rest) split all short

@@ -2,11 +2,12 @@
 use Prim.Native.Nat.{ℕ, zero, suc, ◌+◌, ◌-◌, ◌≤◌, ◌<◌, zero-le}
 use native.Mathlib.Nat.{not-suc-le-zero, le_of_suc-le-suc}
 use native.Mathlib.Omega.{arith}
-use native.Mathlib.Numerals.{add-one}
-use mathlib.Core.Path.{◌≡◌, refl}
-use mathlib.Core.Bool.{Bool, true, false}
+use native.Mathlib.Numerals.{add-one, one-add}
+use mathlib.Core.Path.{◌≡◌, refl, ap}
+use Rattle.std.specs.List.{prefix_len}
+use mathlib.Core.Bool.{Bool, true, false, cond}
 use mathlib.Core.List.{List, [], ◌∷◌}
-use lib.ListN.{length, get_or, drop, drop_of_length-le, length-drop}
+use lib.ListN.{length, get_or, take, drop, drop_of_length-le, length-drop}
 use lib.Seq.{drop-cons}
 use Rattle.labels.specs.Bytes.{run, one_more}
 
@@ -25,6 +26,16 @@ module _ (test : ℕ → Bool) where
   pub run_end : (s : List ℕ) (i : ℕ) → length s ≤ i → run test (drop i s) ≡ 0
   unfolding run
   run_end s i h = rw (drop_of_length-le s h)
+
+  -- as the library counts them
+  pub run_counted : (s : List ℕ) → length (take (prefix_len test s) s) ≡ run test s
+  unfolding run
+  run_counted [] = refl
+  run_counted (b ∷ s) = by (test b) (run_counted s)
+    where
+      by : (t : Bool) → length (take (prefix_len test s) s) ≡ run test s → length (take (cond t (1 + prefix_len test s) 0) (b ∷ s)) ≡ one_more t (run test s)
+      by true h = rw one-add (ap suc h)
+      by false h = refl
 
   -- a run is no longer than the bytes
   pub run-within : (s : List ℕ) → run test s ≤ length s

@@ -14,6 +14,7 @@ use Rattle.labels.specs.Spelling.{Run, unwritten, Quoted, Spells, goes_on_by, go
 use Rattle.labels.specs.Spelling.Run.{one, next}
 use Rattle.labels.specs.Spelling.Spells.{bare, quoted}
 use Rattle.labels.specs.Labels.{label_bytes, letters_from, doubled, letters, raw_to, closed_by, closing, told}
+use Rattle.faults.specs.declared.Fault.TheVariants.{LongWord}
 use Rattle.labels.specs.Labels.Told.{ended, faulty}
 use Rattle.labels.proofs.Bytewise.{All}
 use Rattle.labels.proofs.Runs.{run-within, run-byte}
@@ -112,9 +113,9 @@ pub record Exact (w s rest : List ℕ) : Type 0 where
   pub left : drop width s ≡ rest
   pub all : width + length rest ≡ length s
   pub short : length w ≤ label_bytes → told s ≡ ended width
-  pub long : label_bytes < length w → told s ≡ faulty 4 (raw_to label_bytes s)
+  pub long : label_bytes < length w → told s ≡ faulty LongWord (raw_to label_bytes s)
 
-long_of : (w s : List ℕ) → letters s ≡ w → label_bytes < length w → told s ≡ faulty 4 (raw_to label_bytes s)
+long_of : (w s : List ℕ) → letters s ≡ w → label_bytes < length w → told s ≡ faulty LongWord (raw_to label_bytes s)
 long_of w s e l = told-long s (rw e l)
 
 run-spelled : {v s rest : List ℕ} → Run is_bare v s rest → next_bare s ≡ true

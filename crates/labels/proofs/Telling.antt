@@ -8,6 +8,7 @@ use lib.ListN.{length, take, length-map, length-append}
 use lib.Seq.{take-length, length-take-le, take_at, drop-append_seam}
 use lib.Dec.{leb}
 use borrow.Author.Tests.{le-leb, lt-leb, leb-true}
+use Rattle.faults.specs.declared.Fault.TheVariants.{LongWord}
 use Rattle.labels.specs.Bytes.{is_bare, run, next_is, is_printable}
 use Rattle.labels.specs.Spelling.{unwritten}
 use Rattle.labels.specs.Labels.{label_bytes, bare_letters, letters_from, doubled, letters, raw_to, Told, closing, limited, end_by, told}
@@ -56,7 +57,7 @@ told-bare s other = rw (bare-length s other, raw-bare label_bytes s other, other
 -- ---- the limit
 
 -- "4 counts decoded bytes, its place the first raw byte of the sixteenth" (#103), whatever follows
-pub told-long : (s : List ℕ) → label_bytes < length (letters s) → told s ≡ faulty 4 (raw_to label_bytes s)
+pub told-long : (s : List ℕ) → label_bytes < length (letters s) → told s ≡ faulty LongWord (raw_to label_bytes s)
 unfolding told
 told-long s l = rw (lt-leb (length (letters s)) label_bytes l)
 
@@ -92,9 +93,9 @@ told-ending w t all short none =
 -- one more behind fifteen
 pub told-sixteenth :
     (w t : List ℕ) → All is_printable w → length w ≡ label_bytes → (b : ℕ) (v : List ℕ) → letters_from false t ≡ b ∷ v
-    → told (39 ∷ doubled w ++ t) ≡ faulty 4 (suc (length (doubled w)))
+    → told (39 ∷ doubled w ++ t) ≡ faulty LongWord (suc (length (doubled w)))
 told-sixteenth w t all full b v more =
     let from : letters_from false (doubled w ++ t) ≡ w ++ b ∷ v = letters-doubled all t ∙ ap (λ (u : List ℕ). w ++ u) more in
     let far : label_bytes < length (letters (39 ∷ doubled w ++ t)) = rw (letters-quoted (doubled w ++ t), from, length-append w (b ∷ v)) (omega arith) in
     told-long (39 ∷ doubled w ++ t) far
-    ∙ ap (faulty 4) (raw-quoted label_bytes (doubled w ++ t) ∙ rw (from, take_at w (b ∷ v) label_bytes full) refl)
+    ∙ ap (faulty LongWord) (raw-quoted label_bytes (doubled w ++ t) ∙ rw (from, take_at w (b ∷ v) label_bytes full) refl)

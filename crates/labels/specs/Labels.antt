@@ -1,10 +1,12 @@
--- A label as it is scanned: its decoded bytes, how many raw bytes it takes, or the number and place of its fault (#103).
-use Rattle.std.specs.Prelude.{ℕ, zero, suc, ◌+◌, ◌-◌, Bool, true, false, length, take, drop, replicate, eqb, leb}
+-- A label as it is scanned: its decoded bytes, how many raw bytes it takes, or its fault and the place of that (#103).
+use Rattle.std.specs.Prelude.{ℕ, zero, suc, ◌+◌, ◌-◌, Bool, true, false, length, take, drop, replicate, eqb, leb, Result, Ok, Err}
 use mathlib.Core.List.{List, [], ◌∷◌, ◌++◌, map, tail}
 use Rattle.labels.specs.Bytes.{is_bare, is_plain, run, next_is}
 use Rattle.labels.specs.Spelling.{unwritten}
 use Rattle.labels.specs.declared.Scanned.{Scanned}
-use Rattle.labels.specs.declared.Label.TheVariants.{Ended, Faulty}
+use Rattle.faults.specs.declared.Fault.{Fault}
+use Rattle.faults.specs.declared.Fault.TheVariants.{StrayByte, LongWord, TextEnds}
+use Rattle.faults.specs.declared.Refusal.{Refusal}
 
 -- "name | 1 to 15 bytes"; "Names are 1 to 15 printable bytes decoded" (#103)
 abbrev pub label_bytes : ℕ
@@ -59,26 +61,26 @@ raw_by false k s = k
 unfoldable pub raw_to : ℕ → List ℕ → ℕ
 raw_to k s = raw_by (next_is 39 s) k s
 
--- what a label says: how many raw bytes it takes, or a number and how many bytes stand before the byte at fault
+-- what a label says: how many raw bytes it takes, or its fault and how many bytes stand before the byte at fault
 pub data Told : Type 0 where
   ended : ℕ → Told
-  faulty : ℕ → ℕ → Told
+  faulty : Fault → ℕ → Told
 
 -- the byte behind n letters is a quote, or it is one that may not stand in a quoted label; "an empty quoted label is 3 at its closing quote" (#103)
 abbrev pub closed_by : Bool → ℕ → ℕ → Told
-closed_by false n p = faulty 3 p
-closed_by true zero p = faulty 3 p
+closed_by false n p = faulty StrayByte p
+closed_by true zero p = faulty StrayByte p
 closed_by true (suc n) p = ended (suc p)
 
 -- what stands behind the n letters of a quoted label, at p: "a quote never closed is 10" (#103)
 abbrev pub closing : ℕ → List ℕ → ℕ → Told
-closing n [] p = faulty 10 p
+closing n [] p = faulty TextEnds p
 closing n (b ∷ s) p = closed_by (eqb b 39) n p
 
 -- "4 counts decoded bytes" (#103): within the limit, or at fault at p
 abbrev pub limited : Bool → ℕ → Told → Told
 limited true p told = told
-limited false p told = faulty 4 p
+limited false p told = faulty LongWord p
 
 -- the end of a label: a quoted one has to be closed
 abbrev pub end_by : Bool → List ℕ → Told
@@ -94,10 +96,10 @@ unfoldable pub padded : List ℕ → List ℕ
 padded w = w ++ replicate (16 - length w) 0
 
 -- what was told, at its place: where the label ends and its name, or its fault
-abbrev pub scanned_by : Told → List ℕ → ℕ → Scanned
-scanned_by (ended n) s at = record { label = Ended (at + n); name = padded (letters s) }
-scanned_by (faulty number d) s at = record { label = Faulty number (at + d); name = replicate 16 0 }
+abbrev pub scanned_by : Told → List ℕ → ℕ → Result Scanned Refusal
+scanned_by (ended n) s at = Ok (record { next = at + n; name = padded (letters s) })
+scanned_by (faulty fault d) s at = Err (record { fault = fault; place = at + d })
 
 -- what stands from a place on, as a label
-unfoldable pub scanned_at : List ℕ → ℕ → Scanned
+unfoldable pub scanned_at : List ℕ → ℕ → Result Scanned Refusal
 scanned_at text at = scanned_by (told (drop at text)) (drop at text) at

@@ -1,132 +1,91 @@
 // The one scanner of labels, bare and quoted: leaf names, inner names and roster names.
 #![tactic(auto)]
 
-ghost use Rattle.std.specs.Prelude.{◌≡◌, true, false, ◌+◌, ◌≤◌, ◌<◌, length, drop, replicate};
-ghost use Rattle.labels.specs.Bytes.{is_digit, is_name, is_bare, is_printable, is_label, is_blank, run, next_is};
+ghost use Rattle.std.specs.Prelude.{◌≡◌, true, false, ℕ, Bool, ◌+◌, ◌≤◌, ◌<◌, length, drop};
+ghost use Rattle.labels.specs.Bytes.{is_digit, is_name, is_bare, is_printable, is_label, is_blank, run, next_is, next_label};
 ghost use Rattle.labels.specs.Spelling.{unwritten as Spelling·unwritten};
 ghost use Rattle.labels.specs.Labels.{bare_letters, padded as Labels·padded, scanned_at};
 ghost use Rattle.labels.specs.Work.{width_of, closed_at};
-ghost use Rattle.labels.specs.declared.Label.TheVariants.{Faulty};
 
-// How a label ends: just before `next`, or at fault, with 01's number and the byte's place.
-#[derive(Clone, Copy)]
-pub enum Label {
-    Ended { next: usize },
-    Faulty { number: u32, place: usize },
-}
+use faults::{Fault, Refusal};
 
-// A label with the bytes that it stands for, zeros behind them; all zeros where it is at fault.
-#[derive(Clone, Copy)]
+// A label that ends just before `next`, with the bytes that it stands for, zeros behind them.
+#[derive(Clone, Copy, Debug, PartialEq, Eq)]
 pub struct Scanned {
-    pub label: Label,
+    pub next: usize,
     pub name: [u8; 16],
 }
 
 pub fn is_digit(b: u8) -> bool
     ensures { result ≡ is_digit b }
 {
-    if b < 48 {
-        return false;
-    }
-    b <= 57
+    b.is_ascii_digit()
 }
 
 // ASCII letters and digits
 pub fn is_name_byte(b: u8) -> bool
     ensures { result ≡ is_name b }
 {
-    if is_digit(b) {
-        return true;
-    }
-    if b < 65 {
-        return false;
-    }
-    if b <= 90 {
-        return true;
-    }
-    if b < 97 {
-        return false;
-    }
-    b <= 122
+    b.is_ascii_alphanumeric()
 }
 
 // letters, digits and underscores
 pub fn is_bare(b: u8) -> bool
     ensures { result ≡ is_bare b }
 {
-    if is_name_byte(b) {
-        return true;
-    }
-    b == b'_'
+    is_name_byte(b) || b == b'_'
 }
 
 // a byte with which a label begins
 pub fn is_label(b: u8) -> bool
     ensures { result ≡ is_label b }
 {
-    if is_bare(b) {
-        return true;
-    }
-    b == b'\''
+    is_bare(b) || b == b'\''
 }
 
 fn is_printable(b: u8) -> bool
     ensures { result ≡ is_printable b }
 {
-    if b < 32 {
-        return false;
-    }
-    b <= 126
+    matches!(b, b' '..=b'~')
 }
 
 // space, tab, line feed, carriage return
 pub fn is_blank(b: u8) -> bool
     ensures { result ≡ is_blank b }
 {
-    if b == 32 {
-        return true;
-    }
-    if b == 9 {
-        return true;
-    }
-    if b == 10 {
-        return true;
-    }
-    b == 13
+    matches!(b, b' ' | b'\t' | b'\n' | b'\r')
 }
 
-// Whether the byte at `at` is a quote.
-fn quote_at(text: &[u8], at: usize) -> bool
-    ensures { result ≡ next_is 39 (drop at text.now) }
+// How many bytes from `at` on pass the test, up to the first that does not.
+pub fn run<F: Fn(u8) -> bool>(text: &[u8], at: usize, test: F) -> usize
+    requires { F.IsAlwaysCallable test }
+    ensures { (passes : ℕ → Bool) → ((b : ℕ) (r : Bool) → F.post test b r → r ≡ passes b) → result ≡ run passes (drop at text.now) }
 {
-    if at < text.len() {
-        return text[at] == b'\'';
-    }
-    false
+    let Some(rest) = text.get(at..) else {
+        return 0;
+    };
+    rest.iter().take_while(|b| test(**b)).count()
 }
 
-// How many bytes of a bare label stand from `at` on, up to the first other byte.
-fn run_of_bare(text: &[u8], at: usize) -> usize
-    ensures { result ≡ run is_bare (drop at text.now) }
+// Whether the byte at `at` is `b`.
+pub fn next_is(text: &[u8], at: usize, b: u8) -> bool
+    ensures { result ≡ next_is b (drop at text.now) }
 {
-    let mut i = at;
-    while i < text.len() {
-        if !is_bare(text[i]) {
-            return i - at;
-        }
-        i += 1;
-    }
-    i - at
+    text.get(at) == Some(&b)
+}
+
+// Whether a label begins at `at`.
+pub fn next_label(text: &[u8], at: usize) -> bool
+    ensures { result ≡ next_label (drop at text.now) }
+{
+    text.get(at).is_some_and(|b| is_label(*b))
 }
 
 // What a byte of a bare label stands for: an underscore for a blank.
 fn unwritten(b: u8) -> u8
     ensures { result ≡ Spelling·unwritten b }
 {
-    if b == b'_' {
-        return b' ';
-    }
-    b
+    if b == b'_' { b' ' } else { b }
 }
 
 // What the n bytes from `at` on stand for, zeros behind it.
@@ -135,105 +94,85 @@ fn padded(text: &[u8], at: usize, n: usize) -> [u8; 16]
     ensures { result ≡ Labels·padded (bare_letters (drop at text.now)) }
 {
     let mut name = [0u8; 16];
-    let mut i = 0;
-    while i < n {
+    for i in 0..n {
         name[i] = unwritten(text[at + i]);
-        i += 1;
     }
     name
 }
 
-// The label that is at fault at `place`.
-fn faulty(number: u32, place: usize) -> Scanned
-    ensures { result ≡ record { label = Faulty number place; name = replicate 16 0 } }
-{
-    Scanned {
-        label: Label::Faulty { number, place },
-        name: [0u8; 16],
-    }
-}
-
 // The bare label that begins at `at`; empty where no byte of one stands there.
-fn bare(text: &[u8], at: usize) -> Scanned
+fn bare(text: &[u8], at: usize) -> Result<Scanned, Refusal>
     requires { next_is 39 (drop at text.now) ≡ false }
     ensures { result ≡ scanned_at text.now at }
 {
-    let n = run_of_bare(text, at);
-    if n <= 15 {
-        let name = padded(text, at, n);
-        return Scanned {
-            label: Label::Ended { next: at + n },
-            name: name,
-        };
+    let n = run(text, at, is_bare);
+    if n > 15 {
+        return Err(Fault::LongWord.at(at + 15));
     }
-    faulty(4, at + 15)
+    Ok(Scanned {
+        next: at + n,
+        name: padded(text, at, n),
+    })
 }
 
 // The quoted label of n bytes whose closing quote stands at `at`: it may not be empty.
-fn closed(name: [u8; 16], n: usize, at: usize) -> Scanned
-    requires { at + 1 < 18446744073709551616 }
+fn closed(name: [u8; 16], n: usize, at: usize) -> Result<Scanned, Refusal>
+    requires { at < usize.MAX }
     ensures { result ≡ closed_at n name at }
 {
     if n == 0 {
-        return faulty(3, at);
+        return Err(Fault::StrayByte.at(at));
     }
-    Scanned {
-        label: Label::Ended { next: at + 1 },
-        name: name,
-    }
+    Ok(Scanned { next: at + 1, name })
 }
 
-// How many bytes the letter at `at` takes, within quotes; 0 where none stands there. A quote that no quote follows is none.
-fn letter_width(text: &[u8], at: usize) -> usize
+// How many bytes the letter at `at` takes, within quotes; none where none stands there. A quote that no quote follows is none.
+fn letter_width(text: &[u8], at: usize) -> Option<usize>
     requires { at < length text.now }
     ensures { result ≡ width_of (drop at text.now) }
 {
     let b = text[at];
     if b == b'\'' {
-        if quote_at(text, at + 1) {
-            return 2;
-        }
-        return 0;
+        next_is(text, at + 1, b'\'').then_some(2)
+    } else {
+        is_printable(b).then_some(1)
     }
-    if is_printable(b) {
-        return 1;
-    }
-    0
 }
 
 // The quoted label whose first quote stands at `at`.
-fn quoted(text: &[u8], at: usize) -> Scanned
+fn quoted(text: &[u8], at: usize) -> Result<Scanned, Refusal>
     requires { next_is 39 (drop at text.now) ≡ true }
     ensures { result ≡ scanned_at text.now at }
 {
     let mut name = [0u8; 16];
     let mut n = 0;
     let mut i = at + 1;
+    // no `for`: a letter takes one byte or two
     while i < text.len() {
         let b = text[i];
-        let width = letter_width(text, i);
-        if width == 0 {
+        let Some(width) = letter_width(text, i) else {
             if b == b'\'' {
                 return closed(name, n, i);
             }
-            return faulty(3, i);
-        }
+            return Err(Fault::StrayByte.at(i));
+        };
         if n == 15 {
-            return faulty(4, i);
+            return Err(Fault::LongWord.at(i));
         }
         name[n] = b;
         n += 1;
         i += width;
     }
-    faulty(10, i)
+    Err(Fault::TextEnds.at(i))
 }
 
 // The label that begins at `at`.
-pub fn scan(text: &[u8], at: usize) -> Scanned
+pub fn scan(text: &[u8], at: usize) -> Result<Scanned, Refusal>
     ensures { result ≡ scanned_at text.now at }
 {
-    if quote_at(text, at) {
-        return quoted(text, at);
+    if next_is(text, at, b'\'') {
+        quoted(text, at)
+    } else {
+        bare(text, at)
     }
-    bare(text, at)
 }

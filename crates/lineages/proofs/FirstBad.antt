@@ -6,25 +6,25 @@ use mathlib.Core.List.{List, [], ◌∷◌, Memᴰ}
 use native.Mathlib.Omega.{arith}
 use lib.ListN.{length, get_or, take, drop}
 use lib.Dec.{ltb}
-use borrow.Author.Tests.{ltb-false, lt-ltb, le-ltb}
+use Rattle.std.specs.Prelude.{Some, None, not, cond, position}
+use Rattle.std.specs.List.{position_or_len}
+use Rattle.std.proofs.lemmas.Option.{same_Some, none-some}
+use borrow.Author.Tests.{ltb-true, ltb-false, lt-ltb, le-ltb}
 use Rattle.labels.specs.Bytes.{one_more}
 use Rattle.trees.specs.Records.{records_in, AllValid, AllValidFor}
 use Rattle.trees.specs.Lists.{pieces}
-use Rattle.trees.specs.Valid.{valid_gene_for}
+use Rattle.trees.specs.Valid.{valid_gene, valid_gene_for}
 use Rattle.trees.specs.Unrooted.{may_unroot}
 use Rattle.trees.proofs.GeneRecords.{gene_decides, gene-cluster-below}
 use Rattle.trees.proofs.Places.{at_among, among_at}
-use Rattle.roster.specs.declared.Reply.{Reply}
-use Rattle.roster.specs.Judged.{refusal, done}
-use Rattle.roster.specs.Verdict.{Test, verdict_by, verdict}
+use Rattle.roster.specs.Verdict.{Test, Verdict, verdict_by, verdict}
 use Rattle.lineages.specs.Checks.{first_failing, first_bad, first_unresolved, is_unrooted, records_test, rooting_test}
 use Rattle.lineages.specs.InOrder.{Shaped, GenesInOrder}
-use Rattle.lineages.specs.Work.{genes_tests, GenesJudged}
+use Rattle.lineages.specs.Work.{genes_tests, said}
 use Rattle.weights.specs.Work.{AllCountable, AllMarkable}
 use Rattle.weights.specs.declared.Rooting.{Rooting}
 use Rattle.weights.specs.declared.Rooting.TheVariants.{Rooted, Unrooted}
 use Rattle.weights.proofs.Sums.{valid-countable}
-use Rattle.trees.proofs.Lent.{length-records_in}
 use Rattle.trees.proofs.EqualPieces.{pieces_from, pieces_from_first, pieces_from_next, pieces_from_last}
 
 module _ (test : List ℕ → Bool) where
@@ -66,6 +66,40 @@ module _ {size : ℕ} {test : List ℕ → Bool} {genes : List ℕ} {count i : �
       let all : i ≡ count = omega (arith, now.place) in
       let none : first_failing test (pieces_from size i count genes) ≡ 0 = rw (all, pieces_from_last) (failing_none test) in
       omega (arith, now.left)
+
+-- ---- found by `position`
+
+module _ (test : List ℕ → Bool) where
+  pub failing_position : (genes : List (List ℕ)) → position_or_len (λ g. not (test g)) genes ≡ first_failing test genes
+  unfolding first_failing
+  failing_position [] = refl
+  failing_position (g ∷ l) = go (test g) (failing_position l)
+    where
+      go :
+          (b : Bool) → position_or_len (λ g. not (test g)) l ≡ first_failing test l
+          → cond (not (not b)) (1 + position_or_len (λ g. not (test g)) l) 0 ≡ one_more b (first_failing test l)
+      go true e = omega arith
+      go false e = refl
+
+  -- a record that was found is the first that fails
+  pub found_first : (genes : List (List ℕ)) {i : ℕ} → Some i ≡ position (λ g. not (test g)) genes → (i ≡ first_failing test genes) × (i < length genes)
+  found_first genes {i} e = go (ltb (first_failing test genes) (length genes)) refl (rw (failing_position genes) at e)
+    where
+      go :
+          (b : Bool) → ltb (first_failing test genes) (length genes) ≡ b → Some i ≡ cond b (Some (first_failing test genes)) None
+          → (i ≡ first_failing test genes) × (i < length genes)
+      go true in_bounds e = let same : i ≡ first_failing test genes = same_Some _ _ e in (same, omega (arith, ltb-true (first_failing test genes) (length genes) in_bounds))
+      go false out e = absurd (none-some _ (sym e))
+
+  -- where none was found, none fails
+  pub found_none : (genes : List (List ℕ)) → None ≡ position (λ g. not (test g)) genes → length genes ≤ first_failing test genes
+  found_none genes e = go (ltb (first_failing test genes) (length genes)) refl (rw (failing_position genes) at e)
+    where
+      go :
+          (b : Bool) → ltb (first_failing test genes) (length genes) ≡ b → None ≡ cond b (Some (first_failing test genes)) None
+          → length genes ≤ first_failing test genes
+      go true in_bounds e = absurd (none-some _ e)
+      go false out e = ltb-false (first_failing test genes) (length genes) out
 
 -- ---- what the index says
 
@@ -132,10 +166,6 @@ module _ {b : ℕ} (n : ℕ) (genes : List (List ℕ)) (small : n ≤ b) where
   pub all_valid_none_bad : AllValidFor b n genes → first_failing (λ g. valid_gene_for b n g) genes ≡ length genes
   all_valid_none_bad all = all_pass (λ g. valid_gene_for b n g) genes (λ g m. (gene_decides g small).told (all g m))
 
-pub found-valid :
-    (n : ℕ) (genes : List ℕ) (count : ℕ) {bad : ℕ} → n ≤ 16 → bad ≡ first_bad n (records_in count genes) → count ≤ bad → AllValid n (records_in count genes)
-found-valid n genes count small found valid = none_bad n (records_in count genes) small (omega (arith, length-records_in count genes))
-
 -- where none is at fault for 19, all may be counted without a root, where they are
 pub none_unresolved :
     (rooting : Rooting) (n : ℕ) (genes : List (List ℕ)) → (is_unrooted rooting && ltb (first_unresolved n genes) (length genes)) ≡ false
@@ -154,29 +184,32 @@ all_resolved Unrooted n genes all =
 -- ---- both tests
 
 -- what is answered of the gene records, one law for each way
-module _ (rooting : Rooting) (n : ℕ) (genes : List ℕ) (count : ℕ) {bad : ℕ} (found : bad ≡ first_bad n (records_in count genes)) where
-  pub judged_bad : {r : Reply} → bad < count → r ≡ refusal 15 bad → GenesJudged rooting n genes count r
+module _ (rooting : Rooting) (n : ℕ) (genes : List (List ℕ)) where
+  pub judged_bad :
+      {bad : ℕ} → Some bad ≡ position (λ g. not (valid_gene n g)) genes → said 15 bad ≡ verdict (genes_tests rooting n genes)
   unfolding genes_tests records_test verdict
-  judged_bad l p = p ∙ rw (lt-ltb (first_bad n (records_in count genes)) (length (records_in count genes)) (omega (arith, length-records_in count genes)), found)
+  judged_bad found =
+      let first = found_first (λ g. valid_gene n g) genes found in
+      rw (lt-ltb (first_bad n genes) (length genes) (omega arith)) (ap (λ (i : ℕ). said 15 i) first.0)
 
-  module _ (valid : count ≤ bad) where
-    none_invalid : ltb (first_bad n (records_in count genes)) (length (records_in count genes)) ≡ false
-    none_invalid = le-ltb (first_bad n (records_in count genes)) (length (records_in count genes)) (omega (arith, length-records_in count genes))
+  module _ (valid : None ≡ position (λ g. not (valid_gene n g)) genes) where
+    none_invalid : ltb (first_bad n genes) (length genes) ≡ false
+    none_invalid = le-ltb (first_bad n genes) (length genes) (found_none (λ g. valid_gene n g) genes valid)
 
-    pub judged-rooted : {r : Reply} → rooting ≡ Rooted → r ≡ done 0 → GenesJudged rooting n genes count r
+    pub judged_unresolved :
+        {unresolved : ℕ} → rooting ≡ Unrooted → Some unresolved ≡ position (λ g. not (may_unroot n g)) genes → said 19 unresolved ≡ verdict (genes_tests rooting n genes)
     unfolding genes_tests records_test rooting_test verdict
-    judged-rooted e p = p ∙ rw (none_invalid, e)
+    judged_unresolved e found =
+        let first = found_first (λ g. may_unroot n g) genes found in
+        rw (none_invalid, e, lt-ltb (first_unresolved n genes) (length genes) (omega arith)) (ap (λ (i : ℕ). said 19 i) first.0)
 
-    module _ {unresolved : ℕ} (e : rooting ≡ Unrooted) (first : unresolved ≡ first_unresolved n (records_in count genes)) where
-      pub judged_unresolved : {r : Reply} → unresolved < count → r ≡ refusal 19 unresolved → GenesJudged rooting n genes count r
-      unfolding genes_tests records_test rooting_test verdict
-      judged_unresolved l p =
-          p ∙ rw (none_invalid, e, lt-ltb (first_unresolved n (records_in count genes)) (length (records_in count genes)) (omega (arith, length-records_in count genes)), first)
-
-      pub judged-resolved : {r : Reply} → count ≤ unresolved → r ≡ done 0 → GenesJudged rooting n genes count r
-      unfolding genes_tests records_test rooting_test verdict
-      judged-resolved l p =
-          p ∙ rw (none_invalid, e, le-ltb (first_unresolved n (records_in count genes)) (length (records_in count genes)) (omega (arith, length-records_in count genes)))
+    pub judged-resolved : (rooting ≡ Unrooted → None ≡ position (λ g. not (may_unroot n g)) genes) → said 0 0 ≡ verdict (genes_tests rooting n genes)
+    unfolding genes_tests records_test rooting_test verdict
+    judged-resolved found = rw (none_invalid, none_strange rooting found)
+      where
+        none_strange : (r : Rooting) → (r ≡ Unrooted → None ≡ position (λ g. not (may_unroot n g)) genes) → (is_unrooted r && ltb (first_unresolved n genes) (length genes)) ≡ false
+        none_strange Rooted e = refl
+        none_strange Unrooted e = le-ltb (first_unresolved n genes) (length genes) (found_none (λ g. may_unroot n g) genes (e refl))
 
 -- where two tests refuse nothing, neither finds a fault
 two_passed : (t u : Test) → (t.number ≡ 0 → ⊥) → (u.number ≡ 0 → ⊥) → (verdict (t ∷ u ∷ [])).number ≡ 0 → (t.fault ≡ false) × (u.fault ≡ false)
@@ -190,30 +223,36 @@ two_passed t u p q e = go t.fault u.fault refl refl e
     go false true h k z = absurd (q z)
     go false false h k z = (h, k)
 
-module _ (rooting : Rooting) (n : ℕ) (genes : List ℕ) (count : ℕ) {judged : Reply}
-    (told : GenesJudged rooting n genes count judged) (none : judged.number ≡ 0) where
-  pub faultless : ((records_test n (records_in count genes)).fault ≡ false) × ((rooting_test rooting n (records_in count genes)).fault ≡ false)
+-- behind both tests
+module _ (rooting : Rooting) (n : ℕ) (genes : List (List ℕ)) (none : said 0 0 ≡ verdict (genes_tests rooting n genes)) where
+  pub faultless : ((records_test n genes).fault ≡ false) × ((rooting_test rooting n genes).fault ≡ false)
   unfolding genes_tests records_test rooting_test
   faultless =
-      two_passed (records_test n (records_in count genes)) (rooting_test rooting n (records_in count genes)) (λ z. omega arith) (λ z. omega arith)
-      (sym (ap (λ (r : Reply). r.number) told) ∙ none)
+      two_passed (records_test n genes) (rooting_test rooting n genes) (λ z. omega arith) (λ z. omega arith)
+      (ap (λ (v : Verdict). v.number) (sym none))
 
   module _ (small : n ≤ 16) where
-    checked-valid : AllValid n (records_in count genes)
+    checked-valid : AllValid n genes
     unfolding records_test
-    checked-valid = none_bad n (records_in count genes) small (ltb-false (first_bad n (records_in count genes)) (length (records_in count genes)) faultless.0)
-
-    -- what was checked is in order
-    pub checked_in_order : Shaped n genes count → GenesInOrder rooting n genes count
-    unfolding rooting_test
-    checked_in_order shaped = record { shaped = shaped; valid = checked-valid; enter = none_unresolved rooting n (records_in count genes) faultless.1 }
+    checked-valid = none_bad n genes small (ltb-false (first_bad n genes) (length genes) faultless.0)
 
     -- can be counted
-    pub checked-countable : AllCountable (records_in count genes)
+    pub checked-countable : AllCountable genes
     checked-countable = valid-countable small checked-valid
 
     -- and marked below 2^n
-    pub checked_markable : AllMarkable (2 ^ n) (records_in count genes)
+    pub checked_markable : AllMarkable (2 ^ n) genes
     checked_markable g m =
         let v = checked-valid g m in
         record { form = v.valid.form; below = λ x h. (gene-cluster-below v x h).1 }
+
+-- what was checked is in order
+pub checked_in_order :
+    (rooting : Rooting) (n : ℕ) (genes : List ℕ) (count : ℕ) → said 0 0 ≡ verdict (genes_tests rooting n (records_in count genes)) → Shaped n genes count
+    → GenesInOrder rooting n genes count
+unfolding rooting_test
+checked_in_order rooting n genes count none shaped = record {
+  shaped = shaped;
+  valid = checked-valid rooting n (records_in count genes) none shaped.few_species;
+  enter = none_unresolved rooting n (records_in count genes) (faultless rooting n (records_in count genes) none).1;
+}

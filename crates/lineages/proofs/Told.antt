@@ -1,7 +1,7 @@
 -- The replies of the code's tests are the tests of the promises.
 use Prim.Native.Nat.{ℕ, ◌-◌, ◌^◌, ◌≤◌, ◌<◌}
-use mathlib.Core.Path.{◌≡◌, sym, ◌∙◌, subst}
-use mathlib.Core.Bool.{Bool, true, false, ◌&&◌}
+use mathlib.Core.Path.{◌≡◌, sym, ap, ◌∙◌, subst}
+use mathlib.Core.Bool.{Bool, true, false, not, ◌&&◌}
 use mathlib.Core.List.{List}
 use native.Mathlib.Decide.{dec_lt}
 use native.Mathlib.Omega.{arith}
@@ -23,6 +23,10 @@ valid-told b {n} g small e d = valid-reply 16 b g (whole_below_sixteen n small) 
 
 pub gene-told : (b : Bool) {breadth n : ℕ} (g : List ℕ) → n ≤ breadth → Decides b (GeneValidFor breadth n g) → b ≡ valid_gene_for breadth n g
 gene-told b g few d = reply_is_test b (gene_decides g few) d
+
+-- and whether a record is at fault, the opposite of it
+pub fault-told : (b : Bool) (n : ℕ) (g : List ℕ) → n ≤ 16 → Decides b (GeneValidFor 16 n g) → not b ≡ not (valid_gene_for 16 n g)
+fault-told b n g few d = ap not (gene-told b g few d)
 
 pub binary-told : (b : Bool) (n : ℕ) {all : ℕ} (g : List ℕ) → all ≡ whole n → Decides b (BinaryOn all g) → b ≡ binary (whole n) g
 binary-told b n g e d = binary-reply b (whole n) g (subst (λ (s : ℕ). Decides b (BinaryOn s g)) e d)

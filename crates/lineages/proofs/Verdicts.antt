@@ -3,11 +3,16 @@ use Prim.Native.Nat.{ℕ, suc, ◌*◌, ◌≤◌, ◌<◌}
 use mathlib.Core.Path.{◌≡◌, refl, sym, ap, ◌∙◌}
 use mathlib.Core.Bool.{Bool, true, false}
 use mathlib.Core.List.{List, [], ◌∷◌, ◌++◌}
+use mathlib.Core.Logic.{◌⊎◌, inl, inr}
 use native.Mathlib.Decide.{dec_lt}
 use native.Mathlib.Omega.{arith}
 use lib.ListN.{length}
 use borrow.Author.Tests.{lt-ltb, le-ltb, le-leb, lt-leb}
+use Rattle.faults.specs.Faults.{number as fault_number}
+use Rattle.faults.specs.declared.Fault.{Fault}
+use Rattle.faults.specs.declared.Refusal.{Refusal}
 use Rattle.roster.specs.Verdict.{Test, Verdict, verdict_by, verdict, length_test}
+use Rattle.roster.proofs.Refusals.{number-some}
 use Rattle.lineages.specs.Checks.{species_test, count_test}
 use Rattle.lineages.specs.InOrder.{Shaped}
 use Rattle.lineages.specs.Work.{shape_tests, said}
@@ -60,6 +65,20 @@ verdict-rest (t ∷ l) k n e = go t.fault e (λ h. verdict-rest l k n.1 h)
     go true e ih = absurd (n.0 e)
     go false e ih = ih e
 
+-- ---- what a part of a call says by its result
+
+-- no fault has the number 0
+pub numbered : (f : Fault) → fault_number f ≡ 0 → ⊥
+numbered f e = let some = number-some f in omega arith
+
+-- what a part refuses by the first tests, the call refuses
+pub refused_first : (l k : List Test) (e : Refusal) → said (fault_number e.fault) e.place ≡ verdict l → verdict (l ++ k) ≡ said (fault_number e.fault) e.place
+refused_first l k e told = verdict_first l k (sym told) (numbered e.fault)
+
+-- and where it refuses nothing, the others decide
+pub passed_first : (l k : List Test) → NoneGives 0 l → said 0 0 ≡ verdict l → verdict (l ++ k) ≡ verdict k
+passed_first l k none told = verdict-rest l k none (ap (λ (v : Verdict). v.number) (sym told))
+
 -- two lists of tests pass together where each does
 pub verdict_both : (l k : List Test) → NoneGives 0 l → (verdict (l ++ k)).number ≡ 0 → ((verdict l).number ≡ 0) × ((verdict k).number ≡ 0)
 unfolding verdict NoneGives
@@ -75,21 +94,29 @@ verdict_both (t ∷ l) k n e = go t.fault e (λ h. verdict_both l k n.1 h)
 -- ---- 1, 11 and 12
 
 module _ (n : ℕ) (genes : List ℕ) (count : ℕ) where
-  pub no_species : n < 1 → verdict (shape_tests n genes count) ≡ said 1 0
+  no_species : n < 1 → verdict (shape_tests n genes count) ≡ said 1 0
   unfolding verdict shape_tests species_test
   no_species h = rw (lt-leb 1 n h)
 
-  pub many_species : 16 < n → verdict (shape_tests n genes count) ≡ said 1 0
+  many_species : 16 < n → verdict (shape_tests n genes count) ≡ said 1 0
   unfolding verdict shape_tests species_test
   many_species h = rw (le-leb 1 n (omega arith), lt-leb n 16 h)
 
-  pub no_genes : 1 ≤ n → n ≤ 16 → count < 1 → verdict (shape_tests n genes count) ≡ said 11 0
+  pub wrong_species : (n < 1) ⊎ ((1 ≤ n) × (16 < n)) → verdict (shape_tests n genes count) ≡ said 1 0
+  wrong_species (inl h) = no_species h
+  wrong_species (inr h) = many_species h.1
+
+  no_genes : 1 ≤ n → n ≤ 16 → count < 1 → verdict (shape_tests n genes count) ≡ said 11 0
   unfolding verdict shape_tests species_test count_test
   no_genes p q h = rw (le-leb 1 n p, le-leb n 16 q, lt-leb 1 count h)
 
-  pub many_genes : 1 ≤ n → n ≤ 16 → 4096 < count → verdict (shape_tests n genes count) ≡ said 11 0
+  many_genes : 1 ≤ n → n ≤ 16 → 4096 < count → verdict (shape_tests n genes count) ≡ said 11 0
   unfolding verdict shape_tests species_test count_test
   many_genes p q h = rw (le-leb 1 n p, le-leb n 16 q, le-leb 1 count (omega arith), lt-leb count 4096 h)
+
+  pub wrong_genes : 1 ≤ n → n ≤ 16 → (count < 1) ⊎ ((1 ≤ count) × (4096 < count)) → verdict (shape_tests n genes count) ≡ said 11 0
+  wrong_genes p q (inl h) = no_genes p q h
+  wrong_genes p q (inr h) = many_genes p q h.1
 
   pub too_short : 1 ≤ n → n ≤ 16 → 1 ≤ count → count ≤ 4096 → length genes < 32 * count → verdict (shape_tests n genes count) ≡ said 12 0
   unfolding verdict shape_tests species_test count_test length_test

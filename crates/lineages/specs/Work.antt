@@ -1,7 +1,7 @@
 -- What the parts of the calls ask of one another: the checks of shape, and of the gene records.
-use Rattle.std.specs.Prelude.{ℕ, ◌*◌, ◌≡◌, List, [], ◌∷◌, length}
-use Rattle.roster.specs.Verdict.{Test, Verdict, verdict, length_test, reply_of}
-use Rattle.roster.specs.declared.Reply.{Reply}
+use Rattle.std.specs.Prelude.{ℕ, ◌*◌, ◌≡◌, List, [], ◌∷◌, length, Result}
+use Rattle.faults.specs.declared.Refusal.{Refusal}
+use Rattle.roster.specs.Verdict.{Test, Verdict, verdict, length_test, said_by}
 use Rattle.trees.specs.Records.{records_in}
 use Rattle.lineages.specs.Checks.{species_test, count_test, records_test, rooting_test}
 use Rattle.weights.specs.declared.Rooting.{Rooting}
@@ -19,5 +19,5 @@ abbrev pub said : ℕ → ℕ → Verdict
 said number place = record { number = number; place = place }
 
 -- what is answered of the gene records: 15 or 19, or no refusal
-abbrev pub GenesJudged : Rooting → ℕ → List ℕ → ℕ → Reply → Type 0
-GenesJudged rooting n genes count r = r ≡ reply_of (verdict (genes_tests rooting n (records_in count genes))) 0
+abbrev pub GenesJudged : Rooting → ℕ → List ℕ → ℕ → Result (Unit {0}) Refusal → Type 0
+GenesJudged rooting n genes count r = said_by r ≡ verdict (genes_tests rooting n (records_in count genes))

@@ -3,28 +3,56 @@
 
 pub mod checks;
 
+ghost use Rattle.std.specs.Prelude.{◌≡◌, length};
+ghost use Rattle.roster.specs.Judged.{reply_to};
 ghost use Rattle.lineages.specs.Promise.{Weighs, Scores, Marks};
 
-use roster::{Reply, done, refused};
+use faults::{Fault, Refusal};
+use roster::Reply;
 use weights::Rooting;
+
+// The weight of a cluster, or why there is none.
+fn weighed(
+    rooting: Rooting,
+    n: usize,
+    genes: &[u16],
+    count: usize,
+    cluster: usize,
+) -> Result<usize, Refusal>
+    ensures { Weighs rooting n genes.now count cluster (reply_to result) }
+{
+    checks::shape(n, genes, count)?;
+    checks::judge_genes(rooting, n, genes, count)?;
+    if !checks::is_cluster(n, cluster) {
+        return Err(Fault::NoCluster.at(cluster));
+    }
+    Ok(weights::adding::weigh(rooting, genes, count, cluster as u32))
+}
 
 // The weight of a cluster: the sum over all gene trees of its extra lineages.
 pub fn weight(rooting: Rooting, n: usize, genes: &[u16], count: usize, cluster: usize) -> Reply
     ensures { Weighs rooting n genes.now count cluster result }
 {
-    let number = checks::shape(n, genes, count);
-    if number != 0 {
-        return refused(number, 0);
+    roster::reply_to(weighed(rooting, n, genes, count, cluster))
+}
+
+// The score of a species record, or why there is none.
+fn scored(
+    rooting: Rooting,
+    n: usize,
+    genes: &[u16],
+    count: usize,
+    species: &[u16],
+) -> Result<usize, Refusal>
+    requires { length species.now ≡ 32 }
+    ensures { Scores rooting n genes.now count species.now (reply_to result) }
+{
+    checks::shape(n, genes, count)?;
+    if !checks::is_species_tree(n, species) {
+        return Err(Fault::BadSpeciesRecord.at(0));
     }
-    let judged = checks::judge_genes(rooting, n, genes, count);
-    if judged.number != 0 {
-        return judged;
-    }
-    if checks::is_cluster(n, cluster) {
-        let weight = weights::adding::weigh(rooting, genes, count, cluster as u32);
-        return done(weight);
-    }
-    refused(13, cluster)
+    checks::judge_genes(rooting, n, genes, count)?;
+    Ok(weights::adding::weigh_tree(rooting, genes, count, species))
 }
 
 // The score of a species tree: the sum of the weights of all its clusters.
@@ -37,38 +65,32 @@ pub fn score(
 ) -> Reply
     ensures { Scores rooting n genes.now count species.numbers result }
 {
-    let number = checks::shape(n, genes, count);
-    if number != 0 {
-        return refused(number, 0);
+    roster::reply_to(scored(rooting, n, genes, count, &species.numbers))
+}
+
+// Marks each cluster that some gene tree shows, or says why it marks none.
+fn marked(
+    rooting: Rooting,
+    n: usize,
+    genes: &[u16],
+    count: usize,
+    out: &mut [u8],
+) -> Result<usize, Refusal>
+    ensures { Marks rooting n genes.now count out.old (reply_to result) out.new }
+{
+    checks::shape(n, genes, count)?;
+    let entries = clusters::single(n) as usize;
+    if out.len() < entries {
+        return Err(Fault::ShortSlice.at(0));
     }
-    let numbers = species.numbers;
-    if checks::is_species_tree(n, &numbers) {
-        let judged = checks::judge_genes(rooting, n, genes, count);
-        if judged.number != 0 {
-            return judged;
-        }
-        let score = weights::adding::weigh_tree(rooting, genes, count, &numbers);
-        return done(score);
-    }
-    refused(16, 0)
+    checks::judge_genes(rooting, n, genes, count)?;
+    weights::marking::mark_shown(rooting, genes, count, out, entries);
+    Ok(0)
 }
 
 // Marks each cluster that some gene tree shows, in the first 2^n bytes.
 pub fn mark(rooting: Rooting, n: usize, genes: &[u16], count: usize, out: &mut [u8]) -> Reply
     ensures { Marks rooting n genes.now count out.old result out.new }
 {
-    let number = checks::shape(n, genes, count);
-    if number != 0 {
-        return refused(number, 0);
-    }
-    let entries = clusters::single(n) as usize;
-    if out.len() < entries {
-        return refused(12, 0);
-    }
-    let judged = checks::judge_genes(rooting, n, genes, count);
-    if judged.number != 0 {
-        return judged;
-    }
-    weights::marking::mark_shown(rooting, genes, count, out, entries);
-    done(0)
+    roster::reply_to(marked(rooting, n, genes, count, out))
 }

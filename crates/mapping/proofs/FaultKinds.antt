@@ -10,6 +10,7 @@ use borrow.Author.Tests.{eq-eqb, ne_eqb, lt-ltb, le-ltb, le-leb, lt-leb, leb-tru
 use Rattle.trees.specs.Lists.{some, up_to}
 use Rattle.trees.specs.Valid.{among}
 use Rattle.trees.proofs.Booleans.{unless, never_both}
+use Rattle.faults.specs.declared.Fault.{Fault}
 use Rattle.labels.specs.Bytes.{is_label}
 use Rattle.labels.specs.Labels.{told}
 use Rattle.labels.specs.Labels.Told.{ended, faulty as at_fault}
@@ -57,8 +58,8 @@ module _ (text : List ℕ) (p : ℕ) where
   pub none_compared : (kind : ℕ → Bool) → kind p ≡ false → compared_at kind text p ≡ false
   none_compared kind k = rw k
 
-  pub not_compared : (kind : ℕ → Bool) (number d : ℕ) → told (drop p text) ≡ at_fault number d → compared_at kind text p ≡ false
-  not_compared kind number d e = rw e (and-false (kind p))
+  pub not_compared : (kind : ℕ → Bool) (fault : Fault) (d : ℕ) → told (drop p text) ≡ at_fault fault d → compared_at kind text p ≡ false
+  not_compared kind fault d e = rw e (and-false (kind p))
 
   module _ (species : List (List ℕ)) where
     pub other_here : compared_at (species_at text) text p ≡ true → (position (name_at text p) species ≡ line_at text p → ⊥) → other_at species text p ≡ true

@@ -56,7 +56,7 @@ module _ (species individuals : List (List ℕ)) (text : List ℕ) (good : fault
             ends = record { label = label; n = n; says = says; place = refl; called = refl };
             within = (ended-within text at (record { fresh = b.fresh; label = label }) n says).1;
           }
-      ends (at_fault number d) says here label = absurd (never _ (broken-label species individuals text line at b few label number d says))
+      ends (at_fault fault d) says here label = absurd (never _ (broken-label species individuals text line at b few label fault d says))
 
       labelled : (t : Bool) → is_label (byte_at text at) ≡ t → at < length text → Stands at
       labelled true label here = ends (told (drop at text)) refl here label

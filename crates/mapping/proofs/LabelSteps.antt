@@ -9,6 +9,7 @@ use mathlib.Core.List.{List}
 use lib.ListN.{length, drop, length-drop, get_or-eq_default}
 use lib.Seq.{get_or-drop}
 use borrow.Author.Tests.{ne_eqb}
+use Rattle.faults.specs.declared.Fault.{Fault}
 use Rattle.labels.specs.Bytes.{is_label}
 use Rattle.labels.specs.Labels.{Told, told}
 use Rattle.labels.specs.Labels.Told.{ended, faulty as at_fault}
@@ -61,14 +62,14 @@ module _ (text : List ℕ) (at : ℕ) (st : Starts text at) where
   spans : (n : ℕ) → told s ≡ ended n → Spans s n
   spans n e = spanned s n e label-kind
 
-  pub stops : (number d : ℕ) → told s ≡ at_fault number d → Stops s d
-  stops number d e = stopped s number d e label-kind
+  pub stops : (fault : Fault) (d : ℕ) → told s ≡ at_fault fault d → Stops s d
+  stops fault d e = stopped s fault d e label-kind
 
   pub ended-unmarked : (n : ℕ) → told s ≡ ended n → Unmarked text at n
   ended-unmarked n e = let sp = spans n e in unmarked text at n even st.label sp.within sp.fine
 
-  pub broken-unmarked : (number d : ℕ) → told s ≡ at_fault number d → Unmarked text at d
-  broken-unmarked number d e = let sp = stops number d e in unmarked text at d even st.label sp.within sp.fine
+  pub broken-unmarked : (fault : Fault) (d : ℕ) → told s ≡ at_fault fault d → Unmarked text at d
+  broken-unmarked fault d e = let sp = stops fault d e in unmarked text at d even st.label sp.within sp.fine
 
   -- a label that ends takes some bytes of the text, and leaves no quote open
   pub ended-within : (n : ℕ) → told s ≡ ended n → (0 < n) × (at + n ≤ length text)

@@ -4,22 +4,22 @@ use native.Mathlib.Nat.{not-suc-le-zero}
 use native.Mathlib.Decide.{dec_lt}
 use native.Mathlib.Omega.{arith}
 use native.Mathlib.Numerals.{add-one}
-use mathlib.Core.Path.{◌≡◌, sym, ap, subst, ◌∙◌}
+use mathlib.Core.Path.{◌≡◌, refl, sym, ap, subst, ◌∙◌}
 use mathlib.Core.List.{List, ◌++◌, map}
 use lib.ListN.{length, get_or, set, replicate, length-append, length-replicate, length-set, get_or-replicate, get_or-append}
 use lib.Seq.{ext_get_or, get_or-set_same, get_or-set_other, get_or-append-add}
+use Rattle.std.proofs.Common.{Result, Ok, Err}
+use Rattle.faults.specs.declared.Refusal.{Refusal}
 use Rattle.clusters.specs.Sets.{whole, union}
 use Rattle.trees.specs.Lists.{up_to}
 use Rattle.trees.proofs.UpTo.{length-map-up_to, map-up_to}
 use Rattle.roster.specs.Roster.{names}
 use Rattle.mapping.specs.Mapping.{named_in}
 use Rattle.mapping.specs.Groups.{set_of, groups}
-use Rattle.mapping.specs.Work.{OfRoster, Reads, Heading, Listing, HeadRead, Listed, GroupRead, Good, GroupsRead}
-use Rattle.mapping.specs.declared.part.Part.{Part}
-use Rattle.mapping.specs.declared.part.Part.TheVariants.{Read, Faulty}
-use Rattle.mapping.specs.declared.lines.Group.{Group}
+use Rattle.mapping.specs.Work.{OfRoster, Reads, Onward, Heading, Listing, HeadRead, Listed, GroupRead, GroupsRead}
+use Rattle.mapping.specs.declared.lines.Individuals.{Individuals}
 use Rattle.mapping.proofs.Naming.{in_over}
-use Rattle.mapping.proofs.LineReads.{onward, HeadSays, GroupSays}
+use Rattle.mapping.proofs.LineReads.{refused_at}
 use Rattle.mapping.proofs.Walks.{heading_first, stands-beyond, leaves-out, ends_good}
 
 -- i lines were read, up to `at`: these individuals are taken, and the first i numbers found are the lines' sets
@@ -48,45 +48,49 @@ passed_none held n tokens m text =
 module _ (held : List ℕ) (n : ℕ) (tokens : List ℕ) (m : ℕ) (text found : List ℕ) (taken at i : ℕ) (so : Passed held n tokens m text found taken at i) where
   -- ---- one line more
 
-  module _ (less : i < n) (h : Part) (says : HeadSays held n i text at h) where
+  module _ (less : i < n) (h : Result ℕ Refusal) (says : HeadRead held n i text at h) where
     head-told : (line individuals : List ℕ) → OfRoster 16 line n held → OfRoster 32 individuals m tokens
         → Reads (names line) (names individuals) text (λ next. Listing (names line) (names individuals) text i next taken 0) h
     unfolding HeadRead
     head-told line individuals of ofs = says.1 line (names individuals) taken of less (so.passes line individuals of ofs).heading
 
-    pub head-refused : (place : ℕ) → h ≡ Faulty place → GroupsRead held n tokens m text (record { part = h; groups = found })
+    pub head-refused : (e : Refusal) → h ≡ Err e → GroupsRead held n tokens m text (Err e)
     unfolding GroupsRead
-    head-refused place is line individuals of ofs =
-        rw is (subst (Reads (names line) (names individuals) text (λ next. Listing (names line) (names individuals) text i next taken 0)) is (head-told line individuals of ofs))
+    head-refused e is line individuals of ofs =
+        subst (Reads (names line) (names individuals) text (λ next. Listing (names line) (names individuals) text i next taken 0)) is (head-told line individuals of ofs)
 
-    module _ (next : ℕ) (is : h ≡ Read next) (g : Group) (lists : GroupSays tokens m text next taken g) where
+    pub head_onward : (next : ℕ) → h ≡ Ok next → (at < next) × (next ≤ length text)
+    unfolding HeadRead
+    head_onward next is = subst (Onward (λ next. next) text at) is says.0
+
+    module _ (next : ℕ) (is : h ≡ Ok next) (g : Result Individuals Refusal) (lists : GroupRead tokens m text next taken g) where
       group-told : (line individuals : List ℕ) → OfRoster 16 line n held → OfRoster 32 individuals m tokens
-          → Reads (names line) (names individuals) text (λ end. Listed (names line) (names individuals) text i end taken g.set) g.part
+          → Reads (names line) (names individuals) text (λ s. Listed (names line) (names individuals) text i s.next taken s.set) g
       unfolding GroupRead
       group-told line individuals of ofs =
           lists.1 (names line) individuals i ofs
           (subst (Reads (names line) (names individuals) text (λ p. Listing (names line) (names individuals) text i p taken 0)) is (head-told line individuals of ofs))
 
-      pub group-refused : (place : ℕ) → g.part ≡ Faulty place → GroupsRead held n tokens m text (record { part = g.part; groups = found })
+      pub group-refused : (e : Refusal) → g ≡ Err e → GroupsRead held n tokens m text (Err e)
       unfolding GroupsRead
-      group-refused place at_fault_lem line individuals of ofs =
-          subst (λ (p : Part). Reads (names line) (names individuals) text (λ end. Good (names line) (names individuals) text found) p) (sym at_fault_lem)
-          (subst (Reads (names line) (names individuals) text (λ end. Listed (names line) (names individuals) text i end taken g.set)) at_fault_lem
-          (group-told line individuals of ofs))
+      group-refused e at_fault_lem line individuals of ofs =
+          subst (Reads (names line) (names individuals) text (λ s. Listed (names line) (names individuals) text i s.next taken s.set)) at_fault_lem
+          (group-told line individuals of ofs)
 
-      pub passed_more : (end : ℕ) → g.part ≡ Read end → n ≤ 16 → (all : ℕ) → all ≡ union taken g.set → Passed held n tokens m text (set found i g.set) all end (i + 1)
-      passed_more end reads room all is_all =
-          let first = onward text at next h is says.0 in
-          let last = onward text next end g.part reads lists.0 in
+      pub passed_more : (s : Individuals) → g ≡ Ok s → n ≤ 16 → (all : ℕ) → all ≡ union taken s.set → Passed held n tokens m text (set found i s.set) all s.next (i + 1)
+      unfolding GroupRead
+      passed_more s reads room all is_all =
+          let first = head_onward next is in
+          let last = subst (Onward (λ s. s.next) text next) reads lists.0 in
           let size = so.sized in
           record {
             within = last.1;
             few = omega arith;
-            sized = length-set found i g.set ∙ so.sized;
-            zeros = λ k l b. get_or-set_other found i k g.set 0 (λ e. absurd (omega arith)) ∙ so.zeros k (omega arith) b;
+            sized = length-set found i s.set ∙ so.sized;
+            zeros = λ k l b. get_or-set_other found i k s.set 0 (λ e. absurd (omega arith)) ∙ so.zeros k (omega arith) b;
             passes = λ line individuals of ofs.
                 let p = so.passes line individuals of ofs in
-                let l = subst (Reads (names line) (names individuals) text (λ q. Listed (names line) (names individuals) text i q taken g.set)) reads (group-told line individuals of ofs) in
+                let l = subst (Reads (names line) (names individuals) text (λ s. Listed (names line) (names individuals) text i s.next taken s.set)) reads (group-told line individuals of ofs) in
                 record {
                   heading = rw (add-one i, is_all) l.heading;
                   are = λ k b. by line individuals p l (omega arith) k b (dec_lt k i);
@@ -94,18 +98,18 @@ module _ (held : List ℕ) (n : ℕ) (tokens : List ℕ) (m : ℕ) (text found :
           }
         where
           by : (line individuals : List ℕ) (p : Passing (names line) (names individuals) text found taken at i)
-              (l : Listed (names line) (names individuals) text i end taken g.set) → at ≤ end → (k : ℕ) → k < i + 1 → Dec (k < i)
-              → get_or (set found i g.set) k 0 ≡ set_of (named_in (names individuals) text k end)
+              (l : Listed (names line) (names individuals) text i s.next taken s.set) → at ≤ s.next → (k : ℕ) → k < i + 1 → Dec (k < i)
+              → get_or (set found i s.set) k 0 ≡ set_of (named_in (names individuals) text k s.next)
           by line individuals p l onwards k b (yes before) =
               let c = p.heading.begun.counted in
-              get_or-set_other found i k g.set 0 (λ e. absurd (omega arith)) ∙ p.are k before
-              ∙ ap set_of (sym (in_over (names individuals) text k at end onwards (omega arith)))
+              get_or-set_other found i k s.set 0 (λ e. absurd (omega arith)) ∙ p.are k before
+              ∙ ap set_of (sym (in_over (names individuals) text k at s.next onwards (omega arith)))
           by line individuals p l onwards k b (no o) =
               let same : i ≡ k = omega arith in
               let size = so.sized in
               let f = so.few in
-              subst (λ (j : ℕ). get_or (set found i g.set) j 0 ≡ set_of (named_in (names individuals) text j end)) same
-              (get_or-set_same found i g.set 0 (omega arith) ∙ l.grouped)
+              subst (λ (j : ℕ). get_or (set found i s.set) j 0 ≡ set_of (named_in (names individuals) text j s.next)) same
+              (get_or-set_same found i s.set 0 (omega arith) ∙ l.grouped)
 
   -- ---- all lines
 
@@ -118,9 +122,10 @@ module _ (held : List ℕ) (n : ℕ) (tokens : List ℕ) (m : ℕ) (text found :
         let e : i ≡ length (names line) = omega arith in
         rw e at (so.passes line individuals of ofs).heading
 
-    pub lines-beyond : at < length text → GroupsRead held n tokens m text (record { part = Faulty at; groups = found })
+    pub lines-beyond : at < length text → GroupsRead held n tokens m text (Err (refused_at at))
     unfolding GroupsRead
-    lines-beyond here line individuals of ofs = stands-beyond (names line) (names individuals) text at taken (last line individuals of ofs) here
+    lines-beyond here line individuals of ofs =
+        record { faulty = refl; first = stands-beyond (names line) (names individuals) text at taken (last line individuals of ofs) here }
 
     module _ (over : length text ≤ at) (full : ℕ) (is-full : full ≡ whole m) where
       at_end : at ≡ length text
@@ -129,10 +134,13 @@ module _ (held : List ℕ) (n : ℕ) (tokens : List ℕ) (m : ℕ) (text found :
       whole_is : (individuals : List ℕ) → OfRoster 32 individuals m tokens → full ≡ whole (length (names individuals))
       whole_is individuals ofs = is-full ∙ ap whole ofs.counted
 
-      pub lines-leave-out : (taken ≡ full → ⊥) → GroupsRead held n tokens m text (record { part = Faulty at; groups = found })
+      pub lines-leave-out : (taken ≡ full → ⊥) → GroupsRead held n tokens m text (Err (refused_at at))
       unfolding GroupsRead
       lines-leave-out other line individuals of ofs =
-          leaves-out (names line) (names individuals) text at taken (last line individuals of ofs) at_end (λ e. other (e ∙ sym (whole_is individuals ofs)))
+          record {
+            faulty = refl;
+            first = leaves-out (names line) (names individuals) text at taken (last line individuals of ofs) at_end (λ e. other (e ∙ sym (whole_is individuals ofs)));
+          }
 
       -- the sets of a good mapping
       module _ (line individuals : List ℕ) (of : OfRoster 16 line n held) (ofs : OfRoster 32 individuals m tokens) (room : n ≤ 16) where
@@ -167,7 +175,7 @@ module _ (held : List ℕ) (n : ℕ) (tokens : List ℕ) (m : ℕ) (text found :
                 ∙ sym (get_or-append-add sets (replicate (16 - length (names line)) 0) (k - length (names line)) 0)
                 ∙ ap (λ (j : ℕ). get_or (sets ++ replicate (16 - length (names line)) 0) j 0) (sym e)
 
-      pub lines-good : n ≤ 16 → taken ≡ full → GroupsRead held n tokens m text (record { part = Read at; groups = found })
+      pub lines-good : n ≤ 16 → taken ≡ full → GroupsRead held n tokens m text (Ok found)
       unfolding GroupsRead groups
       lines-good room same line individuals of ofs =
           record {

@@ -8,12 +8,13 @@ use mathlib.Core.List.{List}
 use lib.ListN.{length, drop, length-drop}
 use lib.Dec.{eqb}
 use borrow.Author.Tests.{eq-eqb, ne_eqb}
+use Rattle.faults.specs.declared.Fault.{Fault}
 use Rattle.labels.specs.Bytes.{is_label}
 use Rattle.labels.specs.Labels.{Told, told}
 use Rattle.labels.specs.Labels.Told.{ended, faulty as at_fault}
 use Rattle.trees.proofs.Booleans.{never_both, or_left, or_right}
 use Rattle.roster.specs.Roster.{byte_at, quoted_at}
-use Rattle.mapping.specs.Mapping.{feed_at, parts_at, line_begins, item_begins, fresh_at, species_at, member_at, begins, line_at, ends_at, behind, no_colon_at, no_comma_at, stray_at, place_by, own_by, fault_at}
+use Rattle.mapping.specs.Mapping.{feed_at, parts_at, line_begins, item_begins, fresh_at, species_at, member_at, begins, line_at, ends_at, behind, no_colon_at, no_comma_at, stray_at, is_long, place_by, own_by, fault_at}
 use Rattle.mapping.specs.Work.{Clean, FirstAt, EndsBefore, Begun}
 use Rattle.mapping.proofs.Marks.{Unmarked, unmarked-fresh, begins_fresh, feed_here, colon-parts, comma-parts, line_more, line_same, parts_no_feed}
 use Rattle.mapping.proofs.Naming.{NoMember}
@@ -59,28 +60,28 @@ module _ (species individuals : List (List ℕ)) (text : List ℕ) (line at : �
     starts = record { fresh = b.fresh; label = label }
 
     -- a label with a fault of its own
-    pub broken-label : (number d : ℕ) → told (drop at text) ≡ at_fault number d → FirstAt species individuals text (place_by (eqb number 4) at d)
-    broken-label number d says = by (eqb number 4) refl
+    pub broken-label : (fault : Fault) (d : ℕ) → told (drop at text) ≡ at_fault fault d → FirstAt species individuals text (place_by (is_long fault) at d)
+    broken-label fault d says = by (is_long fault) refl
       where
-        own_by_lem : (p : ℕ) (t : Bool) → eqb number 4 ≡ t → own_by (told (drop at text)) at p ≡ eqb p (place_by t at d)
+        own_by_lem : (p : ℕ) (t : Bool) → is_long fault ≡ t → own_by (told (drop at text)) at p ≡ eqb p (place_by t at d)
         own_by_lem p t e = ap (λ (s : Told). own_by s at p) says ∙ ap (λ (u : Bool). eqb p (place_by u at d)) e
 
         none : Unmarked text at d
-        none = broken-unmarked text at starts number d says
+        none = broken-unmarked text at starts fault d says
 
-        first_byte : eqb number 4 ≡ false → fault_at species individuals text at ≡ false
+        first_byte : is_long fault ≡ false → fault_at species individuals text at ≡ false
         first_byte e =
-            let s = stops text at starts number d says in
+            let s = stops text at starts fault d says in
             let some = s.some in
             first_clean text at starts b.past species individuals few_here (own_by_lem at false e ∙ ne_eqb at (at + d) (λ f. absurd (omega arith)))
-            (no_other_label text at species (not_compared text at (species_at text) number d says))
-            (no_unknown_label text at individuals (not_compared text at (member_at text) number d says))
-            (no_again_label text at individuals (not_compared text at (member_at text) number d says))
+            (no_other_label text at species (not_compared text at (species_at text) fault d says))
+            (no_unknown_label text at individuals (not_compared text at (member_at text) fault d says))
+            (no_again_label text at individuals (not_compared text at (member_at text) fault d says))
 
-        by : (t : Bool) → eqb number 4 ≡ t → FirstAt species individuals text (place_by t at d)
+        by : (t : Bool) → is_long fault ≡ t → FirstAt species individuals text (place_by t at d)
         by true e = first_here (fault-own text at species individuals (own_is text at starts b.past d none at (omega arith) (omega arith) ∙ own_by_lem at true e ∙ eq-eqb at at refl))
         by false e =
-            let s = stops text at starts number d says in
+            let s = stops text at starts fault d says in
             let within = s.within in
             let left = length-drop at text in
             let h = starts-within text at starts in

@@ -2,6 +2,8 @@
 use Rattle.std.specs.Prelude.{ℕ, zero, suc, ◌+◌, Bool, true, false, not, ◌&&◌, ◌||◌, List, map, length, drop, eqb, leb, ltb}
 use Rattle.trees.specs.Lists.{keep, some, up_to}
 use Rattle.trees.specs.Valid.{among}
+use Rattle.faults.specs.declared.Fault.{Fault}
+use Rattle.faults.specs.declared.Fault.TheVariants.{LongWord}
 use Rattle.labels.specs.Bytes.{is_label}
 use Rattle.labels.specs.Labels.{Told, told}
 use Rattle.labels.specs.Labels.Told.{ended, faulty as at_fault}
@@ -92,6 +94,11 @@ no_comma_at text p = behind (member_at text) text p && not (eqb (byte_at text p)
 unfoldable pub stray_at : List ℕ → ℕ → Bool
 stray_at text p = ltb p (length text) && (no_label_at text p || no_colon_at text p || no_comma_at text p)
 
+-- the fault of a label of over fifteen bytes: "4 | sixteenth byte of a name"
+abbrev pub is_long : Fault → Bool
+is_long LongWord = true
+is_long _ = false
+
 -- a label of over fifteen bytes is a wrong name, "at the first byte at fault (a wrong name's first)" (#110); any other fault of a label has the place of its byte
 abbrev pub place_by : Bool → ℕ → ℕ → ℕ
 place_by true q d = q
@@ -100,7 +107,7 @@ place_by false q d = q + d
 -- the label that begins at q, of which this is told, has its own fault at p
 abbrev pub own_by : Told → ℕ → ℕ → Bool
 own_by (ended n) q p = false
-own_by (at_fault number d) q p = eqb p (place_by (eqb number 4) q d)
+own_by (at_fault fault d) q p = eqb p (place_by (is_long fault) q d)
 
 -- a label has a fault of its own (#103) at p: it is too long, a byte within quotes is not printable, a quote closes nothing, or the text ends before one closes
 unfoldable pub own_at : List ℕ → ℕ → Bool

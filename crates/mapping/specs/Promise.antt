@@ -1,8 +1,9 @@
 -- The promise of `judge`: what a stand's rosters and mapping come to (02, #110).
-use Rattle.std.specs.Prelude.{ℕ, zero, suc, ◌-◌, ◌≡◌, List, [], ◌∷◌, ◌++◌, length, replicate}
+use Rattle.std.specs.Prelude.{ℕ, ◌-◌, ◌≡◌, List, [], ◌∷◌, ◌++◌, length, replicate, Result, IfOk}
+use Rattle.faults.specs.declared.Refusal.{Refusal}
 use Rattle.roster.specs.Roster.{names, faulty as roster_faulty, first_fault as roster_fault}
 use Rattle.roster.specs.Judged.{species_most}
-use Rattle.roster.specs.Verdict.{Test, Verdict, verdict, value_by}
+use Rattle.roster.specs.Verdict.{Test, verdict, said_by}
 use Rattle.mapping.specs.Mapping.{faulty, first_fault}
 use Rattle.mapping.specs.Groups.{groups}
 use Rattle.mapping.specs.declared.Stand.{Stand}
@@ -24,17 +25,12 @@ mapping_test line individuals mapping =
 unfoldable pub stand_tests : List ℕ → List ℕ → List ℕ → List Test
 stand_tests line individuals mapping = roster_test species_most line ∷ roster_test individuals_most individuals ∷ mapping_test line individuals mapping ∷ []
 
--- the sets of individuals in sixteen numbers, zeros behind the last species'; all zeros where there is a refusal
-abbrev pub groups_by : ℕ → List ℕ → List ℕ
-groups_by zero l = l ++ replicate (16 - length l) 0
-groups_by (suc number) l = replicate 16 0
-
--- what the tests say, with how many species and individuals there are and the sets of individuals
-abbrev pub stand_of : Verdict → ℕ → ℕ → List ℕ → Stand
-stand_of said n m l =
-    record { number = said.number; place = said.place; species = value_by said.number n; individuals = value_by said.number m; groups = groups_by said.number l }
+-- a stand of so many species and individuals: the sets of individuals in sixteen numbers, zeros behind the last species'
+abbrev pub stand_of : ℕ → ℕ → List ℕ → Stand
+stand_of n m l = record { species = n; individuals = m; groups = l ++ replicate (16 - length l) 0 }
 
 -- the promise of `judge`: the first fault that the tests find, else each species' individuals
-unfoldable pub StandParsed : List ℕ → List ℕ → List ℕ → Stand → Type 0
+unfoldable pub StandParsed : List ℕ → List ℕ → List ℕ → Result Stand Refusal → Type 0
 StandParsed line individuals mapping r =
-    r ≡ stand_of (verdict (stand_tests line individuals mapping)) (length (names line)) (length (names individuals)) (groups (names line) (names individuals) mapping)
+    (said_by r ≡ verdict (stand_tests line individuals mapping))
+    × IfOk r (λ s. s ≡ stand_of (length (names line)) (length (names individuals)) (groups (names line) (names individuals) mapping))

@@ -1,148 +1,108 @@
 // The lines of the mapping, one for each species: its label, a colon, the labels of its individuals, and a line feed.
-ghost use Rattle.std.specs.Prelude.{◌≡◌, ◌*◌, ◌≤◌, length};
-ghost use Rattle.mapping.specs.Work.{Onward, Followed, HeadRead, MemberRead, GroupRead, GroupsRead};
+ghost use Rattle.std.specs.Prelude.{◌≤◌, length};
+ghost use Rattle.mapping.specs.Work.{HeadRead, MemberRead, GroupRead, GroupsRead};
 
-use crate::part::{Part, label_at};
+use crate::label::label_at;
 use clusters::{apart, single, union, whole};
-use roster::species;
+use faults::{Fault, Refusal};
+use labels::next_is;
+use roster::{Roster, species};
 
-// An individual's label, and the set of that one individual.
-#[derive(Clone, Copy)]
-pub struct Member {
-    pub part: Part,
-    pub one: u32,
-}
-
-// The individuals of a line, and their set.
-#[derive(Clone, Copy)]
-pub struct Group {
-    pub part: Part,
+// Individuals that were read, as a set, and the byte behind them.
+#[derive(Clone, Copy, Debug, PartialEq, Eq)]
+pub struct Individuals {
     pub set: u32,
+    pub next: usize,
 }
 
-// All lines, and for each species the set of its individuals.
-#[derive(Clone, Copy)]
-pub struct Groups {
-    pub part: Part,
-    pub groups: [u32; 16],
-}
-
-// The label of the i-th of n species at `at`, and the colon behind it.
-fn head_at(table: &[u8], n: usize, i: usize, text: &[u8], at: usize) -> Part
-    requires { (16 * n ≤ length table.now) × (at ≤ length text.now) }
-    ensures { Onward text.now at result × HeadRead table.now n i text.now at result }
+// The label of the i-th species at `at`, and the colon behind it: where the individuals begin.
+fn head_at(species_line: &Roster, i: usize, text: &[u8], at: usize) -> Result<usize, Refusal>
+    requires { (species_line.now.count ≤ 16) × (at ≤ length text.now) }
+    ensures { HeadRead species_line.now.table species_line.now.count i text.now at result }
 {
-    let read = label_at(text, at);
-    let part = read.part;
-    let name = read.name;
-    let Part::Read { next } = part else {
-        return part;
-    };
-    if species(table, n, name) != i {
-        return Part::Faulty { place: at };
+    let label = label_at(text, at)?;
+    if species(&species_line.table, species_line.count, label.name) != Some(i) {
+        return Err(Fault::FaultyMapping.at(at));
     }
-    if next == text.len() {
-        return Part::Faulty { place: next };
+    if !next_is(text, label.next, b':') {
+        return Err(Fault::FaultyMapping.at(label.next));
     }
-    if text[next] != b':' {
-        return Part::Faulty { place: next };
-    }
-    Part::Read { next: next + 1 }
+    Ok(label.next + 1)
 }
 
-// The label of one of m individuals at `at`, of none that is taken. A byte stands behind it.
-fn member_at(table: &[u8], m: usize, text: &[u8], at: usize, taken: u32) -> Member
-    requires { (m ≤ 32) × (16 * m ≤ length table.now) × (at ≤ length text.now) }
-    ensures { Followed text.now at result.part × MemberRead table.now m text.now at taken result }
+// The label of one of the individuals at `at`, of none that is taken. A byte stands behind it.
+fn member_at(
+    individuals: &Roster,
+    text: &[u8],
+    at: usize,
+    taken: u32,
+) -> Result<Individuals, Refusal>
+    requires { (individuals.now.count ≤ 32) × (at ≤ length text.now) }
+    ensures { MemberRead individuals.now.table individuals.now.count text.now at taken result }
 {
-    let read = label_at(text, at);
-    let part = read.part;
-    let name = read.name;
-    let Part::Read { next } = part else {
-        return Member { part, one: 0 };
+    let label = label_at(text, at)?;
+    let Some(who) = species(&individuals.table, individuals.count, label.name) else {
+        return Err(Fault::FaultyMapping.at(at));
     };
-    let who = species(table, m, name);
-    if who == m {
-        let part = Part::Faulty { place: at };
-        return Member { part, one: 0 };
-    }
     let one = single(who);
     if !apart(one, taken) {
-        let part = Part::Faulty { place: at };
-        return Member { part, one: 0 };
+        return Err(Fault::FaultyMapping.at(at));
     }
-    if next == text.len() {
-        let part = Part::Faulty { place: next };
-        return Member { part, one: 0 };
+    if label.next == text.len() {
+        return Err(Fault::FaultyMapping.at(label.next));
     }
-    Member { part, one }
+    Ok(Individuals {
+        set: one,
+        next: label.next,
+    })
 }
 
 // The individuals of a line from `start` on, none of those that are taken, up to behind its line feed.
-fn group_at(table: &[u8], m: usize, text: &[u8], start: usize, taken: u32) -> Group
-    requires { (m ≤ 32) × (16 * m ≤ length table.now) × (start ≤ length text.now) }
-    ensures { Onward text.now start result.part × GroupRead table.now m text.now start taken result }
+fn group_at(
+    individuals: &Roster,
+    text: &[u8],
+    start: usize,
+    taken: u32,
+) -> Result<Individuals, Refusal>
+    requires { (individuals.now.count ≤ 32) × (start ≤ length text.now) }
+    ensures { GroupRead individuals.now.table individuals.now.count text.now start taken result }
 {
-    let mut group = 0u32;
+    let mut set = 0u32;
     let mut at = start;
+    // No `for`: a label says itself where the next one begins.
     loop {
-        let read = member_at(table, m, text, at, union(taken, group));
-        let part = read.part;
-        let Part::Read { next } = part else {
-            return Group { part, set: 0 };
-        };
-        group = union(group, read.one);
-        if text[next] == b'\n' {
-            let part = Part::Read { next: next + 1 };
-            return Group { part, set: group };
+        let member = member_at(individuals, text, at, union(taken, set))?;
+        set = union(set, member.set);
+        at = member.next + 1;
+        match text[member.next] {
+            b'\n' => return Ok(Individuals { set, next: at }),
+            b',' => {}
+            _ => return Err(Fault::FaultyMapping.at(member.next)),
         }
-        if text[next] != b',' {
-            let part = Part::Faulty { place: next };
-            return Group { part, set: 0 };
-        }
-        at = next + 1;
     }
 }
 
-// The lines of all n species, each individual in one of them; `judge` calls it with the tables of two good rosters.
+// The lines of all species, each individual in one of them: for each species the set of its individuals. `judge` calls it with two good rosters.
 pub(crate) fn read_groups(
-    table: &[u8],
-    n: usize,
-    individuals: &[u8],
-    m: usize,
+    species_line: &Roster,
+    individuals: &Roster,
     text: &[u8],
-) -> Groups
-    requires { (n ≤ 16) × (m ≤ 32) × (16 * n ≤ length table.now) × (16 * m ≤ length individuals.now) }
-    ensures { GroupsRead table.now n individuals.now m text.now result }
+) -> Result<[u32; 16], Refusal>
+    requires { (species_line.now.count ≤ 16) × (individuals.now.count ≤ 32) }
+    ensures { GroupsRead species_line.now.table species_line.now.count individuals.now.table individuals.now.count text.now result }
 {
     let mut groups = [0u32; 16];
     let mut taken = 0u32;
     let mut at = 0;
-    let mut i = 0;
-    while i < n {
-        let part = head_at(table, n, i, text, at);
-        let Part::Read { next } = part else {
-            return Groups { part, groups };
-        };
-        let read = group_at(individuals, m, text, next, taken);
-        let part = read.part;
-        let Part::Read { next: end } = part else {
-            return Groups { part, groups };
-        };
-        let group = read.set;
-        groups[i] = group;
-        taken = union(taken, group);
-        at = end;
-        i += 1;
+    for i in 0..species_line.count {
+        let start = head_at(species_line, i, text, at)?;
+        let group = group_at(individuals, text, start, taken)?;
+        groups[i] = group.set;
+        taken = union(taken, group.set);
+        at = group.next;
     }
-    if at < text.len() {
-        let part = Part::Faulty { place: at };
-        return Groups { part, groups };
+    if at < text.len() || taken != whole(individuals.count) {
+        return Err(Fault::FaultyMapping.at(at));
     }
-    if taken != whole(m) {
-        let part = Part::Faulty { place: at };
-        return Groups { part, groups };
-    }
-    let part = Part::Read { next: at };
-    Groups { part, groups }
+    Ok(groups)
 }

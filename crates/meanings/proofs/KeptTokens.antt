@@ -8,11 +8,13 @@ use mathlib.Core.List.{List, [], ◌∷◌, ◌++◌, append_assoc}
 use lib.ListN.{length, take, drop, length-append, length-take, length-drop}
 use lib.Seq.{take-add}
 use lib.Dec.{eqb}
+use Rattle.faults.specs.Faults.{number as fault_number}
+use Rattle.faults.specs.declared.Fault.{Fault}
 use Rattle.labels.specs.Bytes.{next_is, next_label}
 use Rattle.labels.specs.Labels.{label_bytes, raw_to, Told, told}
 use Rattle.labels.specs.Labels.Told.{ended, faulty}
-use Rattle.labels.proofs.FaultyLabels.{Fault, told-fault}
-use Rattle.labels.proofs.FaultyLabels.Fault.{long, stray, empty, unclosed}
+use Rattle.labels.proofs.FaultyLabels.{AtFault, told-fault}
+use Rattle.labels.proofs.FaultyLabels.AtFault.{long, stray, empty, unclosed}
 use Rattle.labels.proofs.Spelled.{told_sound}
 use Rattle.labels.proofs.LabelFronts.{Front}
 use Rattle.labels.proofs.OpenLabels.{Open, fault_open, sixteenth_open, ended_open}
@@ -52,7 +54,7 @@ open_byte n s f is o =
     let here : border n s f - 1 ≡ f = omega arith in
     record { some = omega arith; label = rw here o }
 
-pub fault-till : {n : ℕ} {s : List ℕ} {f : ℕ} → Fault s n f → OpenTill n s f
+pub fault-till : {fault : Fault} {s : List ℕ} {f : ℕ} → AtFault s fault f → OpenTill (fault_number fault) s f
 fault-till {s = s} (long l) = by (next_is 39 (drop (raw_to label_bytes s) s)) refl
   where
     by : (t : Bool) → next_is 39 (drop (raw_to label_bytes s) s) ≡ t → OpenTill 4 s (raw_to label_bytes s)
@@ -89,9 +91,9 @@ module _ (given : Bool) {names : List (List ℕ)} {most : ℕ} {s₀ : List ℕ}
     where
       by : (t : Told) → told s ≡ t → name_by t s p ≡ refused n q → KeptTill given names most s₀ p₀ n q
       by (ended r) e h = absurd (parsed-refused h)
-      by (faulty number f) e h =
-          let same : number ≡ n = cc in
-          label-till f st kept (rw same at (fault-till (told-fault s number f e))) (cc)
+      by (faulty fault f) e h =
+          let same : fault_number fault ≡ n = cc in
+          label-till f st kept (rw same at (fault-till (told-fault s fault f e))) (cc)
 
   -- ---- numbers
 

@@ -7,13 +7,16 @@ use mathlib.Core.Bool.{Bool, true, false, false≢true, true≢false}
 use mathlib.Core.List.{List, [], ◌∷◌}
 use lib.ListN.{length, take, drop, length-take, length-drop}
 use lib.Seq.{take-take, drop-append_seam}
+use Rattle.faults.specs.Faults.{number as fault_number}
+use Rattle.faults.specs.declared.Fault.{Fault}
+use Rattle.faults.specs.declared.Fault.TheVariants.{LongWord}
 use Rattle.labels.specs.Bytes.{is_blank, run, next_is, next_label}
 use Rattle.labels.specs.Spelling.{Spells}
 use Rattle.labels.specs.Labels.{label_bytes, letters, raw_to, told}
 use Rattle.labels.specs.Labels.Told.{faulty}
 use Rattle.labels.proofs.Spelled.{no_label_over, whole_exact, spells_first}
-use Rattle.labels.proofs.FaultyLabels.{Fault, told-fault, letter_end, four-again}
-use Rattle.labels.proofs.FaultyLabels.Fault.{long as too_long, stray, empty, unclosed}
+use Rattle.labels.proofs.FaultyLabels.{AtFault, told-fault, letter_end, four-again}
+use Rattle.labels.proofs.FaultyLabels.AtFault.{long as too_long, stray, empty, unclosed}
 use Rattle.labels.proofs.OpenLabels.{fault_open}
 use Rattle.labels.proofs.Cut.{whole_letters}
 use Rattle.trees.specs.Tree.{Behind}
@@ -237,7 +240,7 @@ module _ (given : Bool) (names : List (List ℕ)) (m : ℕ) where
 abbrev pub Within : List ℕ → List ℕ → Type 0
 Within w x = (x ≡ w) × (length w ≤ label_bytes)
 
-four-long : {s : List ℕ} {n f : ℕ} → Fault s n f → n ≡ 4 → label_bytes < length (letters s)
+four-long : {s : List ℕ} {fault : Fault} {f : ℕ} → AtFault s fault f → fault_number fault ≡ 4 → label_bytes < length (letters s)
 four-long (too_long l) is = l
 four-long (stray w b rest split all short non) is = absurd (omega arith)
 four-long (empty rest split over) is = absurd (omega arith)
@@ -252,23 +255,23 @@ letter_decides s f = by (next_is 39 (drop f s))
     by false = omega arith
 
 -- the first j bytes of a label that has a sixteenth letter at f do not have all of that letter, where they have fifteen letters at most
-cut-before : (s : List ℕ) (f j : ℕ) → told s ≡ faulty 4 f → length (letters (take j s)) ≤ label_bytes → j < letter_end (next_is 39 (drop f s)) f
+cut-before : (s : List ℕ) (f j : ℕ) → told s ≡ faulty LongWord f → length (letters (take j s)) ≤ label_bytes → j < letter_end (next_is 39 (drop f s)) f
 cut-before s f j e short = by (dec_lt j (letter_end (next_is 39 (drop f s)) f))
   where
     by : Dec (j < letter_end (next_is 39 (drop f s)) f) → j < letter_end (next_is 39 (drop f s)) f
     by (yes l) = l
     by (no l) =
         let n = letter_end (next_is 39 (drop f s)) f in
-        absurd (omega (arith, four-long (told-fault (take j s) 4 f (four-again s (take j s) f e (take-take n j s (omega arith)))) refl))
+        absurd (omega (arith, four-long (told-fault (take j s) LongWord f (four-again s (take j s) f e (take-take n j s (omega arith)))) refl))
 
 module _ (m : ℕ) where
   -- the sixteenth letter of a label, of which at most fifteen stand before the place
   name-late :
-      {w s rest : List ℕ} → Spells w s rest → length (letters (part_before m s rest)) ≤ label_bytes → label_bytes < length w → (f : ℕ) → told s ≡ faulty 4 f
+      {w s rest : List ℕ} → Spells w s rest → length (letters (part_before m s rest)) ≤ label_bytes → label_bytes < length w → (f : ℕ) → told s ≡ faulty LongWord f
       → (p : ℕ) → Late m s p 4 (p + f)
   name-late {w} {s} {rest} r short long f e p =
       let t = drop f s in
-      let fits = (fault_open (told-fault s 4 f e)).within in
+      let fits = (fault_open (told-fault s LongWord f e)).within in
       let cut = cut-before s f (length s - max m (length rest)) e short in
       record {
         from = t;
@@ -296,7 +299,7 @@ module _ (m : ℕ) where
       by (no over) =
           let f = raw_to label_bytes s in
           let e = (whole_exact (record { spelled = r; over = no_label_over s rest stops })).long (omega arith) in
-          rw (name-faulty s p 4 f e) (halts (name-late r short (omega arith) f e p))
+          rw (name-faulty s p LongWord f e) (halts (name-late r short (omega arith) f e p))
 
   -- and so is the optional name behind a parenthesis
   pub inner_name-passes :

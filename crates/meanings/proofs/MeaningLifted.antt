@@ -9,6 +9,7 @@ use native.Mathlib.Omega.{arith}
 use lib.ListN.{length}
 use lib.Dec.{ltb}
 use Rattle.clusters.specs.Sets.{single, union, apart, within}
+use Rattle.faults.specs.declared.Fault.TheVariants.{LongWord}
 use Rattle.labels.specs.Bytes.{next_is, next_label}
 use Rattle.labels.specs.Spelling.{Spells}
 use Rattle.labels.specs.Labels.{label_bytes, raw_to}
@@ -93,7 +94,7 @@ name-passes {w} {s} {rest} r stop p = go (dec_le (length w) label_bytes)
     go (yes short) = rw (name-gives r (stopped-label stop) short p).is reads
     go (no long) =
         let x = whole_exact (record { spelled = r; over = no_label_over s rest (stopped-label stop) }) in
-        rw (name-faulty s p 4 (raw_to label_bytes s) (x.long (omega arith))) (halts four)
+        rw (name-faulty s p LongWord (raw_to label_bytes s) (x.long (omega arith))) (halts four)
 
 number_behind-passes : {w s m rest : List ℕ} → Blanks s m → Number w m rest → Stopped rest → (p : ℕ) → Passes rest (number_behind s p)
 unfolding number_behind

@@ -7,11 +7,13 @@ use mathlib.Core.List.{List, [], ◌∷◌, ◌++◌, append-nil}
 use native.Mathlib.Omega.{arith}
 use lib.ListN.{length, take, drop, length-append, length-drop}
 use lib.Seq.{drop-drop}
+use Rattle.faults.specs.Faults.{number as fault_number}
+use Rattle.faults.specs.declared.Fault.{Fault}
 use Rattle.labels.specs.Bytes.{is_digit, one_more, run, next_label}
 use Rattle.labels.specs.Labels.{label_bytes, doubled, raw_to, Told, told}
 use Rattle.labels.specs.Labels.Told.{ended, faulty}
-use Rattle.labels.proofs.FaultyLabels.{Fault, told-fault}
-use Rattle.labels.proofs.FaultyLabels.Fault.{long as long-in, stray as stray-in, empty, unclosed}
+use Rattle.labels.proofs.FaultyLabels.{AtFault, told-fault}
+use Rattle.labels.proofs.FaultyLabels.AtFault.{long as long-in, stray as stray-in, empty, unclosed}
 use Rattle.trees.specs.Tree.{Tree, Forest}
 use Rattle.trees.specs.Tree.Tree.{node}
 use Rattle.tokens.specs.Answers.{Answer, and_then, unexpected}
@@ -189,7 +191,8 @@ module _ (given : Bool) {names : List (List ℕ)} {most needed : ℕ} {s₀ : Li
   -- ---- names
 
   -- a label's fault: a sixteenth letter, a byte that may not stand within quotes, quotes around nothing, quotes that never close
-  label-says : {u s : List ℕ} {p n q k : ℕ} → Stands s₀ p₀ u s p → Stand NameIn u → q ≡ p + k → Fault s n k → SaysOf given names most needed s₀ p₀ n q
+  label-says : {u s : List ℕ} {p q k : ℕ} {fault : Fault} → Stands s₀ p₀ u s p → Stand NameIn u → q ≡ p + k → AtFault s fault k
+      → SaysOf given names most needed s₀ p₀ (fault_number fault) q
   label-says {u} {s} {p} {q = q} st may at (long-in l) =
       let here = back st.left in
       λ forbidden. record {
@@ -213,10 +216,10 @@ module _ (given : Bool) {names : List (List ℕ)} {most needed : ℕ} {s₀ : Li
     where
       go : (t : Told) → told s ≡ t → name_by t s p ≡ refused n q → SaysOf given names most needed s₀ p₀ n q
       go (ended k) is h = absurd (parsed-refused h)
-      go (faulty number k) is h =
-          let e : number ≡ n = cc in
+      go (faulty fault k) is h =
+          let e : fault_number fault ≡ n = cc in
           let at : q ≡ p + k = cc in
-          rw (← e) (label-says st may at (told-fault s number k is))
+          rw (← e) (label-says st may at (told-fault s fault k is))
 
   inner_name-says : {u s : List ℕ} {p n q : ℕ} → Stands s₀ p₀ u s p → Stand ClosingIn u → inner_name s p ≡ refused n q → SaysOf given names most needed s₀ p₀ n q
   unfolding inner_name

@@ -6,6 +6,7 @@ use mathlib.Core.Logic.{◌⊎◌, inl, inr}
 use mathlib.Core.List.{List, [], ◌∷◌, ◌++◌, append-nil, Memᴰ}
 use lib.ListN.{length, drop}
 use borrow.Author.Tests.{ltb-true}
+use Rattle.std.proofs.Common.{Some, Ok}
 use Rattle.labels.proofs.RunRules.{run_some, run_all}
 use Rattle.trees.specs.Tree.{Tree, Forest, Behind}
 use Rattle.trees.specs.Tree.Tree.{leaf, node}
@@ -16,9 +17,7 @@ use Rattle.tokens.specs.Tokens.{inner_name, number_bytes}
 use Rattle.tokens.specs.Supports.{supported}
 use Rattle.tokens.specs.Values.{too_fine, thousandths}
 use Rattle.tokens.specs.Says.{between, behind_says, behind_valued, inner_word}
-use Rattle.tokens.specs.declared.answer.Value.TheVariants.{Thousandths}
 use Rattle.tokens.specs.declared.answer.Figures.{Figures}
-use Rattle.tokens.specs.declared.answer.BehindRead.TheVariants.{Behind as Extended}
 use Rattle.tokens.proofs.Values.{digits-begin, whole_not_fine, fine_by_decimals, NoneWhereFine, none_where_fine, value-below}
 use Rattle.nodes.specs.Grammar.{strict, Number, ColonNumber, Numbers, Text}
 use Rattle.nodes.specs.Grammar.Number.{whole, decimal}
@@ -34,7 +33,7 @@ use Rattle.nodes.proofs.Scanners.{FitTree, FitForest, fits-leaf, fits-node, fits
 -- what stands behind a node was read, and the node was drawn with it
 drawn_worth :
     (text w : List ℕ) (e : Figures) (answer : Answer Behind) (make : Behind → Tree) (t : Tree) {rest : List ℕ} {q : ℕ}
-    → ((b : Behind) → behind_of (make b) ≡ b) → behind_says text w (Extended e) ≡ answer → behind_valued text (Extended e)
+    → ((b : Behind) → behind_of (make b) ≡ b) → behind_says text w (Ok e) ≡ answer → behind_valued text (Ok e)
     → and_then answer (λ b s p. parsed (make b) s p) ≡ parsed t rest q → Worth e t
 unfolding distance_value support_value
 drawn_worth text w e answer make t {rest} {q} made says values is =
@@ -47,7 +46,7 @@ drawn_worth text w e answer make t {rest} {q} made says values is =
 -- of a leaf, by the promise of `behind`
 pub leaf_worth :
     (given : Bool) (text : List ℕ) (i begun next : ℕ) (e : Figures) (t : Tree) {rest : List ℕ} {q : ℕ}
-    → ((w : List ℕ) → behind_says text w (Extended e) ≡ supported given w (drop next text) next) → behind_valued text (Extended e)
+    → ((w : List ℕ) → behind_says text w (Ok e) ≡ supported given w (drop next text) next) → behind_valued text (Ok e)
     → leaf_new given true i begun (drop next text) next ≡ parsed t rest q → Worth e t
 leaf_worth given text i begun next e t says values is =
     drawn_worth text [] e (supported given [] (drop next text) next) (λ b. leaf i b) t (λ b. refl) (says []) values is
@@ -55,8 +54,8 @@ leaf_worth given text i begun next e t says values is =
 -- of an inner node, by the promise of `closing`
 pub inner_worth :
     (given : Bool) (text : List ℕ) (at : ℕ) (first : Tree) (others : Forest) (e : Figures) (t : Tree) {rest : List ℕ} {q : ℕ}
-    → behind_says text (inner_word (drop at text)) (Extended e) ≡ and_then (inner_name (drop at text) at) (λ w s p. supported given w s p)
-    → behind_valued text (Extended e) → closing given first others (drop at text) at ≡ parsed t rest q → Worth e t
+    → behind_says text (inner_word (drop at text)) (Ok e) ≡ and_then (inner_name (drop at text) at) (λ w s p. supported given w s p)
+    → behind_valued text (Ok e) → closing given first others (drop at text) at ≡ parsed t rest q → Worth e t
 unfolding closing_by
 inner_worth given text at first others e t says values is =
     drawn_worth text (inner_word (drop at text)) e (and_then (inner_name (drop at text) at) (λ w s p. supported given w s p)) (λ b. node first others b) t
@@ -81,7 +80,7 @@ number-fine (decimal {v = v} {w = w} r u) fine =
 -- a number within twelve bytes: none exactly where it is too fine, else less than 10 ^ 15 thousandths
 pub record Sized (w : List ℕ) : Type 0 where
   pub none : NoneWhereFine w
-  pub below : (n : ℕ) → thousandths w ≡ Thousandths n → n < 10 ^ 15
+  pub below : (n : ℕ) → thousandths w ≡ Some n → n < 10 ^ 15
 
 colon-sized :
     {Takes : List ℕ → List ℕ → List ℕ → Type 0} → ((w s rest : List ℕ) → Takes w s rest → length w ≤ number_bytes)

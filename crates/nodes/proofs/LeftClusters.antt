@@ -5,6 +5,7 @@ use mathlib.Core.Path.{◌≡◌, refl}
 use mathlib.Core.Bool.{Bool, true, false}
 use mathlib.Core.List.{List, [], ◌∷◌, ◌++◌}
 use lib.ListN.{length, get_or}
+use Rattle.std.proofs.Common.{None}
 use Rattle.clusters.specs.Sets.{union}
 use Rattle.trees.specs.Lists.{Sublist}
 use Rattle.trees.specs.Lists.Sublist.{ends, kept, added}
@@ -14,9 +15,7 @@ use Rattle.trees.specs.Tree.Forest.{last, more}
 use Rattle.trees.specs.Thinned.{unless_lost, left_below, left_below_of, clusters_left}
 use Rattle.trees.proofs.Listing.{sublist_append}
 use Rattle.trees.proofs.Thinned.{left_all, below_of_all, below_of_of_all}
-use Rattle.tokens.specs.Supports.{weak}
-use Rattle.tokens.specs.declared.answer.Threshold.{Threshold}
-use Rattle.tokens.specs.declared.answer.Threshold.TheVariants.{NoThreshold}
+use Rattle.tokens.specs.Supports.{weak, Threshold}
 use Rattle.nodes.specs.Core.{left_in, left_in_of}
 use Rattle.nodes.proofs.Growth.{Fresh, FreshTree, FreshForest}
 
@@ -29,7 +28,7 @@ left_below_lem threshold (leaf i b) = refl
 left_below_lem threshold (node t f b) = refl
 
 -- the root, which has none
-pub left_at_root : (threshold : Threshold) (t : Tree) → left_in NoThreshold threshold t ≡ clusters_left (λ b. weak threshold b) t
+pub left_at_root : (threshold : Threshold) (t : Tree) → left_in None threshold t ≡ clusters_left (λ b. weak threshold b) t
 unfolding left_in clusters_left
 left_at_root threshold (leaf i b) = refl
 left_at_root threshold (node t f b) = refl
@@ -52,8 +51,8 @@ unfolding left_in_of left_below_of
 left_of_more threshold t f = rw (left_below_lem threshold t)
 
 -- "without a threshold nothing changes" (#113): all clusters are left
-pub left_without : (t : Tree) → clusters_left (λ b. weak NoThreshold b) t ≡ clusters t
-left_without t = left_all (λ b. weak NoThreshold b) (λ b. refl) t
+pub left_without : (t : Tree) → clusters_left (λ b. weak None b) t ≡ clusters t
+left_without t = left_all (λ b. weak None b) (λ b. refl) t
 
 -- ---- no more than all clusters
 

@@ -13,6 +13,9 @@ use lib.ListN.{length, get_or, take, drop}
 use lib.Seq.{drop-drop, take-add, get_or-drop}
 use lib.Dec.{eqb, ltb}
 use Rattle.clusters.specs.Sets.{single, union, apart, within}
+use Rattle.faults.specs.Faults.{number as fault_number}
+use Rattle.faults.specs.declared.Fault.{Fault}
+use Rattle.faults.specs.declared.Fault.TheVariants.{StrayByte, LongWord}
 use Rattle.labels.specs.Bytes.{is_digit, is_bare, is_blank, run, next_is, next_bare, next_label}
 use Rattle.labels.specs.Spelling.{goes_on_by}
 use Rattle.labels.specs.Labels.{letters, Told, told}
@@ -21,8 +24,8 @@ use Rattle.labels.proofs.Runs.{run-byte, run-behind}
 use Rattle.labels.proofs.RunRules.{run_take}
 use Rattle.labels.proofs.FirstBytes.{FirstByte, next_is_first, next_bare_first, next_label_first, agree_less}
 use Rattle.labels.proofs.Spelled.{told_sound, told_none, letters_none, label_last}
-use Rattle.labels.proofs.FaultyLabels.{Fault, told-fault, letter_end, three-again, four-again, ended-again}
-use Rattle.labels.proofs.FaultyLabels.Fault.{long as too_long, stray, empty, unclosed}
+use Rattle.labels.proofs.FaultyLabels.{AtFault, told-fault, letter_end, three-again, four-again, ended-again}
+use Rattle.labels.proofs.FaultyLabels.AtFault.{long as too_long, stray, empty, unclosed}
 use Rattle.trees.specs.Tree.{Tree, Forest, Behind, cluster}
 use Rattle.trees.specs.Tree.Tree.{leaf, node}
 use Rattle.trees.specs.Tree.Forest.{last, more}
@@ -71,7 +74,7 @@ deciding_some number t name support = rw (name, support) (by (eqb number 4 && ne
     by false = omega arith
 
 -- a label at fault is decided by a byte at the least
-fault_some : {s : List ℕ} {number d : ℕ} → Fault s number d → (t : List ℕ) → 1 ≤ deciding number t
+fault_some : {s : List ℕ} {fault : Fault} {d : ℕ} → AtFault s fault d → (t : List ℕ) → 1 ≤ deciding (fault_number fault) t
 fault_some (too_long l) t = deciding_some 4 t refl refl
 fault_some (stray w b rest split all short non) t = omega arith
 fault_some (empty rest split over) t = omega arith
@@ -529,32 +532,32 @@ module _ (e : ℕ) (text_at : ℕ → List ℕ) (before : ℕ) (behind : List �
       (told_none s' non' ∙ (sym (told_none s non) ∙ is), letters_none s' non' ∙ sym (letters_none s non))
 
   -- a label at fault that is decided before the place e is at fault alike in the second text
-  three_same : (d p : ℕ) (s s' : List ℕ) → At p s → Agree p s s' → told s ≡ faulty 3 d → p + suc d ≤ e
-      → (asks_label 3 (text_at (p + d)) ≡ true → Label) → told s' ≡ faulty 3 d
+  three_same : (d p : ℕ) (s s' : List ℕ) → At p s → Agree p s s' → told s ≡ faulty StrayByte d → p + suc d ≤ e
+      → (asks_label 3 (text_at (p + d)) ≡ true → Label) → told s' ≡ faulty StrayByte d
   three_same d p s s' at agree is l asked =
       three-again s s' d is (sym (agree.front (suc d) l))
       (λ quote on. (label-behind d p s s' at agree (l, λ there. asked (ap (next_is 39) (at.text d) ∙ quote))
       ).quote (ap (λ (b : ℕ). eqb b 39) (sym (front-drop d s)) ∙ front-quote (drop d s) quote) on)
 
-  four_same : (d p : ℕ) (s s' : List ℕ) → At p s → Agree p s s' → told s ≡ faulty 4 d → p + d + deciding 4 (text_at (p + d)) ≤ e → told s' ≡ faulty 4 d
+  four_same : (d p : ℕ) (s s' : List ℕ) → At p s → Agree p s s' → told s ≡ faulty LongWord d → p + d + deciding 4 (text_at (p + d)) ≤ e → told s' ≡ faulty LongWord d
   four_same d p s s' at agree is l = four-again s s' d is (sym (agree.front (letter_end (next_is 39 (drop d s)) d) (by (next_is 39 (drop d s)) (rw (at.text d) at l))))
     where
       by : (t : Bool) → p + d + deciding_by false false t (drop d s) ≤ e → p + letter_end t d ≤ e
       by true l = omega arith
       by false l = omega arith
 
-  fault_same : (number d p : ℕ) (s s' : List ℕ) → At p s → Agree p s s' → told s ≡ faulty number d → Early {A = List ℕ} (refused number (p + d))
-      → told s' ≡ faulty number d
-  fault_same number d p s s' at agree is h = by (told-fault s number d is) is h
+  fault_same : (fault : Fault) (d p : ℕ) (s s' : List ℕ) → At p s → Agree p s s' → told s ≡ faulty fault d → Early {A = List ℕ} (refused (fault_number fault) (p + d))
+      → told s' ≡ faulty fault d
+  fault_same fault d p s s' at agree is h = by (told-fault s fault d is) is h
     where
-      by : {number d : ℕ} → Fault s number d → told s ≡ faulty number d → Early {A = List ℕ} (refused number (p + d)) → told s' ≡ faulty number d
+      by : {fault : Fault} {d : ℕ} → AtFault s fault d → told s ≡ faulty fault d → Early {A = List ℕ} (refused (fault_number fault) (p + d)) → told s' ≡ faulty fault d
       by (too_long l) is h = four_same _ p s s' at agree is h.0
       by (stray w b rest split all short non) is h = three_same _ p s s' at agree is (omega arith) h.3
       by (empty rest split over) is h = three_same _ p s s' at agree is (omega arith) h.3
       by (unclosed w split all short) is h = absurd (h.2 refl)
 
-  fault_here : (number d p : ℕ) (s : List ℕ) → told s ≡ faulty number d → Early {A = List ℕ} (refused number (p + d)) → p < e
-  fault_here number d p s is h = omega (arith, h.0, fault_some (told-fault s number d is) (text_at (p + d)))
+  fault_here : (fault : Fault) (d p : ℕ) (s : List ℕ) → told s ≡ faulty fault d → Early {A = List ℕ} (refused (fault_number fault) (p + d)) → p < e
+  fault_here fault d p s is h = omega (arith, h.0, fault_some (told-fault s fault d is) (text_at (p + d)))
 
   ended_same : (n p : ℕ) (s s' : List ℕ) → At p s → Agree p s s' → told s ≡ ends_at n → p + n < e → (told s' ≡ ends_at n) × (letters s' ≡ letters s)
   ended_same n p s s' at agree is l = by (next_label s) refl
@@ -575,15 +578,15 @@ module _ (e : ℕ) (text_at : ℕ → List ℕ) (before : ℕ) (behind : List �
 
       here : (s : List ℕ) (p : ℕ) (t : Told) → told s ≡ t → Early (name s p) → p < e
       here s p (ends_at n) is h = omega (arith, ended_here s p n is h)
-      here s p (faulty number d) is h = fault_here number d p s is (rw (name-faulty s p number d is) at h)
+      here s p (faulty fault d) is h = fault_here fault d p s is (rw (name-faulty s p fault d is) at h)
 
       steady : (s s' : List ℕ) (p : ℕ) → At p s → Agree p s s' → (t : Told) → told s ≡ t → Early (name s p) → Same (name s p) (name s' p)
       steady s s' p at agree (ends_at n) is h =
           let same = ended_same n p s s' at agree is (ended_here s p n is h) in
           rw (name-ended s p n is, name-ended s' p n same.0, same.1) (read (at_drop n p s at) (agree-drop n p s s' agree))
-      steady s s' p at agree (faulty number d) is h =
-          let same = fault_same number d p s s' at agree is (rw (name-faulty s p number d is) at h) in
-          rw (name-faulty s p number d is, name-faulty s' p number d same) stays
+      steady s s' p at agree (faulty fault d) is h =
+          let same = fault_same fault d p s s' at agree is (rw (name-faulty s p fault d is) at h) in
+          rw (name-faulty s p fault d is, name-faulty s' p fault d same) stays
 
   local_inner_name_by : (b : Bool) → Local (λ s p. inner_name_by b s p)
   local_inner_name_by false = local_parsed []
@@ -798,7 +801,7 @@ module _ (e : ℕ) (text_at : ℕ → List ℕ) (before : ℕ) (behind : List �
       where
         by : (t : Told) → told s ≡ t → p < e
         by (ends_at n) is = omega (arith, (leaf_over seen s p n at is h).0, (told_sound s n begins is).some)
-        by (faulty number d) is = fault_here number d p s is (rw (leaf-faulty s p given names seen number d is) at h)
+        by (faulty fault d) is = fault_here fault d p s is (rw (leaf-faulty s p given names seen fault d is) at h)
 
     leaf-steady : (seen : ℕ) (s s' : List ℕ) (p : ℕ) → At p s → Agree p s s' → next_label s ≡ true → Early (leaf_at given names seen s p)
         → Same (leaf_at given names seen s p) (leaf_at given names seen s' p)
@@ -806,9 +809,9 @@ module _ (e : ℕ) (text_at : ℕ → List ℕ) (before : ℕ) (behind : List �
       where
         by : (t : Told) → told s ≡ t → Same (leaf_at given names seen s p) (leaf_at given names seen s' p)
         by (ends_at n) is = leaf_same seen s s' p n at agree begins is h
-        by (faulty number d) is =
-            let same = fault_same number d p s s' at agree is (rw (leaf-faulty s p given names seen number d is) at h) in
-            rw (leaf-faulty s p given names seen number d is, leaf-faulty s' p given names seen number d same) stays
+        by (faulty fault d) is =
+            let same = fault_same fault d p s s' at agree is (rw (leaf-faulty s p given names seen fault d is) at h) in
+            rw (leaf-faulty s p given names seen fault d is, leaf-faulty s' p given names seen fault d same) stays
 
     -- ---- nodes
 

@@ -6,6 +6,8 @@ use mathlib.Core.Bool.{true, false}
 use mathlib.Core.List.{List, ◌++◌}
 use lib.ListN.{length, drop, length-append, length-drop}
 use lib.Seq.{sets, length-sets}
+use Rattle.tokens.specs.declared.answer.Figures.{Figures}
+use Rattle.std.specs.Prelude.{Result, Ok, Err}
 use Rattle.clusters.specs.Sets.{union, size}
 use Rattle.clusters.proofs.Sets.{union-below, union_assoc, apart-sym}
 use Rattle.clusters.proofs.Sizes.{size-apart, size-le}
@@ -17,20 +19,19 @@ use Rattle.tokens.specs.Answers.{Answer, and_then}
 use Rattle.tokens.specs.Answers.Answer.{parsed}
 use Rattle.tokens.specs.Tokens.{blanks, skip, inner_name}
 use Rattle.tokens.specs.Says.{stray_at, behind_says, behind_valued, inner_word}
-use Rattle.tokens.specs.Supports.{is_given, supported}
-use Rattle.tokens.specs.declared.answer.Refusal.{Refusal}
-use Rattle.tokens.specs.declared.answer.Threshold.{Threshold}
-use Rattle.tokens.specs.declared.answer.BehindRead.{BehindRead}
+use Rattle.tokens.specs.Supports.{is_given, supported, Threshold}
+use Rattle.faults.specs.declared.Fault.TheVariants.{TooDeep}
+use Rattle.faults.specs.declared.Refusal.{Refusal}
 use Rattle.nodes.specs.Reading.{leaf_at, closing, after_first, after_child, read_node, read_forest, closing_by}
-use Rattle.nodes.specs.Core.{no_comma_at, left_in, left_in_of, ended_as, kept_as, Holds, Given, NodeReads, ListReads, ReadsLeaf, ReadsNode, ReadsList}
+use Rattle.nodes.specs.Core.{no_comma_at, left_in, left_in_of, Holds, Given, NodeReads, ListReads, ReadsLeaf, ReadsNode, ReadsList}
 use Rattle.nodes.specs.declared.answer.Cursor.{Cursor}
-use Rattle.nodes.specs.declared.answer.NodeRead.{NodeRead}
-use Rattle.nodes.specs.declared.answer.NodeRead.TheVariants.{Node, Refused as NoNode}
+use Rattle.nodes.specs.declared.Reader.{Reader}
+use Rattle.nodes.specs.declared.answer.Node.{Node}
 use Rattle.tokens.proofs.Places.{next_is_inside}
 use Rattle.nodes.proofs.Answers.{and_then-assoc}
 use Rattle.nodes.proofs.Growth.{Fresh, read_node-fresh, read_forest-fresh}
 use Rattle.nodes.proofs.LeftClusters.{left_node, left_of_last, left_of_more, left_fresh, left_of_fresh}
-use Rattle.nodes.proofs.NodeAnswers.{node-refused, list-refused, refused-node, refused-list, TreeRead, ForestRead, list_read, read-node, read-list, node-ended}
+use Rattle.nodes.proofs.NodeAnswers.{read_as, ended_by, kept_behind, node-refused, list-refused, refused-node, refused-list, TreeRead, ForestRead, list_read, read-node, read-list, node-ended}
 use Rattle.nodes.proofs.NodeSteps.{node_is_leaf, node-stray, node-full, node-opened, comma_follows, comma-missing, list_begins, list_goes_on, list-closes, list-stray}
 use Rattle.nodes.proofs.Rests.{read_node_advances, read_forest_advances}
 use Rattle.trees.proofs.Stores.{sets_append}
@@ -56,8 +57,6 @@ grown count table found found' seen stored seen' stored' mask cs g f seen_is sto
     (record {
       given = record {
         holds = g.holds;
-        most = g.most;
-        long = g.long;
         wide = omega (arith, g.wide);
         below = below;
         spare = omega arith;
@@ -92,34 +91,18 @@ node_at threshold text names k room seen at = read_node (is_given threshold) k n
 abbrev forest_at : Threshold → List ℕ → List (List ℕ) → ℕ → ℕ → ℕ → ℕ → Answer Forest
 forest_at threshold text names k room seen at = read_forest (is_given threshold) k names room seen (drop at text) at
 
--- a cursor that only moved
-pub given-moved :
-    (count : ℕ) (table found : List ℕ) (m : Cursor) (at seen stored : ℕ) → m ≡ record { at = at; seen = seen; stored = stored }
-    → Given count table found seen stored → Given count table found m.seen m.stored
-given-moved count table found m at seen stored is g = rw is g
-
 -- what a reading of a node, or of a list of nodes, is handed
 pub record Asked : Type 0 where
-  pub threshold : Threshold
-  pub text : List ℕ
-  pub table : List ℕ
-  pub count : ℕ
-  pub at : ℕ
-  pub seen : ℕ
-  pub stored : ℕ
+  pub reader : Reader
+  pub cursor : Cursor
   pub room : ℕ
   pub before : List ℕ
 
 -- a first child is read behind the parenthesis at `here`
 abbrev pub inside : Asked → ℕ → Asked
 inside a here = record {
-  threshold = a.threshold;
-  text = a.text;
-  table = a.table;
-  count = a.count;
-  at = here + 1;
-  seen = a.seen;
-  stored = a.stored;
+  reader = a.reader;
+  cursor = record { at = here + 1; seen = a.cursor.seen; stored = a.cursor.stored };
   room = a.room - 1;
   before = a.before;
 }
@@ -127,70 +110,66 @@ inside a here = record {
 -- the next one is read behind the comma at `comma`, where the one before left the cursor and the table
 abbrev pub onwards : Asked → Cursor → List ℕ → ℕ → Asked
 onwards a next mid comma = record {
-  threshold = a.threshold;
-  text = a.text;
-  table = a.table;
-  count = a.count;
-  at = comma + 1;
-  seen = next.seen;
-  stored = next.stored;
+  reader = a.reader;
+  cursor = record { at = comma + 1; seen = next.seen; stored = next.stored };
   room = a.room;
   before = mid;
 }
 
 -- such a reading was called, of a node with its own threshold or of a list, and answered
 pub record NodeCall (own : Threshold) (a : Asked) : Type 0 where
-  pub cursor : Cursor
-  pub cursor_is : cursor ≡ record { at = a.at; seen = a.seen; stored = a.stored }
   pub after : List ℕ
-  pub result : NodeRead
-  pub reads : ReadsNode own a.threshold a.text a.table a.count cursor a.room a.before after result
+  pub result : Result Node Refusal
+  pub reads : ReadsNode own a.reader a.cursor a.room a.before after result
 
 pub record ListCall (a : Asked) : Type 0 where
-  pub cursor : Cursor
-  pub cursor_is : cursor ≡ record { at = a.at; seen = a.seen; stored = a.stored }
   pub after : List ℕ
-  pub result : NodeRead
-  pub reads : ReadsList a.threshold a.text a.table a.count cursor a.room a.before after result
+  pub result : Result Node Refusal
+  pub reads : ReadsList a.reader a.cursor a.room a.before after result
 
 -- it read something, and the blanks behind that end at `here`
-pub record Followed (text : List ℕ) (result : NodeRead) : Type 0 where
-  pub mask : ℕ
-  pub next : Cursor
-  pub told : result ≡ Node mask next
+pub record Followed (text : List ℕ) (result : Result Node Refusal) : Type 0 where
+  pub read : Node
+  pub told : result ≡ Ok read
   pub here : ℕ
-  pub passed : here ≡ next.at + blanks (drop next.at text)
+  pub passed : here ≡ read.next.at + blanks (drop read.next.at text)
 
 -- a parenthesis opens at `here`, behind blanks, and there is room for it
 pub record Opening (a : Asked) : Type 0 where
   pub here : ℕ
-  pub skipped : here ≡ a.at + blanks (drop a.at a.text)
-  pub leafless : next_label (drop here a.text) ≡ false
-  pub opens : next_is 40 (drop here a.text) ≡ true
+  pub skipped : here ≡ a.cursor.at + blanks (drop a.cursor.at a.reader.text.now)
+  pub leafless : next_label (drop here a.reader.text.now) ≡ false
+  pub opens : next_is 40 (drop here a.reader.text.now) ≡ true
   pub some : a.room ≡ 0 → ⊥
 
-module _ (threshold : Threshold) (text table : List ℕ) (count : ℕ) (names : List (List ℕ)) (holds : Holds names count table) where
+module _ (reader : Reader) (names : List (List ℕ)) (holds : Holds names reader.count reader.table.now) where
+  open reader use {threshold, count, text as read_from, table as names_in}
+  open read_from use {now as text}
+  open names_in use {now as table}
+
   -- ---- what a call told
 
-  module _ (m : Cursor) (at seen stored : ℕ) (m-is : m ≡ record { at = at; seen = seen; stored = stored }) (before after : List ℕ) (r : NodeRead) where
+  module _ (c : Cursor) (before after : List ℕ) (r : Result Node Refusal) where
+    open c use {at, seen, stored}
+
     pub leaf-told :
-        (own : Threshold) → ReadsLeaf threshold text table count m before after r
+        (own : Threshold) → ReadsLeaf reader c before after r
         → NodeReads own threshold text seen stored before after (leaf_at (is_given threshold) names seen (drop at text) at) r
     unfolding ReadsLeaf
-    leaf-told own reads = (rw m-is at reads) own names holds
+    leaf-told own reads = reads own names holds
 
     module _ (room k : ℕ) where
       pub node-told :
-          (own : Threshold) → ReadsNode own threshold text table count m room before after r → 2 * (length text - at) < k
+          (own : Threshold) → ReadsNode own reader c room before after r → 2 * (length text - at) < k
           → NodeReads own threshold text seen stored before after (node_at threshold text names k room seen at) r
       unfolding ReadsNode
-      node-told own reads deep = (rw m-is at reads) names holds k deep
+      node-told own reads deep = reads names holds k deep
 
       pub list-told :
-          ReadsList threshold text table count m room before after r → 2 * (length text - at) + 1 < k
+          ReadsList reader c room before after r → 2 * (length text - at) + 1 < k
           → ListReads threshold text seen stored before after (forest_at threshold text names k room seen at) r
       unfolding ReadsList
-      list-told reads deep = (rw m-is at reads) names holds k deep
+      list-told reads deep = reads names holds k deep
 
   -- ---- how far a reading came
 
@@ -235,26 +214,29 @@ module _ (threshold : Threshold) (text table : List ℕ) (count : ℕ) (names : 
 
 -- ---- the ways
 
-module _ (a : Asked) (names : List (List ℕ)) (holds : Holds names a.count a.table) where
-  open a use {threshold, text, table, count, at, seen, stored, room, before}
+module _ (a : Asked) (names : List (List ℕ)) (holds : Holds names a.reader.count a.reader.table.now) where
+  open a use {reader, cursor, room, before}
+  open cursor use {at, seen, stored}
+  open reader use {threshold, count, text as read_from, table as names_in}
+  open read_from use {now as text}
+  open names_in use {now as table}
 
   -- ---- a node that is a leaf, or none
 
   module _ (here : ℕ) (skipped : here ≡ at + blanks (drop at text)) (k : ℕ) (deep : 2 * (length text - at) < k) where
     pub leaf_way :
-        (own : Threshold) (m : Cursor) (after : List ℕ) (r : NodeRead) → next_label (drop here text) ≡ true
-        → m ≡ record { at = here; seen = seen; stored = stored }
-        → ReadsLeaf threshold text table count m before after r
+        (own : Threshold) (after : List ℕ) (r : Result Node Refusal) → next_label (drop here text) ≡ true
+        → ReadsLeaf reader (record { at = here; seen = seen; stored = stored }) before after r
         → NodeReads own threshold text seen stored before after (node_at threshold text names k room seen at) r
-    leaf_way own m after r t m-is reads =
+    leaf_way own after r t reads =
         let e : k ≡ suc (k - 1) = omega arith in
         rw (e, node_is_leaf text at here skipped (is_given threshold) names (k - 1) seen room t)
-        (leaf-told threshold text table count names holds m here seen stored m-is before after r own reads)
+        (leaf-told reader names holds (record { at = here; seen = seen; stored = stored }) before after r own reads)
 
     pub stray_way :
         (own : Threshold) (after : List ℕ) (f : Refusal) → next_label (drop here text) ≡ false → next_is 40 (drop here text) ≡ false
         → f ≡ stray_at (drop here text) here
-        → NodeReads own threshold text seen stored before after (node_at threshold text names k room seen at) (NoNode f)
+        → NodeReads own threshold text seen stored before after (node_at threshold text names k room seen at) (Err f)
     stray_way own after f leafless t is =
         let e : k ≡ suc (k - 1) = omega arith in
         node-refused own threshold text seen stored before after (node_at threshold text names k room seen at) f
@@ -262,10 +244,10 @@ module _ (a : Asked) (names : List (List ℕ)) (holds : Holds names a.count a.ta
 
     pub full_way :
         (own : Threshold) (after : List ℕ) → next_label (drop here text) ≡ false → next_is 40 (drop here text) ≡ true → room ≡ 0
-        → NodeReads own threshold text seen stored before after (node_at threshold text names k room seen at) (NoNode (record { number = 8; place = here }))
+        → NodeReads own threshold text seen stored before after (node_at threshold text names k room seen at) (Err (record { fault = TooDeep; place = here }))
     full_way own after leafless opens none =
         let e : k ≡ suc (k - 1) = omega arith in
-        node-refused own threshold text seen stored before after (node_at threshold text names k room seen at) (record { number = 8; place = here })
+        node-refused own threshold text seen stored before after (node_at threshold text names k room seen at) (record { fault = TooDeep; place = here })
         (rw (none, e) (node-full text at here skipped (is_given threshold) names (k - 1) seen leafless opens))
 
   -- ---- a node that opens a parenthesis
@@ -294,27 +276,27 @@ module _ (a : Asked) (names : List (List ℕ)) (holds : Holds names a.count a.ta
 
       -- its first child
       module _ (one : NodeCall threshold (inside a here)) where
-        open one use {cursor, cursor_is, after as mid, result, reads}
+        open one use {after as mid, result, reads}
 
         first_told : NodeReads threshold threshold text seen stored before mid (node_at threshold text names (k - 1) (room - 1) seen (here + 1)) result
         first_told =
-            node-told threshold text table count names holds cursor (here + 1) seen stored cursor_is before mid result (room - 1) (k - 1) threshold reads
+            node-told reader names holds (inside a here).cursor before mid result (room - 1) (k - 1) threshold reads
             (let f = first_falls in omega arith)
 
         pub first_refused_way :
-            (own : Threshold) (e : Refusal) → result ≡ NoNode e
-            → NodeReads own threshold text seen stored before mid (node_at threshold text names k room seen at) result
+            (own : Threshold) (e : Refusal) → result ≡ Err e
+            → NodeReads own threshold text seen stored before mid (node_at threshold text names k room seen at) (Err e)
         first_refused_way own e told =
             let h =
             refused-node threshold threshold text seen stored before mid
             (node_at threshold text names (k - 1) (room - 1) seen (here + 1)) result e first_told told
             in
-            rw told
-            (node-refused own threshold text seen stored before mid (node_at threshold text names k room seen at) e
-            (rw (opened_is, ← h)))
+            node-refused own threshold text seen stored before mid (node_at threshold text names k room seen at) e
+            (rw (opened_is, ← h))
 
         module _ (followed : Followed text result) where
-          open followed use {mask, next, told, here as comma, passed}
+          open followed use {read, told, here as comma, passed}
+          open read use {mask, next}
 
           first : TreeRead threshold threshold text seen stored before mid (node_at threshold text names (k - 1) (room - 1) seen (here + 1)) mask next
           first =
@@ -333,7 +315,7 @@ module _ (a : Asked) (names : List (List ℕ)) (holds : Holds names a.count a.ta
 
           pub no_comma_way :
               (own : Threshold) (e : Refusal) → next_is 44 (drop comma text) ≡ false → e ≡ no_comma_at (drop comma text) comma
-              → NodeReads own threshold text seen stored before mid (node_at threshold text names k room seen at) (NoNode e)
+              → NodeReads own threshold text seen stored before mid (node_at threshold text names k room seen at) (Err e)
           no_comma_way own e t is =
               node-refused own threshold text seen stored before mid (node_at threshold text names k room seen at) e
               (rw (is, behind_first_is)
@@ -341,14 +323,14 @@ module _ (a : Asked) (names : List (List ℕ)) (holds : Holds names a.count a.ta
               first.tree t))
 
           pub first_grown : Given count table before seen stored → Grown count table mid next.seen next.stored
-          first_grown g = tree-grown threshold text table count names holds (here + 1) seen stored before mid mask next (room - 1) (k - 1) g first
+          first_grown g = tree-grown reader names holds (here + 1) seen stored before mid mask next (room - 1) (k - 1) g first
 
           -- a comma, and the other children
           module _ (t : next_is 44 (drop comma text) ≡ true) where
             pub comma-inside : (here + 1 < comma) × (comma < length text)
             comma-inside =
                 let i = next_is_inside text comma 44 t in
-                let m = tree-moves threshold text table count names holds (here + 1) seen stored before mid mask next (room - 1) (k - 1) first in
+                let m = tree-moves reader names holds (here + 1) seen stored before mid mask next (room - 1) (k - 1) first in
                 (omega (arith, passed, m.0), i)
 
             pub others_fall : 2 * (length text - (comma + 1)) + 1 < 2 * (length text - at) - 1
@@ -367,29 +349,28 @@ module _ (a : Asked) (names : List (List ℕ)) (holds : Holds names a.count a.ta
                 (sym first.seen_is)
 
             module _ (rest : ListCall (onwards (inside a here) next mid comma)) where
-              open rest use {cursor as cursor₂, cursor_is as cursor₂-is, after as mid₂, result as result₂, reads as reads₂}
+              open rest use {after as mid₂, result as result₂, reads as reads₂}
 
               others-told :
                   ListReads threshold text next.seen next.stored mid mid₂
                   (forest_at threshold text names (k - 1) (room - 1) next.seen (comma + 1)) result₂
               others-told =
-                  list-told threshold text table count names holds cursor₂ (comma + 1) next.seen next.stored cursor₂-is mid mid₂ result₂ (room - 1)
+                  list-told reader names holds (onwards (inside a here) next mid comma).cursor mid mid₂ result₂ (room - 1)
                   (k - 1) reads₂
                   (let f = others_fall in omega arith)
 
               pub others-refused_way :
-                  (own : Threshold) (e : Refusal) → result₂ ≡ NoNode e
-                  → NodeReads own threshold text seen stored before mid₂ (node_at threshold text names k room seen at) result₂
+                  (own : Threshold) (e : Refusal) → result₂ ≡ Err e
+                  → NodeReads own threshold text seen stored before mid₂ (node_at threshold text names k room seen at) (Err e)
               others-refused_way own e told₂ =
                   let h =
                   refused-list threshold text next.seen next.stored mid mid₂
                   (forest_at threshold text names (k - 1) (room - 1) next.seen (comma + 1)) result₂ e others-told told₂
                   in
-                  rw told₂
-                  (node-refused own threshold text seen stored before mid₂ (node_at threshold text names k room seen at) e
-                  (rw (behind-comma_is, ← h)))
+                  node-refused own threshold text seen stored before mid₂ (node_at threshold text names k room seen at) e
+                  (rw (behind-comma_is, ← h))
 
-              module _ (mask₂ : ℕ) (end : Cursor) (told₂ : result₂ ≡ Node mask₂ end) where
+              module _ (mask₂ : ℕ) (end : Cursor) (told₂ : result₂ ≡ read_as mask₂ end) where
                 others :
                     ForestRead threshold text next.seen next.stored mid mid₂ (forest_at threshold text names (k - 1) (room - 1) next.seen (comma + 1))
                     mask₂ end
@@ -399,7 +380,7 @@ module _ (a : Asked) (names : List (List ℕ)) (holds : Holds names a.count a.ta
 
                 pub others-grown : Given count table before seen stored → Grown count table mid₂ end.seen end.stored
                 others-grown g =
-                    forest-grown threshold text table count names holds (comma + 1) next.seen next.stored mid mid₂ mask₂ end (room - 1) (k - 1)
+                    forest-grown reader names holds (comma + 1) next.seen next.stored mid mid₂ mask₂ end (room - 1) (k - 1)
                     (first_grown g).given others
 
                 closing_is :
@@ -413,18 +394,18 @@ module _ (a : Asked) (names : List (List ℕ)) (holds : Holds names a.count a.ta
                     (λ b s p. parsed (node first.tree others.forest b) s p))
 
                 pub node_way :
-                    (own : Threshold) (whole : ℕ) (read : BehindRead) (after : List ℕ) (r : NodeRead)
+                    (own : Threshold) (whole : ℕ) (read : Result Figures Refusal)
                     → whole ≡ union mask mask₂
                     → behind_says text (inner_word (drop end.at text)) read
                     ≡ and_then (inner_name (drop end.at text) end.at) (λ w s p. supported (is_given threshold) w s p)
-                    → behind_valued text read → r ≡ ended_as own whole end.seen end.stored read → after ≡ kept_as own whole end.stored mid₂ read
-                    → NodeReads own threshold text seen stored before after (node_at threshold text names k room seen at) r
+                    → behind_valued text read
+                    → NodeReads own threshold text seen stored before (kept_behind own whole end.stored mid₂ read) (node_at threshold text names k room seen at)
+                    (ended_by own whole end.seen end.stored read)
                 unfolding cluster
-                node_way own whole read after r whole_is says values r-is after_is =
+                node_way own whole read whole_is says values =
                     let u = first.tree in
                     let f = others.forest in
                     let mask_is : whole ≡ union (cluster u) (cluster_of f) = rw (← first.mask_is, ← others.mask_is) whole_is in
-                    rw (r-is, after_is)
                     (node-ended own threshold own text seen stored before (node_at threshold text names k room seen at)
                     (inner_word (drop end.at text)) read
                     (and_then (inner_name (drop end.at text) end.at) (λ w s p. supported (is_given threshold) w s p))
@@ -459,21 +440,21 @@ module _ (a : Asked) (names : List (List ℕ)) (holds : Holds names a.count a.ta
         ap (λ (i : ℕ). forest_at threshold text names i room seen at) e ∙ list_begins (is_given threshold) (k - 1) names room seen (drop at text) at
 
     module _ (one : NodeCall threshold a) where
-      open one use {cursor, cursor_is, after as mid, result, reads}
+      open one use {after as mid, result, reads}
 
       child-told : NodeReads threshold threshold text seen stored before mid (node_at threshold text names (k - 1) room seen at) result
-      child-told = node-told threshold text table count names holds cursor at seen stored cursor_is before mid result room (k - 1) threshold reads (omega arith)
+      child-told = node-told reader names holds cursor before mid result room (k - 1) threshold reads (omega arith)
 
       pub child-refused_way :
-          (e : Refusal) → result ≡ NoNode e → ListReads threshold text seen stored before mid (forest_at threshold text names k room seen at) result
+          (e : Refusal) → result ≡ Err e → ListReads threshold text seen stored before mid (forest_at threshold text names k room seen at) (Err e)
       child-refused_way e told =
           let h = refused-node threshold threshold text seen stored before mid (node_at threshold text names (k - 1) room seen at) result e child-told told in
-          rw told
-          (list-refused threshold text seen stored before mid (forest_at threshold text names k room seen at) e
-          (rw (begins_is, ← h)))
+          list-refused threshold text seen stored before mid (forest_at threshold text names k room seen at) e
+          (rw (begins_is, ← h))
 
       module _ (followed : Followed text result) where
-        open followed use {mask, next, told, here, passed}
+        open followed use {read, told, here, passed}
+        open read use {mask, next}
 
         child : TreeRead threshold threshold text seen stored before mid (node_at threshold text names (k - 1) room seen at) mask next
         child = read-node threshold threshold text seen stored before mid (node_at threshold text names (k - 1) room seen at) result mask next child-told told
@@ -490,20 +471,19 @@ module _ (a : Asked) (names : List (List ℕ)) (holds : Holds names a.count a.ta
 
         pub list-stray_way :
             (e : Refusal) → next_is 44 (drop here text) ≡ false → next_is 41 (drop here text) ≡ false → e ≡ stray_at (drop here text) here
-            → ListReads threshold text seen stored before mid (forest_at threshold text names k room seen at) (NoNode e)
+            → ListReads threshold text seen stored before mid (forest_at threshold text names k room seen at) (Err e)
         list-stray_way e t u is =
             list-refused threshold text seen stored before mid (forest_at threshold text names k room seen at) e
             (rw (is, behind-child_is)
             (list-stray text next.at here passed (λ e s p. read_forest (is_given threshold) (k - 1) names room e s p) seen child.tree t u))
 
         pub last_way :
-            (end : Cursor) → next_is 44 (drop here text) ≡ false → next_is 41 (drop here text) ≡ true
-            → end ≡ record { at = here + 1; seen = next.seen; stored = next.stored }
-            → ListReads threshold text seen stored before mid (forest_at threshold text names k room seen at) (Node mask end)
+            next_is 44 (drop here text) ≡ false → next_is 41 (drop here text) ≡ true
+            → ListReads threshold text seen stored before mid (forest_at threshold text names k room seen at)
+            (read_as mask (record { at = here + 1; seen = next.seen; stored = next.stored }))
         unfolding cluster
-        last_way end t u end_is =
-            rw end_is
-            (list_read threshold text seen stored before mid (forest_at threshold text names k room seen at) mask
+        last_way t u =
+            list_read threshold text seen stored before mid (forest_at threshold text names k room seen at) mask
             (record { at = here + 1; seen = next.seen; stored = next.stored })
             (record {
               forest = last child.tree;
@@ -514,17 +494,17 @@ module _ (a : Asked) (names : List (List ℕ)) (holds : Holds names a.count a.ta
               seen_is = child.seen_is;
               stored_is = rw (left_of_last threshold child.tree) child.stored_is;
               table_is = rw (left_of_last threshold child.tree) child.table_is;
-            }))
+            })
 
         pub child-grown : Given count table before seen stored → Grown count table mid next.seen next.stored
-        child-grown g = tree-grown threshold text table count names holds at seen stored before mid mask next room (k - 1) g child
+        child-grown g = tree-grown reader names holds at seen stored before mid mask next room (k - 1) g child
 
         -- a comma, and more
         module _ (t : next_is 44 (drop here text) ≡ true) where
           pub rest-falls : 2 * (length text - (here + 1)) + 1 < 2 * (length text - at)
           rest-falls =
               let i = next_is_inside text here 44 t in
-              let m = tree-moves threshold text table count names holds at seen stored before mid mask next room (k - 1) child in
+              let m = tree-moves reader names holds at seen stored before mid mask next room (k - 1) child in
               omega (arith, passed, m.0)
 
           goes_on_is :
@@ -538,28 +518,27 @@ module _ (a : Asked) (names : List (List ℕ)) (holds : Holds names a.count a.ta
               (sym child.seen_is)
 
           module _ (others : ListCall (onwards a next mid here)) where
-            open others use {cursor as cursor₂, cursor_is as cursor₂-is, after as mid₂, result as result₂, reads as reads₂}
+            open others use {after as mid₂, result as result₂, reads as reads₂}
 
             rest-told :
                 ListReads threshold text next.seen next.stored mid mid₂ (forest_at threshold text names (k - 1) room next.seen (here + 1)) result₂
             rest-told =
-                list-told threshold text table count names holds cursor₂ (here + 1) next.seen next.stored cursor₂-is mid mid₂ result₂ room (k - 1) reads₂
+                list-told reader names holds (onwards a next mid here).cursor mid mid₂ result₂ room (k - 1) reads₂
                 (let f = rest-falls in omega arith)
 
             pub rest-refused_way :
-                (e : Refusal) → result₂ ≡ NoNode e → ListReads threshold text seen stored before mid₂ (forest_at threshold text names k room seen at) result₂
+                (e : Refusal) → result₂ ≡ Err e → ListReads threshold text seen stored before mid₂ (forest_at threshold text names k room seen at) (Err e)
             rest-refused_way e told₂ =
                 let h =
                 refused-list threshold text next.seen next.stored mid mid₂ (forest_at threshold text names (k - 1) room next.seen (here + 1)) result₂ e
                 rest-told told₂
                 in
-                rw told₂
-                (list-refused threshold text seen stored before mid₂ (forest_at threshold text names k room seen at) e
-                (rw (goes_on_is, ← h)))
+                list-refused threshold text seen stored before mid₂ (forest_at threshold text names k room seen at) e
+                (rw (goes_on_is, ← h))
 
             pub more_way :
-                (mask₂ : ℕ) (end : Cursor) (whole : ℕ) → result₂ ≡ Node mask₂ end → whole ≡ union mask mask₂
-                → ListReads threshold text seen stored before mid₂ (forest_at threshold text names k room seen at) (Node whole end)
+                (mask₂ : ℕ) (end : Cursor) (whole : ℕ) → result₂ ≡ read_as mask₂ end → whole ≡ union mask mask₂
+                → ListReads threshold text seen stored before mid₂ (forest_at threshold text names k room seen at) (read_as whole end)
             unfolding cluster
             more_way mask₂ end whole told₂ whole_is =
                 let rest =

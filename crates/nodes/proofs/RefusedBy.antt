@@ -9,11 +9,13 @@ use lib.ListN.{length, take, drop}
 use lib.Dec.{leb, ltb}
 use Rattle.clusters.specs.Sets.{single, union, apart, within}
 use Rattle.clusters.proofs.Sets.{true-within, zero-within}
+use Rattle.faults.specs.Faults.{number as fault_number}
+use Rattle.faults.specs.declared.Fault.{Fault}
 use Rattle.labels.specs.Bytes.{is_digit, run, next_is, next_label}
 use Rattle.labels.specs.Labels.{Told, told}
 use Rattle.labels.specs.Labels.Told.{ended as ends_at, faulty}
-use Rattle.labels.proofs.FaultyLabels.{Fault, told-fault}
-use Rattle.labels.proofs.FaultyLabels.Fault.{long, stray, empty, unclosed}
+use Rattle.labels.proofs.FaultyLabels.{AtFault, told-fault}
+use Rattle.labels.proofs.FaultyLabels.AtFault.{long, stray, empty, unclosed}
 use Rattle.trees.specs.Tree.{Tree, Forest, Behind, cluster}
 use Rattle.trees.specs.Tree.Tree.{leaf, node}
 use Rattle.trees.specs.Tree.Forest.{more}
@@ -105,7 +107,7 @@ unfolding numbers
 numbers-numbered given w s p = numbers_by-numbered given (next_is 58 (skip s)) w s p
 
 -- the faults of a label are 3, 4 and 10
-fault-numbered : (given : Bool) (s : List ℕ) {number d : ℕ} → Fault s number d → OfNode given number
+fault-numbered : (given : Bool) (s : List ℕ) {fault : Fault} {d : ℕ} → AtFault s fault d → OfNode given (fault_number fault)
 fault-numbered given s (long l) = (usual given _ (omega arith) (omega arith) (λ e. omega arith))
 fault-numbered given s (stray w b rest split all short non) = (usual given _ (omega arith) (omega arith) (λ e. omega arith))
 fault-numbered given s (empty rest split over) = (usual given _ (omega arith) (omega arith) (λ e. omega arith))
@@ -117,7 +119,7 @@ name-numbered given s p = go (told s) refl
   where
     go : (t : Told) → told s ≡ t → Numbered given (name_by t s p)
     go (ends_at n) is = by_parsed given
-    go (faulty number d) is = by_number given number (p + d) (fault-numbered given s (told-fault s number d is))
+    go (faulty fault d) is = by_number given (fault_number fault) (p + d) (fault-numbered given s (told-fault s fault d is))
 
 inner_name-numbered : (given : Bool) (s : List ℕ) (p : ℕ) → Numbered given (inner_name s p)
 unfolding inner_name
@@ -166,11 +168,11 @@ leaf_at-numbered given names seen s p =
     (λ w rest q is. leaf_known-numbered given (ltb (position w names) (length names)) (position w names) seen p rest q)
 
 -- pieces of reading that refuse so, from every set of species and place, on texts of fewer than m bytes
-abbrev Below : (given : Bool) {A : Type 0} → ℕ → (ℕ → List ℕ → ℕ → Answer A) → Type 0
-Below given m read = (e : ℕ) (s : List ℕ) (p : ℕ) → length s < m → Numbered given (read e s p)
+abbrev Some : (given : Bool) {A : Type 0} → ℕ → (ℕ → List ℕ → ℕ → Answer A) → Type 0
+Some given m read = (e : ℕ) (s : List ℕ) (p : ℕ) → length s < m → Numbered given (read e s p)
 
 after_first-numbered :
-    (given : Bool) (m : ℕ) (t u : Bool) (others : Reader Forest) (seen : ℕ) (c : Tree) (s : List ℕ) (p : ℕ) → Below given m others → length s ≤ m → next_is 44 s ≡ t
+    (given : Bool) (m : ℕ) (t u : Bool) (others : Reader Forest) (seen : ℕ) (c : Tree) (s : List ℕ) (p : ℕ) → Some given m others → length s ≤ m → next_is 44 s ≡ t
     → Numbered given (after_first given t u others seen c s p)
 after_first-numbered given m true u others seen c s p on l is =
     by_then given (others (union seen (cluster c)) (tail s) (p + 1)) (λ f s p. closing given c f s p)
@@ -180,7 +182,7 @@ after_first-numbered given m false false others seen c s p on l is = by_unexpect
 
 opened-numbered :
     (given : Bool) (first : ℕ → Reader Tree) (others : ℕ → Reader Forest) (room seen : ℕ) (s : List ℕ) (p : ℕ)
-    → ((r : ℕ) → AllAdvance (first r)) → ((r : ℕ) → Below given (length s) (first r)) → ((r : ℕ) → Below given (length s) (others r)) → next_is 40 s ≡ true
+    → ((r : ℕ) → AllAdvance (first r)) → ((r : ℕ) → Some given (length s) (first r)) → ((r : ℕ) → Some given (length s) (others r)) → next_is 40 s ≡ true
     → Numbered given (opened given first others room seen s p)
 opened-numbered given first others zero seen s p moves one on is = by_number given 8 p (usual given 8 (omega arith) (omega arith) (λ e. omega arith))
 opened-numbered given first others (suc room) seen s p moves one on is =
@@ -195,14 +197,14 @@ opened-numbered given first others (suc room) seen s p moves one on is =
 
 node_by-numbered :
     (given : Bool) (t u : Bool) (names : List (List ℕ)) (first : ℕ → Reader Tree) (others : ℕ → Reader Forest) (room seen : ℕ) (s : List ℕ) (p : ℕ)
-    → ((r : ℕ) → AllAdvance (first r)) → ((r : ℕ) → Below given (length s) (first r)) → ((r : ℕ) → Below given (length s) (others r)) → next_is 40 s ≡ u
+    → ((r : ℕ) → AllAdvance (first r)) → ((r : ℕ) → Some given (length s) (first r)) → ((r : ℕ) → Some given (length s) (others r)) → next_is 40 s ≡ u
     → Numbered given (node_by given t u names first others room seen s p)
 node_by-numbered given true u names first others room seen s p moves one on is = leaf_at-numbered given names seen s p
 node_by-numbered given false true names first others room seen s p moves one on is = opened-numbered given first others room seen s p moves one on is
 node_by-numbered given false false names first others room seen s p moves one on is = by_unexpected given s p
 
 after_child-numbered :
-    (given : Bool) (m : ℕ) (t u : Bool) (others : Reader Forest) (seen : ℕ) (c : Tree) (s : List ℕ) (p : ℕ) → Below given m others → length s ≤ m → next_is 44 s ≡ t
+    (given : Bool) (m : ℕ) (t u : Bool) (others : Reader Forest) (seen : ℕ) (c : Tree) (s : List ℕ) (p : ℕ) → Some given m others → length s ≤ m → next_is 44 s ≡ t
     → Numbered given (after_child t u others seen c s p)
 after_child-numbered given m true u others seen c s p on l is =
     by_then given (others (union seen (cluster c)) (tail s) (p + 1)) (λ f s p. parsed (more c f) s p)

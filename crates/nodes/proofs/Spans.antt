@@ -8,6 +8,8 @@ use borrow.Author.Tests.{lt-leb, le-leb, leb-true}
 use lib.ListN.{length, take, drop}
 use lib.Seq.{length-take-le}
 use lib.Dec.{leb, ltb}
+use Rattle.faults.specs.Faults.{number as fault_number}
+use Rattle.faults.specs.declared.Fault.{Fault}
 use Rattle.labels.specs.Bytes.{is_digit, run, next_is}
 use Rattle.labels.specs.Labels.{letters, told}
 use Rattle.labels.specs.Labels.Told.{ended, faulty}
@@ -196,9 +198,9 @@ module _ (s : List ℕ) (p : ℕ) where
   unfolding name
   name-ended n e = rw e refl
 
-  pub name-faulty : (number d : ℕ) → told s ≡ faulty number d → name s p ≡ refused number (p + d)
+  pub name-faulty : (fault : Fault) (d : ℕ) → told s ≡ faulty fault d → name s p ≡ refused (fault_number fault) (p + d)
   unfolding name
-  name-faulty number d e = rw e refl
+  name-faulty fault d e = rw e refl
 
   pub leaf-ended :
       (given : Bool) (names : List (List ℕ)) (seen n : ℕ) → told s ≡ ended n
@@ -206,6 +208,6 @@ module _ (s : List ℕ) (p : ℕ) where
   unfolding leaf_by
   leaf-ended given names seen n e = rw (name-ended n e) refl
 
-  pub leaf-faulty : (given : Bool) (names : List (List ℕ)) (seen number d : ℕ) → told s ≡ faulty number d → leaf_at given names seen s p ≡ refused number (p + d)
+  pub leaf-faulty : (given : Bool) (names : List (List ℕ)) (seen : ℕ) (fault : Fault) (d : ℕ) → told s ≡ faulty fault d → leaf_at given names seen s p ≡ refused (fault_number fault) (p + d)
   unfolding leaf_by
-  leaf-faulty given names seen number d e = rw (name-faulty number d e) refl
+  leaf-faulty given names seen fault d e = rw (name-faulty fault d e) refl

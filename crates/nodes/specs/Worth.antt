@@ -4,8 +4,7 @@ use mathlib.Core.List.{Memᴰ}
 use Rattle.trees.specs.Tree.{Tree, Behind}
 use Rattle.trees.specs.Tree.Tree.{leaf, node}
 use Rattle.trees.specs.Thinned.{all_nodes}
-use Rattle.tokens.specs.Values.{too_fine, thousandths}
-use Rattle.tokens.specs.declared.answer.Value.{Value}
+use Rattle.tokens.specs.Values.{too_fine, thousandths, Value}
 use Rattle.tokens.specs.declared.answer.Figures.{Figures}
 
 -- what is written behind a node

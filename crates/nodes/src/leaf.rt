@@ -1,94 +1,65 @@
 // A leaf, and the end of any node.
 ghost use Rattle.std.specs.Prelude.{◌≡◌, ◌<◌, length};
-ghost use Rattle.nodes.specs.Core.{ended_as, kept_as, Given, ReadsLeaf};
+ghost use Rattle.nodes.specs.Core.{ended_as, kept_as, Handed, ReadsLeaf};
 
-use crate::answer::{Cursor, NodeRead};
+use crate::Reader;
+use crate::answer::{Cursor, Node};
 use clusters::{apart, single, union};
-use labels::{Label, scan};
+use faults::{Fault, Refusal};
+use labels::scan;
 use roster::species;
 use tokens::behind::behind;
-use tokens::{BehindRead, Refusal, Threshold, behind_refusal, below, label_refusal};
+use tokens::{Figures, below};
 
-// A node with this set of leaves ends behind what was read: its cluster is stored, unless its support lies below its own threshold.
+// The node with this set of leaves that ends behind these numbers: its cluster is stored, unless its support lies below its own threshold.
 pub(crate) fn ended(
-    read: BehindRead,
-    own: Threshold,
+    figures: Figures,
+    own: Option<usize>,
     mask: u32,
-    seen: u32,
-    stored: usize,
+    c: Cursor,
     found: &mut [u32],
-) -> NodeRead
-    requires { stored < length found.old }
-    ensures value { result ≡ ended_as own mask seen stored read }
-    ensures found_after { found.new ≡ kept_as own mask stored found.old read }
+) -> Node
+    requires { c.stored < length found.old }
+    ensures value { result ≡ ended_as own mask c.seen c.stored figures }
+    ensures found_after { found.new ≡ kept_as own mask c.stored found.old figures }
 {
-    let BehindRead::Behind(figures) = read else {
-        return NodeRead::Refused(behind_refusal(read));
-    };
     let at = figures.next;
     if below(own, figures.support) {
-        return NodeRead::Node {
-            mask: mask,
-            next: Cursor {
-                at: at,
-                seen: seen,
-                stored: stored,
-            },
+        return Node {
+            mask,
+            next: Cursor { at, ..c },
         };
     }
-    found[stored] = mask;
-    NodeRead::Node {
-        mask: mask,
+    found[c.stored] = mask;
+    Node {
+        mask,
         next: Cursor {
-            at: at,
-            seen: seen,
-            stored: stored + 1,
+            at,
+            stored: c.stored + 1,
+            ..c
         },
     }
 }
 
-// The leaf whose name begins at the cursor. The name is judged when its label ends: unknown, then repeated.
-pub(crate) fn leaf(
-    text: &[u8],
-    table: &[u8],
-    count: usize,
-    c: Cursor,
-    threshold: Threshold,
-    found: &mut [u32],
-) -> NodeRead
-    requires { Given count table.now found.old c.seen c.stored }
-    ensures { ReadsLeaf threshold text.now table.now count c found.old found.new result }
-{
-    let at = c.at;
-    let seen = c.seen;
-    let scanned = scan(text, at);
-    let label = scanned.label;
-    let name = scanned.name;
-    let Label::Ended { next } = label else {
-        return NodeRead::Refused(label_refusal(label));
-    };
-    let i = species(table, count, name);
-    if count <= i {
-        return NodeRead::Refused(Refusal {
-            number: 5,
-            place: at,
-        });
+impl Reader<'_> {
+    // The leaf whose name begins at the cursor. The name is judged when its label ends: unknown, then repeated.
+    pub(crate) fn leaf(&self, c: Cursor, found: &mut [u32]) -> Result<Node, Refusal>
+        requires { Handed self.now c found.old }
+        ensures { ReadsLeaf self.now c found.old found.new result }
+    {
+        let at = c.at;
+        let scanned = scan(self.text, at)?;
+        let Some(i) = species(self.table, self.count, scanned.name) else {
+            return Err(Fault::UnknownName.at(at));
+        };
+        let mask = single(i);
+        if !apart(mask, c.seen) {
+            return Err(Fault::RepeatedName.at(at));
+        }
+        let figures = behind(self.text, scanned.next, self.threshold)?;
+        // a leaf never loses its cluster
+        let own = None;
+        let seen = union(c.seen, mask);
+        Ok(ended(figures, own, mask, Cursor { seen, ..c }, found))
     }
-    let mask = single(i);
-    if !apart(mask, seen) {
-        return NodeRead::Refused(Refusal {
-            number: 6,
-            place: at,
-        });
-    }
-    // a leaf never loses its cluster
-    let read = behind(text, next, threshold);
-    ended(
-        read,
-        Threshold::NoThreshold,
-        mask,
-        union(seen, mask),
-        c.stored,
-        found,
-    )
 }

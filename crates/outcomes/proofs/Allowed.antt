@@ -4,25 +4,41 @@ use mathlib.Core.Path.{◌≡◌, refl, sym, ap, ◌∙◌}
 use mathlib.Core.Bool.{Bool, true, false}
 use mathlib.Core.List.{List, [], ◌∷◌, ◌++◌, map, append-nil}
 use native.Mathlib.Omega.{arith}
-use borrow.Author.Tests.{le-ltb}
 use lib.ListN.{length, get_or, drop, length-append, drop_of_length-le, get_or-replicate, length-replicate}
 use Rattle.trees.specs.Lists.{up_to}
 use Rattle.roster.specs.declared.Reply.{Reply}
 use Rattle.trees.specs.Records.{records_in}
-use Rattle.lineages.specs.InOrder.{GenesInOrder}
+use Rattle.lineages.specs.InOrder.{Shaped, GenesInOrder}
 use Rattle.weights.specs.Marks.{shown, flag}
 use Rattle.lineages.specs.Promise.{marks, Marks}
-use Rattle.roster.specs.Verdict.{verdict}
-use Rattle.roster.specs.Judged.{done}
 use Rattle.weights.specs.declared.Rooting.{Rooting}
-use Rattle.lineages.specs.Checks.{first_bad, records_test, rooting_test}
-use Rattle.lineages.specs.Work.{genes_tests, GenesJudged}
-use Rattle.lineages.proofs.FirstBad.{all_valid_none_bad, all_resolved}
+use Rattle.lineages.proofs.FirstBad.{checked_in_order}
 use Rattle.lineages.proofs.Calls.{marks-below, marks_done}
 use Rattle.weights.proofs.Shown.{length-marks}
 use Rattle.lineages.proofs.Outcomes.{marks-once}
 use Rattle.outcomes.specs.Outcome.{allowed_by}
-use Rattle.outcomes.specs.Work.{Genes, Marked}
+use Rattle.outcomes.specs.Work.{Genes, Countable, Marked}
+
+-- what no check refuses is valid, and may be counted
+pub counted : {rooting : Rooting} {n count : ℕ} {genes : List ℕ} → Countable rooting n count genes → Genes rooting n count genes
+counted {rooting} {n} {count} {genes} c =
+    let shaped : Shaped n genes count = record {
+      some_species = c.some_species;
+      few_species = omega (arith, c.few_species);
+      some_genes = c.some;
+      few_genes = omega (arith, c.few);
+      fits = c.lent;
+    } in
+    let in_order = checked_in_order rooting n genes count c.unrefused shaped in
+    record {
+      some_species = c.some_species;
+      few_species = c.few_species;
+      some = c.some;
+      few = c.few;
+      lent = c.lent;
+      valid = in_order.valid;
+      enter = in_order.enter;
+    }
 
 -- what the program hands on is in order
 pub genes_in_order : {rooting : Rooting} {n count : ℕ} {genes : List ℕ} → Genes rooting n count genes → GenesInOrder rooting n genes count
@@ -38,19 +54,12 @@ genes_in_order g = record {
   enter = g.enter;
 }
 
--- so no record is refused
-none_judged : {rooting : Rooting} {n count : ℕ} {genes : List ℕ} → Genes rooting n count genes → GenesJudged rooting n genes count (done 0)
-unfolding genes_tests records_test rooting_test verdict
-none_judged {rooting} {n} {count} {genes} g =
-    let bad = all_valid_none_bad n (records_in count genes) (genes_in_order g).shaped.few_species g.valid in
-    rw (le-ltb (first_bad n (records_in count genes)) (length (records_in count genes)) (omega arith), all_resolved rooting n (records_in count genes) g.enter)
-
 -- what `mark` leaves in exactly 2^n bytes
 pub marked :
     {rooting : Rooting} {n count : ℕ} {genes out : List ℕ} {r : Reply} {after : List ℕ}
-    → Genes rooting n count genes → length out ≡ 2 ^ n → Marks rooting n genes count out r after → after ≡ marks rooting n (records_in count genes)
-marked {rooting} {n} {count} {genes} {out} {r} {after} g e m =
-    let whole-text = marks_done rooting n genes count out (genes_in_order g).shaped (omega arith) (none_judged g) refl refl refl in
+    → Countable rooting n count genes → length out ≡ 2 ^ n → Marks rooting n genes count out r after → after ≡ marks rooting n (records_in count genes)
+marked {rooting} {n} {count} {genes} {out} {r} {after} c e m =
+    let whole-text = marks_done rooting n genes count out (genes_in_order (counted c)).shaped (omega arith) c.unrefused refl in
     (marks-once m whole-text).1
     ∙ (ap (λ (k : List ℕ). k ++ drop (2 ^ n) out) (marks-below rooting n (records_in count genes))
     ∙ (let h : length out ≤ 2 ^ n = omega arith in rw (drop_of_length-le out h, append-nil)))

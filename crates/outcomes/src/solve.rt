@@ -1,130 +1,133 @@
 // From the gene trees to the report: the allowed clusters, the search, the outcome.
-ghost use Rattle.std.specs.Prelude.{◌≡◌, ◌+◌, ◌^◌, ◌≤◌, length, replicate};
+ghost use Rattle.std.specs.Prelude.{◌≡◌, ◌+◌, ◌^◌, ◌≤◌, length};
 ghost use Rattle.roster.specs.Roster.{names};
 ghost use Rattle.reader.specs.Promise.{text_most};
 ghost use Rattle.trees.specs.Records.{records_in};
 ghost use Rattle.gather.specs.GeneTrees.{gather as GeneTrees·gather};
 ghost use Rattle.weights.specs.declared.Rooting.TheVariants.{Rooted};
 ghost use Rattle.gather.specs.GeneTrees.Gathered.{gathered};
+ghost use Rattle.search.specs.TiesPromise.{tied_to};
 ghost use Rattle.outcomes.specs.Outcome.{found_with_ties, searched, allowed_by, tree_place, with_genes, on_trees};
-ghost use Rattle.outcomes.specs.Work.{told, Roster, Genes, Marked};
+ghost use Rattle.outcomes.specs.Work.{answered, told, Roster, Genes, Countable, Marked};
 
 use crate::print::solved;
-use gather::{Trees, gather, place};
+use faults::{Fault, Refusal};
+use gather::{gather, place};
 use lineages::checks::judge_genes;
-use printing::{Report, refusal};
-use search::{Tied, search_ties};
+use printing::Report;
+use search::searched_with_ties;
+use terms::Solution;
 use trees::Record;
 use weights::Rooting;
 
-// Marks every cluster.
-fn fill(out: &mut [u8])
-    ensures { out.new ≡ replicate (length out.old) 1 }
-{
-    let mut i = 0;
-    while i < out.len() {
-        out[i] = 1;
-        i += 1;
-    }
+// What the first two lines of the input ask for: a roster line, which is good and names n species, whether every cluster is allowed or those that the gene trees show, and how the gene trees are counted.
+#[derive(Clone, Copy)]
+pub struct Asked<'a> {
+    pub line: &'a [u8],
+    pub n: usize,
+    pub all: bool,
+    pub rooting: Rooting,
+    pub ghost roster: { Roster line.now n },
 }
 
-// Marks the allowed clusters: all of them, or those that the gene trees show.
-fn allow(all: bool, rooting: Rooting, n: usize, genes: &[u16], count: usize, allowed: &mut [u8])
-    requires genes { Genes rooting n count genes.now }
-    requires allowed_len { length allowed.old ≡ 2 ^ n }
-    ensures { allowed.new ≡ allowed_by all rooting n (records_in count genes.now) }
-{
-    if all {
-        fill(allowed);
-        return;
-    }
-    lineages::mark(rooting, n, genes, count, allowed);
-}
-
-// The search with its ties, with tables of its own.
-fn find(rooting: Rooting, n: usize, genes: &[u16], count: usize, allowed: &[u8]) -> Tied
-    requires genes { Genes rooting n count genes.now }
-    requires marked { Marked n allowed.now }
-    ensures { result ≡ found_with_ties rooting n (records_in count genes.now) allowed.now }
-{
-    let mut scores = [0u32; 4096];
-    let mut splits = [0u16; 4096];
-    let mut ties = [0u64; 4096];
-    search_ties(
-        rooting,
-        n,
-        genes,
-        count,
-        allowed,
-        &mut scores,
-        &mut splits,
-        &mut ties,
-    )
-}
-
-// The least tree over the allowed clusters, or the refusal.
-fn solve(line: &[u8], n: usize, genes: &[u16], count: usize, all: bool, rooting: Rooting) -> Report
-    requires roster { Roster line.now n }
-    requires genes { Genes rooting n count genes.now }
-    ensures { result ≡ told (names line.now) (searched rooting n (records_in count genes.now) (allowed_by all rooting n (records_in count genes.now))) }
-{
-    let entries = clusters::single(n) as usize;
-    let mut allowed = [0u8; 4096];
-    allow(all, rooting, n, genes, count, &mut allowed[..entries]);
-    let found = find(rooting, n, genes, count, &allowed[..entries]);
-    if found.number != 0 {
-        return refusal(found.number, found.place);
-    }
-    let numbers = found.numbers;
-    solved(line, n, count, found.score, found.ties, Record { numbers })
-}
-
-// The gene trees that were read, 1 or more: 19 at the first that may not be counted by the rooting, else what is found of them.
-fn on_genes(
-    line: &[u8],
-    trees: &[u8],
-    shift: usize,
-    genes: &[u16],
+// The gene trees that were read, 1 or more, each of which the rooting may count, with what is asked of them.
+#[derive(Clone, Copy)]
+struct Counted<'a> {
+    asked: Asked<'a>,
+    genes: &'a [u16],
     count: usize,
-    all: bool,
-    rooting: Rooting,
-    n: usize,
-) -> Report
-    requires roster { Roster line.now n }
-    requires trees_bound { shift + length trees.now ≤ text_most }
-    requires genes_value { gathered (records_in count genes.now) ≡ GeneTrees·gather line.now trees.now }
-    requires genes { Genes Rooted n count genes.now }
-    ensures { result ≡ told (names line.now) (with_genes (records_in count genes.now) (λ i. tree_place line.now trees.now shift i) all rooting n) }
-{
-    let judged = judge_genes(rooting, n, genes, count);
-    if judged.number != 0 {
-        let at = place(line, trees, judged.place);
-        return refusal(19, shift + at);
-    }
-    solve(line, n, genes, count, all, rooting)
+    ghost countable: { Countable asked.rooting asked.n count genes.now },
 }
 
-// The trees, which begin at `shift` of the input, and what is found of them. `report` calls it, with the rest of its input behind a good roster line and a mode line.
-pub fn on_trees(
-    line: &[u8],
-    trees: &[u8],
-    shift: usize,
-    all: bool,
-    rooting: Rooting,
-    n: usize,
-) -> Report
-    requires roster { Roster line.now n }
-    requires trees_bound { shift + length trees.now ≤ text_most }
-    ensures { result ≡ told (names line.now) (on_trees (GeneTrees·gather line.now trees.now) line.now trees.now shift all rooting n) }
-{
-    let mut genes = [0u16; 16384];
-    match gather(line, trees, &mut genes) {
-        Trees::Stopped { number, place } => refusal(number, shift + place),
-        Trees::Gathered { count } => {
-            if count == 0 {
-                return refusal(11, 0);
-            }
-            on_genes(line, trees, shift, &genes, count, all, rooting, n)
+impl Counted<'_> {
+    // Marks the allowed clusters: all of them, or those that the gene trees show.
+    fn allow(&self, allowed: &mut [u8])
+        requires { length allowed.old ≡ 2 ^ self.now.asked.n }
+        ensures { allowed.new ≡ allowed_by self.now.asked.all self.now.asked.rooting self.now.asked.n (records_in self.now.count self.now.genes.now) }
+    {
+        let asked = self.asked;
+        if asked.all {
+            allowed.fill(1);
+            return;
         }
+        lineages::mark(asked.rooting, asked.n, self.genes, self.count, allowed);
+    }
+
+    // The search with its ties, with tables of its own.
+    fn find(&self, allowed: &[u8]) -> Result<(Solution, u64), Refusal>
+        requires { Marked self.now.asked.n allowed.now }
+        ensures { tied_to result ≡ found_with_ties self.now.asked.rooting self.now.asked.n (records_in self.now.count self.now.genes.now) allowed.now }
+    {
+        let mut scores = [0u32; 4096];
+        let mut splits = [0u16; 4096];
+        let mut ties = [0u64; 4096];
+        searched_with_ties(
+            self.asked.rooting,
+            self.asked.n,
+            self.genes,
+            self.count,
+            allowed,
+            &mut scores,
+            &mut splits,
+            &mut ties,
+        )
+    }
+
+    // The least tree over the allowed clusters, or the refusal.
+    fn solve(&self) -> Result<Report, Refusal>
+        ensures { answered result ≡ told (names self.now.asked.line.now) (searched self.now.asked.rooting self.now.asked.n (records_in self.now.count self.now.genes.now) (allowed_by self.now.asked.all self.now.asked.rooting self.now.asked.n (records_in self.now.count self.now.genes.now))) }
+    {
+        let entries = clusters::single(self.asked.n) as usize;
+        let mut allowed = [0u8; 4096];
+        self.allow(&mut allowed[..entries]);
+        let (solution, ties) = self.find(&allowed[..entries])?;
+        let numbers = solution.numbers;
+        Ok(solved(
+            &self.asked,
+            self.count,
+            solution.score,
+            ties,
+            Record { numbers },
+        ))
+    }
+}
+
+impl Asked<'_> {
+    // The gene trees that were read, 1 or more: 19 at the first that may not be counted by the rooting, else what is found of them.
+    fn on_genes(
+        &self,
+        trees: &[u8],
+        shift: usize,
+        genes: &[u16],
+        count: usize,
+    ) -> Result<Report, Refusal>
+        requires trees_bound { shift + length trees.now ≤ text_most }
+        requires genes_value { gathered (records_in count genes.now) ≡ GeneTrees·gather self.now.line.now trees.now }
+        requires genes { Genes Rooted self.now.n count genes.now }
+        ensures { answered result ≡ told (names self.now.line.now) (with_genes (records_in count genes.now) (λ i. tree_place self.now.line.now trees.now shift i) self.now.all self.now.rooting self.now.n) }
+    {
+        if let Err(refusal) = judge_genes(self.rooting, self.n, genes, count) {
+            let at = place(self.line, trees, refusal.place);
+            return Err(refusal.fault.at(shift + at));
+        }
+        let counted = Counted {
+            asked: *self,
+            genes,
+            count,
+        };
+        counted.solve()
+    }
+
+    // The trees, which begin at `shift` of the input, and what is found of them. `report` calls it, with the rest of its input behind a good roster line and a mode line.
+    pub fn on_trees(&self, trees: &[u8], shift: usize) -> Result<Report, Refusal>
+        requires { shift + length trees.now ≤ text_most }
+        ensures { answered result ≡ told (names self.now.line.now) (on_trees (GeneTrees·gather self.now.line.now trees.now) self.now.line.now trees.now shift self.now.all self.now.rooting self.now.n) }
+    {
+        let mut genes = [0u16; 16384];
+        let count = gather(self.line, trees, &mut genes).map_err(|e| e.fault.at(shift + e.place))?;
+        if count == 0 {
+            return Err(Fault::GeneCount.at(0));
+        }
+        self.on_genes(trees, shift, &genes, count)
     }
 }

@@ -1,30 +1,30 @@
 -- The best tree so far: once one more tree was added or passed over, once all were visited, and the answer that says it.
-use Prim.Native.Nat.{ℕ, ◌+◌, ◌≤◌, ◌<◌}
-use mathlib.Core.Path.{◌≡◌, refl, ap, ap₂, ◌∙◌}
+use Prim.Native.Nat.{ℕ, ◌+◌, ◌^◌, ◌≤◌, ◌<◌}
+use mathlib.Core.Path.{◌≡◌, refl, sym, ap, ap₂, ◌∙◌, subst}
 use mathlib.Core.Bool.{Bool, true, false}
 use mathlib.Core.Option.{Option, some, none}
 use mathlib.Core.List.{List, [], ◌∷◌, ◌++◌}
 use native.Mathlib.Numerals.{add-one}
 use native.Mathlib.Omega.{arith}
-use lib.ListN.{length, take}
+use lib.ListN.{length, take, get_or}
 use lib.Seq.{take-suc, take_all}
 use Rattle.clusters.specs.Sets.{whole, size}
-use Rattle.clusters.proofs.Sets.{whole_some}
+use Rattle.clusters.proofs.Sets.{whole_some, below_of_within}
 use Rattle.clusters.proofs.Sizes.{size_some}
 use Rattle.trees.specs.Lists.{Among}
 use Rattle.trees.specs.Valid.{every}
 use Rattle.trees.specs.Records.{listed, record_of, records_in, SpeciesValid}
-use Rattle.trees.proofs.Booleans.{never_both}
+use Rattle.trees.proofs.Booleans.{never_both, unless}
 use Rattle.trees.proofs.Bounds.{whole_below_sixteen}
-use Rattle.trees.proofs.Places.{at_among}
+use Rattle.trees.proofs.Places.{at_among, among_at}
 use Rattle.trees.proofs.Recorded.{among_record, record_among}
 use Rattle.trees.proofs.ValidTest.{Tells, tells_every}
 use Rattle.weights.specs.Count.{weight, score}
 use Rattle.weights.specs.declared.Rooting.{Rooting}
 use Rattle.weights.proofs.Joining.{tells_same}
 use Rattle.terms.specs.Allowed.{allowed_in}
-use Rattle.terms.specs.Answers.{without}
-use Rattle.terms.specs.declared.Found.{Found}
+use Rattle.std.specs.Prelude.{Option as Maybe, Some, None, Ok, IfSome}
+use Rattle.terms.specs.Answers.{without, found_to}
 use Rattle.splits.specs.BinaryTrees.{Binary, clusters_in, trees_on}
 use Rattle.splits.specs.BinaryTrees.Binary.{tip}
 use Rattle.splits.specs.Least.{those, score_of, trees_over, least_trees, first, best}
@@ -59,33 +59,48 @@ module _ (w : ℕ → ℕ) where
 
 -- ---- one tree added
 
-module _ (b : Best) (score number : ℕ) where
+module _ (score number : ℕ) where
   -- the best so far stays where it scores no more
-  pub stays : b.found ≡ true → b.score ≤ score → Adds b score number b
+  pub stays : (b : Best) → b.score ≤ score → Adds (Some b) score number (Some b)
   unfolding Adds KeepsLeast
-  stays found no_more w a ts among scored kept = rw (first_behind w ts (tree_of a number)) (go (first (least_trees w ts)) kept)
+  stays b no_more w a ts among scored kept = rw (first_behind w ts (tree_of a number)) (go (first (least_trees w ts)) kept)
     where
-      go : (o : Option Binary) → Keeps w a o b → Keeps w a (pick (score_of w) o (some (tree_of a number))) b
-      go none k = absurd (never_both b.found found k)
+      go : (o : Option Binary) → Keeps w a o (Some b) → Keeps w a (pick (score_of w) o (some (tree_of a number))) (Some b)
+      go none k = absurd k
       go (some u) k = rw (pick_first (score_of w) u (tree_of a number) (omega (arith, k.score))) k
 
   -- else the tree is the best: there was none before, or it scores less
-  pub taken : (b.found ≡ true → score < b.score) → Adds b score number (record { found = true; score = score; number = number })
+  pub taken : (b : Maybe Best) → IfSome b (λ held. score < held.score) → Adds b score number (Some (record { score = score; number = number }))
   unfolding Adds KeepsLeast pick
-  taken less w a ts among scored kept = rw (first_behind w ts (tree_of a number)) (go (first (least_trees w ts)) kept)
+  taken b less w a ts among scored kept = rw (first_behind w ts (tree_of a number)) (go (first (least_trees w ts)) b less kept)
     where
-      this : Kept w a (tree_of a number) (record { found = true; score = score; number = number })
-      this = record { found = refl; score = scored; among = among; tree = refl }
+      this : Kept w a (tree_of a number) (record { score = score; number = number })
+      this = record { score = scored; among = among; tree = refl }
 
-      go : (o : Option Binary) → Keeps w a o b → Keeps w a (pick (score_of w) o (some (tree_of a number))) (record { found = true; score = score; number = number })
-      go none k = this
-      go (some u) k = rw (pick_second (score_of w) u (tree_of a number) (omega (arith, k.score, less k.found))) this
+      go : (o : Option Binary) (b : Maybe Best) → IfSome b (λ held. score < held.score) → Keeps w a o b
+          → Keeps w a (pick (score_of w) o (some (tree_of a number))) (Some (record { score = score; number = number }))
+      go none b l k = this
+      go (some u) None l k = absurd k
+      go (some u) (Some held) l k = rw (pick_second (score_of w) u (tree_of a number) (omega (arith, k.score))) this
 
 -- ---- one tree visited
 
 -- a list of allowed clusters
 pub tells_allowed : (ok : ℕ → Bool) (l : List ℕ) → Tells (every ok l) ((x : ℕ) → Among x l → ok x ≡ true)
 tells_allowed ok l = tells_every ok l (λ x. record { holds = λ e. e; told = λ e. e })
+
+-- the clusters that a valid record lists, one after the other
+module _ (n : ℕ) {tree l : List ℕ} (valid : SpeciesValid n tree) (e : l ≡ listed tree) where
+  pub cluster_below : (k : ℕ) → k < length l → get_or l k 0 < 2 ^ n
+  cluster_below k h = below_of_within n (valid.inside (get_or l k 0) (subst (λ m. Among (get_or l k 0) m) e (at_among l 0 k h))).1
+
+  pub all_allowed : (ok : ℕ → Bool) → ((k : ℕ) → k < length l → ok (get_or l k 0) ≡ true) → true ≡ every ok (listed tree)
+  all_allowed ok all = sym ((tells_allowed ok (listed tree)).told (λ x m. let at = among_at 0 (subst (λ k. Among x k) (sym e) m) in subst (λ y. ok y ≡ true) at.there (all at.place at.before_end)))
+
+  pub one_refused : (ok : ℕ → Bool) (k : ℕ) → k < length l → ok (get_or l k 0) ≡ false → false ≡ every ok (listed tree)
+  one_refused ok k h refuse =
+      sym (unless (every ok (listed tree)) (λ all. never_both (ok (get_or l k 0))
+      ((tells_allowed ok (listed tree)).holds all (get_or l k 0) (subst (λ m. Among (get_or l k 0) m) e (at_among l 0 k h))) refuse))
 
 -- the record of a tree has its clusters, and its score
 module _ (t : Binary) {numbers : List ℕ} (recorded : numbers ≡ record_of (clusters_in t)) where
@@ -122,13 +137,13 @@ module _ (rooting : Rooting) (n : ℕ) (genes : List ℕ) (count : ℕ) (allowed
   tested = over (allowed_in n allowed)
 
   -- of no trees, none is the best
-  pub none_visited : BestOfFirst rooting n genes count allowed 0 (record { found = false; score = 0; number = 0 })
+  pub none_visited : BestOfFirst rooting n genes count allowed 0 None
   unfolding BestOfFirst those least_trees
-  none_visited = refl
+  none_visited = tt
 
-  module _ (k : ℕ) (b : Best) (among : k < length (trees_on (whole n))) (kept : BestOfFirst rooting n genes count allowed k b) where
+  module _ (k : ℕ) (b : Maybe Best) (among : k < length (trees_on (whole n))) (kept : BestOfFirst rooting n genes count allowed k b) where
     -- a tree over allowed clusters is added
-    pub added : {score : ℕ} (r : Best) → over (allowed_in n allowed) (tree_of (whole n) k) ≡ true → score ≡ score_of weighed (tree_of (whole n) k)
+    pub added : {score : ℕ} (r : Maybe Best) → over (allowed_in n allowed) (tree_of (whole n) k) ≡ true → score ≡ score_of weighed (tree_of (whole n) k)
         → Adds b score k r → BestOfFirst rooting n genes count allowed (k + 1) r
     unfolding BestOfFirst Adds
     added r e scored adds =
@@ -149,7 +164,7 @@ module _ (rooting : Rooting) (n : ℕ) (genes : List ℕ) (count : ℕ) (allowed
         kept
 
   -- once all were visited, the best so far is the best of all
-  pub best_of_all : (k : ℕ) (b : Best) → length (trees_on (whole n)) ≤ k → BestOfFirst rooting n genes count allowed k b
+  pub best_of_all : (k : ℕ) (b : Maybe Best) → length (trees_on (whole n)) ≤ k → BestOfFirst rooting n genes count allowed k b
       → Keeps weighed (whole n) (best_for rooting n (records_in count genes) allowed (whole n)) b
   unfolding BestOfFirst best_for best trees_over
   best_of_all k b all kept = rw (take_all k (trees_on (whole n)) all) at kept
@@ -168,27 +183,26 @@ some_tree n one few =
 
 -- the tree that was found has a number
 pub kept-numbered :
-    (w : ℕ → ℕ) (n : ℕ) (t : Option Binary) (b : Best) → Keeps w (whole n) t b → 1 ≤ n → n ≤ 16 → b.found ≡ true → Numbered (whole n) b.number
+    (w : ℕ → ℕ) (n : ℕ) (t : Option Binary) (b : Maybe Best) → Keeps w (whole n) t b → 1 ≤ n → n ≤ 16 → IfSome b (λ held. Numbered (whole n) held.number)
 unfolding Keeps
-kept-numbered w n none b kept one few found = absurd (never_both b.found found kept)
-kept-numbered w n (some t) b kept one few found = numbered n b.number one few kept.among
+kept-numbered w n t None kept one few = tt
+kept-numbered w n none (Some b) kept one few = absurd kept
+kept-numbered w n (some t) (Some b) kept one few = numbered n b.number one few kept.among
 
 module _ (rooting : Rooting) (n : ℕ) (genes : List (List ℕ)) where
   -- the answer of a tree that was found
   pub found-told :
-      (t : Option Binary) (b : Best) {numbers : List ℕ} → Keeps (weight rooting genes) (whole n) t b → b.found ≡ true
+      (t : Option Binary) (b : Best) {numbers : List ℕ} → Keeps (weight rooting genes) (whole n) t (Some b)
       → numbers ≡ record_of (clusters_in (tree_of (whole n) b.number))
-      → record { number = 0; place = 0; score = b.score; numbers = numbers } ≡ found_by rooting t genes
+      → found_to (Ok (record { score = b.score; numbers = numbers })) ≡ found_by rooting t genes
   unfolding Keeps
-  found-told none b kept found e = absurd (never_both b.found found kept)
-  found-told (some t) b kept found e =
+  found-told none b kept e = absurd kept
+  found-told (some t) b kept e =
       ap₂ (λ (score : ℕ) (numbers : List ℕ). record { number = 0; place = 0; score = score; numbers = numbers })
       kept.score (e ∙ ap (λ (u : Binary). record_of (clusters_in u)) kept.tree)
 
   -- and of none
-  pub none_told :
-      (t : Option Binary) (b : Best) {r : Found} → Keeps (weight rooting genes) (whole n) t b → b.found ≡ false
-      → r ≡ without 14 0 → r ≡ found_by rooting t genes
+  pub none_told : (t : Option Binary) → Keeps (weight rooting genes) (whole n) t None → without 14 0 ≡ found_by rooting t genes
   unfolding Keeps
-  none_told none b kept found e = e
-  none_told (some t) b kept found e = absurd (never_both b.found kept.found found)
+  none_told none kept = refl
+  none_told (some t) kept = absurd kept

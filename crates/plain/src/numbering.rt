@@ -10,7 +10,7 @@ ghost use Rattle.plain.specs.Work.{Numbered, PartOf};
 use sorting::record_of;
 use trees::Record;
 
-// How many binary trees there are on 1 to 16 species: 1, then each the one before times the next odd number, beginning with 1.
+// How many binary trees there are on 1 to 16 species: 1, then each the one before times the next odd number, beginning with 1. "the team keeps these as a table" (#108)
 const TREES: [u64; 16] = [
     1,
     1,
@@ -51,10 +51,8 @@ fn is_low(a: u32, low: u32) -> bool
     requires { 1 ≤ a }
     ensures { result ≡ is_low a low }
 {
-    if clusters::within(low, a) {
-        return clusters::within(clusters::single(clusters::lowest(a) as usize), low);
-    }
-    false
+    clusters::within(low, a)
+        && clusters::within(clusters::single(clusters::lowest(a) as usize), low)
 }
 
 // The low part at the root of the tree of that number, and its number among the trees with that low part: low parts come the smaller number first.
@@ -64,8 +62,7 @@ fn part_of(a: u32, number: u64) -> Part
     ensures { PartOf a number result }
 {
     let mut left = number;
-    let mut low = 1;
-    while low < a {
+    for low in 1..a {
         if is_low(a, low) {
             let with_low = trees_on(low) * trees_on(a - low);
             if left < with_low {
@@ -73,10 +70,9 @@ fn part_of(a: u32, number: u64) -> Part
             }
             left -= with_low;
         }
-        low += 1;
     }
     // the number is that of a tree, so it was met before
-    Part { low, number: left }
+    unreachable!()
 }
 
 // Stores the clusters of the tree of that number on a from `stored` on: a, then those of its low child, then those of the other. How many are stored then.
@@ -89,14 +85,11 @@ fn draw(a: u32, number: u64, drawn: &mut [u32], stored: usize) -> usize
     if clusters::size(a) == 1 {
         return stored + 1;
     }
-    let part = part_of(a, number);
-    let low = part.low;
+    let Part { low, number } = part_of(a, number);
     let others = trees_on(a - low);
     // the trees with this low part come by their low child first: each of its trees with all of the other's
-    let low_number = part.number / others;
-    let other_number = part.number % others;
-    let next = draw(low, low_number, drawn, stored + 1);
-    draw(a - low, other_number, drawn, next)
+    let next = draw(low, number / others, drawn, stored + 1);
+    draw(a - low, number % others, drawn, next)
 }
 
 // The record of the tree of that number on a.

@@ -9,6 +9,8 @@ use native.Mathlib.Nat.{pow-suc}
 use lib.ListN.{length, get_or, length-append, get_or-append}
 use lib.Dec.{ltb}
 use borrow.Author.Tests.{ltb-true, ltb-false, lt-ltb, le-ltb}
+use Rattle.std.specs.Fmt.{decimal as std_decimal}
+use Rattle.std.proofs.lemmas.Fmt.{decimal_from_appends_wide, length-decimal-le_wide}
 use Rattle.printing.specs.Words.{digits_by, digits_to, decimal}
 use Rattle.printing.specs.Value.{value_behind, value_of}
 
@@ -48,6 +50,14 @@ pub decimal_more : (x : ℕ) → 10 ≤ x → x < 10 ^ 20 → decimal x ≡ deci
 unfolding decimal
 decimal_more x h l =
     digits_more 19 x h ∙ ap (λ (front : List ℕ). front ++ ((48 + x % 10) ∷ [])) (sym (digits-enough 18 (x / 10) (tenth_below 19 x l)))
+
+-- as std writes them
+pub decimal_written : (x : ℕ) → x < 10 ^ 20 → std_decimal x ≡ decimal x
+unfolding decimal
+decimal_written x h =
+    sym
+    (decimal_from_appends_wide digits_to (record { one = λ k n l. digits_one k n l; more = λ k n l. digits_more k n l }) 20 x (omega arith)
+    (length-decimal-le_wide 20 x (omega arith) h (omega arith)))
 
 -- ---- how many there are
 

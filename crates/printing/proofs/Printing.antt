@@ -3,8 +3,9 @@ use Prim.Native.Nat.{ℕ, ◌+◌, ◌-◌, ◌/◌, ◌%◌, ◌^◌, ◌≤◌
 use mathlib.Core.Path.{◌≡◌, refl, sym, ap, ap₂, ◌∙◌}
 use mathlib.Core.List.{List, [], ◌∷◌, ◌++◌, append_assoc}
 use native.Mathlib.Omega.{arith}
+use borrow.Rule.Slice.PartMut.{put_mid, Post-is}
 use lib.ListN.{length, drop, set, replicate, length-append, length-replicate, replicate-append-replicate}
-use lib.Seq.{sets, length-sets, drop_at}
+use lib.Seq.{sets, sets-eq, length-sets, drop_at}
 use Rattle.trees.proofs.Stores.{sets_append, sets-front}
 use Rattle.printing.specs.Words.{newline, decimal}
 use Rattle.printing.specs.Texts.{report_bytes, report_of, refusal_text, counts_text}
@@ -15,6 +16,13 @@ use Rattle.printing.proofs.Digits.{decimal_one, decimal_more, decimal-length}
 -- a byte
 pub put_byte : (l : List ℕ) (at b : ℕ) → Put l at (b ∷ []) (at + 1) (set l at b)
 put_byte l at b = record { ended = refl; stored = refl }
+
+-- a text copied into its part of the bytes
+pub put_part : (l w : List ℕ) (at : ℕ) → at + length w ≤ length l → Put l at w (at + length w) (put_mid at (at + length w - at) l w)
+put_part l w at h = record {
+  ended = refl;
+  stored = rw (Post-is at (at + length w) l (omega arith), sets-eq w l at h, append_assoc);
+}
 
 -- what is stored behind a text is stored as one run with it
 pub put_rest :
@@ -47,14 +55,6 @@ put-length {l} {r} {t} {at} p = ap length p.stored ∙ length-sets l at t
 -- ---- a number
 
 module _ (x : ℕ) where
-  pub put-digit : (l : List ℕ) (at : ℕ) → x < 10 → Put l at (decimal x) (at + 1) (set l at (48 + x))
-  put-digit l at h = rw (decimal_one x h) (put_byte l at (48 + x))
-
-  pub put-digits :
-      {l m : List ℕ} {at mid : ℕ} → 10 ≤ x → x < 10 ^ 20 → Put l at (decimal (x / 10)) mid m
-      → Put l at (decimal x) (mid + 1) (set m mid (48 + x % 10))
-  put-digits {l} {m} {at} {mid} h k p = rw (decimal_more x h k) (put_then p (put_byte m mid (48 + x % 10)))
-
   -- one digit, or one more than the tenth has
   pub one_digit : x < 10 → length (decimal x) ≡ 1
   one_digit h = ap length (decimal_one x h)

@@ -3,10 +3,12 @@
 
 ghost use Rattle.std.specs.Prelude.{◌≡◌, ◌++◌, ◌+◌, ◌≤◌, length};
 ghost use Rattle.printing.specs.Words.{decimal as Words·decimal};
-ghost use Rattle.printing.specs.Texts.{report_bytes, report_of, counts_text, refusal_text};
+ghost use Rattle.printing.specs.Texts.{report_bytes, report_of, counts_text, refusal_text, refused};
 ghost use Rattle.printing.specs.Work.{Put};
 
-// The output: how many bytes it has, and the bytes with zeros behind them.
+use faults::Refusal;
+
+// The output: how many bytes it has, and the bytes with zeros behind them, in fixed memory, for there is no heap.
 #[derive(Clone, Copy)]
 pub struct Report {
     pub len: usize,
@@ -18,26 +20,20 @@ pub fn word(out: &mut [u8], at: usize, word: &[u8]) -> usize
     requires { at + length word.now ≤ length out.old }
     ensures { Put out.old at word.now result out.new }
 {
-    let mut i = 0;
-    while i < word.len() {
-        out[at + i] = word[i];
-        i += 1;
-    }
-    at + i
+    let end = at + word.len();
+    out[at..end].copy_from_slice(word);
+    end
 }
 
 // Puts a number in decimal digits behind the first `at` bytes, and answers where it ends. `texts` calls it too, where there is room for the digits.
+// Not by `write!`: std says what it wrote where it answers `Ok`, and nowhere that it does so where there is room (`OnOk` in `fmt::Write`).
+#[tactic(auto, using(crate::proofs::Digits::decimal_written))]
 pub fn decimal(out: &mut [u8], at: usize, x: usize) -> usize
     requires { at + length (Words·decimal x) ≤ length out.old }
     ensures { Put out.old at (Words·decimal x) result out.new }
 {
-    if x < 10 {
-        out[at] = 48 + x as u8;
-        return at + 1;
-    }
-    let end = decimal(out, at, x / 10);
-    out[end] = 48 + (x % 10) as u8;
-    end + 1
+    let mut buffer = itoa::Buffer::new();
+    word(out, at, buffer.format(x).as_bytes())
 }
 
 // Puts a word and a number behind it, which has twenty digits at the most; answers where they end.
@@ -58,6 +54,15 @@ pub fn refusal(number: u32, place: usize) -> Report
     let at = labelled(&mut text, at, b" at ", place);
     let len = word(&mut text, at, b"\n");
     Report { len, text }
+}
+
+impl From<Refusal> for Report {
+    ghost from_gives = { λ e r. r ≡ refused e };
+
+    // The line of a refusal.
+    fn from(e: Refusal) -> Report {
+        refusal(e.fault.number(), e.place)
+    }
 }
 
 // The lines of species and gene trees read, of the score and of the ties; answers where they end. `outcomes` calls it, with the bytes of a report.

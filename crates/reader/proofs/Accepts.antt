@@ -15,8 +15,7 @@ use Rattle.trees.specs.Tree.{Tree, leaves, cluster}
 use Rattle.trees.proofs.Nodes.{has-leaf, cluster_some}
 use Rattle.roster.specs.Roster.{names, faulty}
 use Rattle.tokens.specs.Answers.Answer.{parsed}
-use Rattle.tokens.specs.Supports.{is_given}
-use Rattle.tokens.specs.declared.answer.Threshold.{Threshold}
+use Rattle.tokens.specs.Supports.{is_given, Threshold}
 use Rattle.reader.specs.Accepted.{MayHave, DrawsWithin, JustBehind, Accepted}
 use Rattle.reader.specs.Promise.{Limits, text_most, needed, from_start, in_limit, on_roster, answer_within}
 use Rattle.reader.specs.declared.Kind.{Kind}

@@ -19,8 +19,7 @@ use Rattle.nodes.specs.Reading.{open_most}
 use Rattle.nodes.proofs.Answers.{refused-parsed}
 use Rattle.nodes.proofs.Needed.{unless_lacking, then_needed, read-then-needed}
 use Rattle.nodes.proofs.RefusedBy.{none_needed_never_nine}
-use Rattle.tokens.specs.Supports.{is_given}
-use Rattle.tokens.specs.declared.answer.Threshold.{Threshold}
+use Rattle.tokens.specs.Supports.{is_given, Threshold}
 use Rattle.reader.specs.Promise.{Limits, narrow, reading_of, answer_within, answer_to, Reads}
 use Rattle.reader.specs.declared.Kind.TheVariants.{Species, Gene}
 use Rattle.reader.specs.declared.Reading.{Reading}

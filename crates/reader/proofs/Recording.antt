@@ -6,6 +6,7 @@ use mathlib.Core.List.{List}
 use lib.ListN.{length, get_or, take, drop}
 use lib.Seq.{length-sets, length-take-le}
 use lib.Pow.{pow_mono}
+use Rattle.std.specs.Prelude.{Result, Ok, Err, None, Some}
 use Rattle.clusters.proofs.Sizes.{size-le}
 use Rattle.trees.specs.Tree.{Tree, cluster}
 use Rattle.trees.specs.Records.{record_of, record_for}
@@ -13,15 +14,13 @@ use Rattle.trees.proofs.Stores.{get_or-sets, take-sets}
 use Rattle.roster.specs.Roster.{names}
 use Rattle.roster.proofs.Names.{names-count}
 use Rattle.tokens.specs.Answers.{Answer}
-use Rattle.tokens.specs.Answers.Answer.{parsed, refused}
-use Rattle.tokens.specs.declared.answer.Refusal.{Refusal}
-use Rattle.tokens.specs.Supports.{is_given}
-use Rattle.tokens.specs.declared.answer.Threshold.{Threshold}
-use Rattle.tokens.specs.declared.answer.Threshold.TheVariants.{NoThreshold, Below}
-use Rattle.nodes.specs.Core.{left_in, node_fault, NodeReads}
+use Rattle.tokens.specs.Answers.Answer.{parsed}
+use Rattle.tokens.specs.Says.{refusal}
+use Rattle.faults.specs.declared.Refusal.{Refusal}
+use Rattle.tokens.specs.Supports.{is_given, Threshold}
+use Rattle.nodes.specs.Core.{left_in, NodeReads}
 use Rattle.nodes.specs.declared.answer.Cursor.{Cursor}
-use Rattle.nodes.specs.declared.answer.NodeRead.{NodeRead}
-use Rattle.nodes.specs.declared.answer.NodeRead.TheVariants.{Node, Refused as NoNode}
+use Rattle.nodes.specs.declared.answer.Node.{Node}
 use Rattle.nodes.proofs.Answers.{refused-parsed}
 use Rattle.nodes.proofs.Growth.{Fresh}
 use Rattle.nodes.proofs.LeftClusters.{left_at_root, left_without, left_fresh}
@@ -37,9 +36,9 @@ use Rattle.reader.proofs.Accepts.{answer-read}
 use Rattle.reader.proofs.TreeWays.{tree-fresh}
 
 -- what is left in the table are the clusters that the tree is read to
-left_read : (threshold : Threshold) (t : Tree) → left_in NoThreshold threshold t ≡ clusters_read threshold t
-left_read NoThreshold t = left_at_root NoThreshold t ∙ left_without t
-left_read (Below amount) t = left_at_root (Below amount) t
+left_read : (threshold : Threshold) (t : Tree) → left_in None threshold t ≡ clusters_read threshold t
+left_read None t = left_at_root None t ∙ left_without t
+left_read (Some amount) t = left_at_root (Some amount) t
 
 -- a tree is answered, and the clusters that it is read to stand at the front of the table: few enough for a record, and none too large
 pub record Stored (limits : Limits) (kind : Kind) (threshold : Threshold) (line text : List ℕ) (start : ℕ) (found : List ℕ) (next : Cursor) : Type 0 where
@@ -50,28 +49,27 @@ pub record Stored (limits : Limits) (kind : Kind) (threshold : Threshold) (line 
   pub small : (i : ℕ) → i < next.stored → get_or found i 0 < 2 ^ limits.most
   pub front : take next.stored found ≡ clusters_read threshold tree
 
-module _ (limits : Limits) (kind : Kind) (threshold : Threshold) (line text : List ℕ) (start : ℕ) (before found : List ℕ) (r : NodeRead)
+module _ (limits : Limits) (kind : Kind) (threshold : Threshold) (line text : List ℕ) (start : ℕ) (before found : List ℕ) (r : Result Node Refusal)
     (reads : ReadsAnswer limits kind threshold line text start before found r) where
   abbrev answer : Answer Tree
   answer = answer_within limits kind threshold line text start
 
-  node-reads : NodeReads NoThreshold threshold text 0 0 before found answer r
+  node-reads : NodeReads None threshold text 0 0 before found answer r
   unfolding ReadsAnswer
   node-reads = reads
 
   -- a refusal that is passed on is the answer
-  pub answer-refused : (e f : Refusal) → r ≡ NoNode e → f ≡ node_fault r → answer ≡ refused f.number f.place
-  answer-refused e f told fault =
-      let h = refused-node NoThreshold threshold text 0 0 before found answer r e node-reads told in
-      let g : f ≡ e = rw told at fault in
-      rw g (sym h)
+  pub answer-refused : (e : Refusal) → r ≡ Err e → answer ≡ refusal e
+  answer-refused e told = sym (refused-node None threshold text 0 0 before found answer r e node-reads told)
 
-  module _ (mask : ℕ) (next : Cursor) (told : r ≡ Node mask next) (room : 2 * limits.most ≤ length before) where
-    read-tree : TreeRead NoThreshold threshold text 0 0 before found answer mask next
-    read-tree = read-node NoThreshold threshold text 0 0 before found answer r mask next node-reads told
+  module _ (read : Node) (told : r ≡ Ok read) (room : 2 * limits.most ≤ length before) where
+    open read use {mask, next}
+
+    read-tree : TreeRead None threshold text 0 0 before found answer mask next
+    read-tree = read-node None threshold text 0 0 before found answer r mask next node-reads told
 
     abbrev left : List ℕ
-    left = left_in NoThreshold threshold read-tree.tree
+    left = left_in None threshold read-tree.tree
 
     stored_is : next.stored ≡ length left
     stored_is = let s = read-tree.stored_is in omega arith
@@ -79,7 +77,7 @@ module _ (limits : Limits) (kind : Kind) (threshold : Threshold) (line text : Li
     fresh : Fresh (length (names line)) 0 (cluster read-tree.tree) left
     fresh =
         let a = answer-read kind threshold line text start read-tree.answered in
-        left_fresh NoThreshold threshold read-tree.tree
+        left_fresh None threshold read-tree.tree
         (tree-fresh (is_given threshold) (names line) limits.room (needed kind (length (names line))) (drop start text) start a.read)
 
     few_names : length (names line) ≤ limits.most
@@ -116,9 +114,9 @@ module _ (kind : Kind) (threshold : Threshold) (line text : List ℕ) (start : �
   ReadsInto r = Reads kind threshold line text start r × Stores threshold (answer_to kind threshold line text start) found
 
   pub reading_refused :
-      {number place : ℕ} (r : Reading) → answer_to kind threshold line text start ≡ refused number place → r ≡ reading_of threshold start (refused number place) → ReadsInto r
+      (e : Refusal) (r : Reading) → answer_to kind threshold line text start ≡ refusal e → r ≡ reading_of threshold start (refusal e) → ReadsInto r
   unfolding Reads Stores
-  reading_refused r answered is = (rw answered is, λ t rest next e. absurd (refused-parsed (sym answered ∙ e)))
+  reading_refused e r answered is = (rw answered is, λ t rest next e. absurd (refused-parsed (sym answered ∙ e)))
 
   pub reading_recorded :
       (next : Cursor) → Stored narrow kind threshold line text start found next → (numbers : List ℕ) → numbers ≡ record_of (take next.stored found)
@@ -135,13 +133,13 @@ module _ (kind : Kind) (threshold : Threshold) (line text : List ℕ) (start : �
 -- the same of a wide reply
 module _ (individuals text : List ℕ) (start : ℕ) where
   pub wide-refused :
-      {number place : ℕ} (r : WideReading) → answer_within wide Gene NoThreshold individuals text start ≡ refused number place
-      → r ≡ wide_reading_of start (refused number place) → ReadsWide individuals text start r
+      (e : Refusal) (r : WideReading) → answer_within wide Gene None individuals text start ≡ refusal e
+      → r ≡ wide_reading_of start (refusal e) → ReadsWide individuals text start r
   unfolding ReadsWide
-  wide-refused r answered is = rw answered is
+  wide-refused e r answered is = rw answered is
 
   pub wide-recorded :
-      (found : List ℕ) (next : Cursor) → Stored wide Gene NoThreshold individuals text start found next
+      (found : List ℕ) (next : Cursor) → Stored wide Gene None individuals text start found next
       → (numbers : List ℕ) → numbers ≡ record_for 32 (take next.stored found)
       → ReadsWide individuals text start (record { number = 0; place = 0; next = next.at; numbers = numbers })
   unfolding ReadsWide

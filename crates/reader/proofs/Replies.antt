@@ -7,6 +7,7 @@ use native.Mathlib.Omega.{arith}
 use lib.ListN.{length, take, drop}
 use lib.Dec.{leb}
 use lib.Pow.{pow_mono}
+use Rattle.std.proofs.Common.{None, Some}
 use Rattle.clusters.proofs.Sets.{whole_below}
 use Rattle.trees.specs.Tree.{Tree, Behind, On, cluster, clusters}
 use Rattle.trees.specs.Records.{count, record_of, record_for, largest, ValidFor, SpeciesValid, GeneValidFor, GeneValid}
@@ -21,9 +22,7 @@ use Rattle.tokens.specs.Answers.{Answer}
 use Rattle.tokens.specs.Answers.Answer.{parsed, refused}
 use Rattle.nodes.specs.Reading.{read_tree}
 use Rattle.nodes.proofs.RefusedBy.{tree-numbered}
-use Rattle.tokens.specs.Supports.{is_given, weak}
-use Rattle.tokens.specs.declared.answer.Threshold.{Threshold}
-use Rattle.tokens.specs.declared.answer.Threshold.TheVariants.{NoThreshold, Below}
+use Rattle.tokens.specs.Supports.{is_given, weak, Threshold}
 use Rattle.reader.specs.Promise.{Limits, narrow, text_most, needed, clusters_read, from_start, in_limit, on_roster, answer_within, answer_to, Reads, Stores}
 use Rattle.reader.specs.Accepted.{MayHave, DrawsWithin}
 use Rattle.reader.specs.declared.Kind.{Kind}
@@ -117,9 +116,9 @@ module _
         by : (threshold : Threshold)
             → GeneValidFor limits.most (length (names line)) (record_for limits.most (clusters_read threshold t))
             × (largest (record_for limits.most (clusters_read threshold t)) ≡ cluster t)
-        by NoThreshold = (gene_of_valid valid (cluster_some t, drawn-below), largest_of_valid valid)
-        by (Below amount) =
-            let test : Behind → Bool = λ b. weak (Below amount) b in
+        by None = (gene_of_valid valid (cluster_some t, drawn-below), largest_of_valid valid)
+        by (Some amount) =
+            let test : Behind → Bool = λ b. weak (Some amount) b in
             (drawn_left_valid drawn_few drawn_on drawn-below test, (drawn_thinned drawn_few drawn_on drawn-below test).same_species ∙ largest_of_valid valid)
 
 -- ---- number 0

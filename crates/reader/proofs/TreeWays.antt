@@ -4,64 +4,60 @@ use mathlib.Core.Path.{◌≡◌, ◌∙◌}
 use mathlib.Core.Bool.{Bool, true, false}
 use mathlib.Core.List.{List}
 use lib.ListN.{length, drop}
+use Rattle.std.specs.Prelude.{Err, None}
 use Rattle.clusters.specs.Sets.{within}
 use Rattle.trees.specs.Tree.{Tree, cluster}
+use Rattle.faults.specs.declared.Fault.TheVariants.{MissingSpecies}
 use Rattle.labels.specs.Bytes.{next_is}
 use Rattle.tokens.specs.Answers.Answer.{parsed}
 use Rattle.tokens.specs.Tokens.{blanks, skip}
 use Rattle.tokens.specs.Says.{stray_at}
-use Rattle.tokens.specs.declared.answer.Refusal.{Refusal}
+use Rattle.faults.specs.declared.Refusal.{Refusal}
 use Rattle.tokens.specs.Supports.{is_given}
-use Rattle.tokens.specs.declared.answer.Threshold.{Threshold}
-use Rattle.tokens.specs.declared.answer.Threshold.TheVariants.{NoThreshold}
 use Rattle.nodes.specs.Reading.{read_node, complete, ended, read_tree, read_tree_to, read_tree_by, read_tree_to_by}
 use Rattle.nodes.specs.Core.{Holds, NodeReads}
-use Rattle.nodes.specs.declared.answer.Cursor.{Cursor}
-use Rattle.nodes.specs.declared.answer.NodeRead.TheVariants.{Node, Refused as NoNode}
+use Rattle.nodes.specs.declared.Reader.{Reader}
 use Rattle.nodes.proofs.Answers.{refused-parsed, and_then-parsed, unexpected-parsed}
 use Rattle.nodes.proofs.Growth.{FreshTree, read_node-fresh}
-use Rattle.nodes.proofs.NodeAnswers.{node-refused, refused-node, TreeRead, node-read, read-node}
+use Rattle.nodes.proofs.NodeAnswers.{read_as, node-refused, refused-node, TreeRead, node-read, read-node}
 use Rattle.nodes.proofs.NodeSteps.{end_missing, species-missing, tree_ends}
 use Rattle.nodes.proofs.NodeWays.{Asked, NodeCall, Followed, node-told}
 
 -- ---- a node and `;`
 
 -- a tree is read from its start on: nothing was met before
-abbrev pub from_start : Threshold → List ℕ → List ℕ → ℕ → ℕ → ℕ → List ℕ → Asked
-from_start threshold text table count start room before = record {
-  threshold = threshold;
-  text = text;
-  table = table;
-  count = count;
-  at = start;
-  seen = 0;
-  stored = 0;
+abbrev pub from_start : Reader → ℕ → ℕ → List ℕ → Asked
+from_start reader start room before = record {
+  reader = reader;
+  cursor = record { at = start; seen = 0; stored = 0 };
   room = room;
   before = before;
 }
 
 module _
-    (threshold : Threshold) (text table : List ℕ) (count : ℕ) (names : List (List ℕ)) (holds : Holds names count table) (start needed room : ℕ) (before : List ℕ) (k : ℕ)
-    (deep : 2 * (length text - start) < k) (one : NodeCall NoThreshold (from_start threshold text table count start room before))
+    (reader : Reader) (names : List (List ℕ)) (holds : Holds names reader.count reader.table.now) (start needed room : ℕ) (before : List ℕ) (k : ℕ)
+    (deep : 2 * (length reader.text.now - start) < k) (one : NodeCall None (from_start reader start room before))
   where
-    open one use {cursor, cursor_is, after as mid, result, reads}
+    open one use {after as mid, result, reads}
+    open reader use {threshold, text as read_from}
+    open read_from use {now as text}
 
-    root_told : NodeReads NoThreshold threshold text 0 0 before mid (read_node (is_given threshold) k names room 0 (drop start text) start) result
-    root_told = node-told threshold text table count names holds cursor start 0 0 cursor_is before mid result room k NoThreshold reads deep
+    root_told : NodeReads None threshold text 0 0 before mid (read_node (is_given threshold) k names room 0 (drop start text) start) result
+    root_told = node-told reader names holds (record { at = start; seen = 0; stored = 0 }) before mid result room k None reads deep
 
     pub root-refused_way :
-        (e : Refusal) → result ≡ NoNode e → NodeReads NoThreshold threshold text 0 0 before mid (read_tree_to (is_given threshold) k names room needed (drop start text) start) result
+        (e : Refusal) → result ≡ Err e → NodeReads None threshold text 0 0 before mid (read_tree_to (is_given threshold) k names room needed (drop start text) start) (Err e)
     unfolding read_tree_to_by
     root-refused_way e told =
-        let h = refused-node NoThreshold threshold text 0 0 before mid (read_node (is_given threshold) k names room 0 (drop start text) start) result e root_told told in
-        rw told
-        (node-refused NoThreshold threshold text 0 0 before mid (read_tree_to (is_given threshold) k names room needed (drop start text) start) e (rw (← h)))
+        let h = refused-node None threshold text 0 0 before mid (read_node (is_given threshold) k names room 0 (drop start text) start) result e root_told told in
+        node-refused None threshold text 0 0 before mid (read_tree_to (is_given threshold) k names room needed (drop start text) start) e (rw (← h))
 
     module _ (followed : Followed text result) where
-      open followed use {mask, next, told, here, passed}
+      open followed use {read, told, here, passed}
+      open read use {mask, next}
 
-      root : TreeRead NoThreshold threshold text 0 0 before mid (read_node (is_given threshold) k names room 0 (drop start text) start) mask next
-      root = read-node NoThreshold threshold text 0 0 before mid (read_node (is_given threshold) k names room 0 (drop start text) start) result mask next root_told told
+      root : TreeRead None threshold text 0 0 before mid (read_node (is_given threshold) k names room 0 (drop start text) start) mask next
+      root = read-node None threshold text 0 0 before mid (read_node (is_given threshold) k names room 0 (drop start text) start) result mask next root_told told
 
       behind-root_is :
           read_tree_to (is_given threshold) k names room needed (drop start text) start
@@ -71,25 +67,25 @@ module _
 
       pub end_missing_way :
           (e : Refusal) → next_is 59 (drop here text) ≡ false → e ≡ stray_at (drop here text) here
-          → NodeReads NoThreshold threshold text 0 0 before mid (read_tree_to (is_given threshold) k names room needed (drop start text) start) (NoNode e)
+          → NodeReads None threshold text 0 0 before mid (read_tree_to (is_given threshold) k names room needed (drop start text) start) (Err e)
       end_missing_way e t is =
-          node-refused NoThreshold threshold text 0 0 before mid (read_tree_to (is_given threshold) k names room needed (drop start text) start) e
+          node-refused None threshold text 0 0 before mid (read_tree_to (is_given threshold) k names room needed (drop start text) start) e
           (rw (is, behind-root_is) (end_missing text next.at here passed needed root.tree t))
 
       module _ (t : next_is 59 (drop here text) ≡ true) where
         pub species-missing_way :
             within needed mask ≡ false
-            → NodeReads NoThreshold threshold text 0 0 before mid (read_tree_to (is_given threshold) k names room needed (drop start text) start) (NoNode (record { number = 9; place = here }))
+            → NodeReads None threshold text 0 0 before mid (read_tree_to (is_given threshold) k names room needed (drop start text) start) (Err (record { fault = MissingSpecies; place = here }))
         species-missing_way w =
-            node-refused NoThreshold threshold text 0 0 before mid (read_tree_to (is_given threshold) k names room needed (drop start text) start) (record { number = 9; place = here })
+            node-refused None threshold text 0 0 before mid (read_tree_to (is_given threshold) k names room needed (drop start text) start) (record { fault = MissingSpecies; place = here })
             (rw (behind-root_is) (species-missing text next.at here passed needed root.tree t (rw root.mask_is at w)))
 
         pub tree_way :
-            (end : Cursor) → within needed mask ≡ true → end ≡ record { at = here + 1; seen = next.seen; stored = next.stored }
-            → NodeReads NoThreshold threshold text 0 0 before mid (read_tree_to (is_given threshold) k names room needed (drop start text) start) (Node mask end)
-        tree_way end w end_is =
-            rw end_is
-            (node-read NoThreshold threshold text 0 0 before mid (read_tree_to (is_given threshold) k names room needed (drop start text) start) mask
+            within needed mask ≡ true
+            → NodeReads None threshold text 0 0 before mid (read_tree_to (is_given threshold) k names room needed (drop start text) start)
+            (read_as mask (record { at = here + 1; seen = next.seen; stored = next.stored }))
+        tree_way w =
+            node-read None threshold text 0 0 before mid (read_tree_to (is_given threshold) k names room needed (drop start text) start) mask
             (record { at = here + 1; seen = next.seen; stored = next.stored })
             (record {
               tree = root.tree;
@@ -98,7 +94,7 @@ module _
               seen_is = root.seen_is;
               stored_is = root.stored_is;
               table_is = root.table_is;
-            }))
+            })
 
 -- ---- the tree is the root's
 

@@ -5,12 +5,12 @@ use mathlib.Core.Logic.{◌↔◌}
 use mathlib.Core.List.{List}
 use native.Mathlib.Omega.{arith}
 use lib.ListN.{length, replicate}
+use Rattle.std.proofs.Common.{None}
 use Rattle.trees.specs.Tree.{Tree, cluster, clusters}
 use Rattle.trees.specs.Records.{record_for, largest, GeneValidFor}
 use Rattle.roster.specs.Roster.{names}
 use Rattle.tokens.specs.Answers.{Answer}
 use Rattle.tokens.specs.Answers.Answer.{parsed, refused}
-use Rattle.tokens.specs.declared.answer.Threshold.TheVariants.{NoThreshold}
 use Rattle.reader.specs.Accepted.{DrawsOnStand, JustBehind}
 use Rattle.reader.specs.WidePromise.{wide, stand_answer, wide_reading_of, ReadsWide}
 use Rattle.reader.specs.declared.Kind.TheVariants.{Gene}
@@ -43,7 +43,7 @@ module _ (individuals text : List ℕ) (start : ℕ) (q : WideReading) (reads : 
     where
       by : (a : Answer Tree) → stand_answer individuals text start ≡ a → ReadOnStand individuals text start q
       by (parsed t rest n) e =
-          let a = accepted-derives Gene NoThreshold individuals text start e in
+          let a = accepted-derives Gene None individuals text start e in
           let g = draws-gene a.draws in
           let r : q.numbers ≡ record_for 32 (clusters t) = rw (reads, e) in
           record {
@@ -57,7 +57,7 @@ module _ (individuals text : List ℕ) (start : ℕ) (q : WideReading) (reads : 
           }
       by (refused n p) e =
           let l : q.number ≡ n = rw (reads, e) in
-          absurd (omega (arith, refusal_some wide Gene NoThreshold individuals text start e))
+          absurd (omega (arith, refusal_some wide Gene None individuals text start e))
 
   pub stand-refused : (q.number ≡ 0 → ⊥) → RefusedOnStand individuals text start q
   unfolding ReadsWide
@@ -72,7 +72,7 @@ module _ (individuals text : List ℕ) (start : ℕ) (q : WideReading) (reads : 
       {t : Tree} {rest : List ℕ} → DrawsOnStand individuals text start t rest
       → q ≡ record { number = 0; place = 0; next = length text - length rest; numbers = record_for 32 (clusters t) }
   unfolding ReadsWide
-  stand-reads-drawn d = reads ∙ ap (wide_reading_of start) (derives-accepted Gene NoThreshold individuals text start d)
+  stand-reads-drawn d = reads ∙ ap (wide_reading_of start) (derives-accepted Gene None individuals text start d)
 
   -- so a text is read exactly when it draws a tree
   pub stand_exactly : (q.number ≡ 0) ↔ ((t : Tree) × (rest : List ℕ) × DrawsOnStand individuals text start t rest)
@@ -85,7 +85,7 @@ module _ (individuals text : List ℕ) (start : ℕ) (q : WideReading) (reads : 
   pub stand-never-nine : q.number ≡ 9 → ⊥
   stand-never-nine nine =
       let r = stand-refused (λ z. omega arith) in
-      gene-never-nine wide NoThreshold individuals text start (r.answered ∙ ap (λ (n : ℕ). refused n q.place) nine)
+      gene-never-nine wide None individuals text start (r.answered ∙ ap (λ (n : ℕ). refused n q.place) nine)
 
   -- nor does 18, without a threshold (#113)
   pub stand-never-eighteen : q.number ≡ 18 → ⊥

@@ -3,14 +3,13 @@ use Prim.Native.Nat.{ℕ, ◌≤◌}
 use mathlib.Core.Path.{◌≡◌, sym, ap, ◌∙◌}
 use mathlib.Core.List.{List}
 use native.Mathlib.Omega.{arith}
+use Rattle.std.proofs.Common.{None}
 use Rattle.trees.specs.Tree.{Tree, clusters}
 use Rattle.trees.specs.Records.{listed, record_for}
 use Rattle.trees.proofs.Recorded.{listed_record}
 use Rattle.roster.specs.Roster.{names}
 use Rattle.roster.proofs.Names.{good-wider}
-use Rattle.tokens.specs.Supports.{is_given}
-use Rattle.tokens.specs.declared.answer.Threshold.{Threshold}
-use Rattle.tokens.specs.declared.answer.Threshold.TheVariants.{NoThreshold}
+use Rattle.tokens.specs.Supports.{is_given, Threshold}
 use Rattle.tokens.specs.Answers.Answer.{parsed}
 use Rattle.nodes.specs.Grammar.{strict}
 use Rattle.nodes.proofs.Deeper.{text_deeper}
@@ -60,13 +59,13 @@ pub record ReadAlike (r : Reading) (q : WideReading) : Type 0 where
   pub same_clusters : listed q.numbers ≡ listed r.numbers
 
 pub read_on_stand :
-    (line text : List ℕ) (start : ℕ) (r : Reading) (q : WideReading) → Reads Gene NoThreshold line text start r → ReadsWide line text start q → r.number ≡ 0
+    (line text : List ℕ) (start : ℕ) (r : Reading) (q : WideReading) → Reads Gene None line text start r → ReadsWide line text start q → r.number ≡ 0
     → ReadAlike r q
 unfolding ReadsWide
 read_on_stand line text start r q reads reads' z =
-    let w = reads-zero Gene NoThreshold line text start reads z in
+    let w = reads-zero Gene None line text start reads z in
     let more : Wider narrow wide = record { names_more = omega arith; room_more = omega arith } in
-    let e = answer-wider narrow wide Gene NoThreshold line text start more w.answered in
+    let e = answer-wider narrow wide Gene None line text start more w.answered in
     let recorded : q.numbers ≡ record_for 32 (clusters w.tree) = rw (reads', e) in
     record {
       done = rw (reads', e);

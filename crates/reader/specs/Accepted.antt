@@ -1,14 +1,12 @@
 -- Which texts are to be read: those that draw, by the grammar and within the limits, a tree with each of its species once, whose species are those that a tree of the kind may have.
-use Rattle.std.specs.Prelude.{ℕ, ◌≤◌, ◌<◌, ◌≡◌, false, List, length, drop}
+use Rattle.std.specs.Prelude.{ℕ, ◌≤◌, ◌<◌, ◌≡◌, false, List, length, drop, None}
 use Rattle.clusters.specs.Sets.{whole}
 use Rattle.trees.specs.Lists.{NoneTwice}
 use Rattle.trees.specs.Records.{ClusterOf}
 use Rattle.trees.specs.Tree.{Tree, leaves, cluster}
 use Rattle.roster.specs.Roster.{names, faulty}
-use Rattle.tokens.specs.Supports.{is_given}
-use Rattle.tokens.specs.declared.answer.Threshold.{Threshold}
+use Rattle.tokens.specs.Supports.{is_given, Threshold}
 use Rattle.nodes.specs.Grammar.{strict, Text}
-use Rattle.tokens.specs.declared.answer.Threshold.TheVariants.{NoThreshold}
 use Rattle.reader.specs.Promise.{Limits, narrow, text_most}
 use Rattle.reader.specs.WidePromise.{wide}
 use Rattle.reader.specs.declared.Kind.{Kind}
@@ -35,7 +33,7 @@ Draws kind threshold line text start t rest = DrawsWithin narrow kind threshold 
 
 -- on the individuals of a stand: a gene tree, without a threshold, within the limits of #110
 abbrev pub DrawsOnStand : List ℕ → List ℕ → ℕ → Tree → List ℕ → Type 0
-DrawsOnStand individuals text start t rest = DrawsWithin wide Gene NoThreshold individuals text start t rest
+DrawsOnStand individuals text start t rest = DrawsWithin wide Gene None individuals text start t rest
 
 -- q is the offset just behind the tree
 pub record JustBehind (text : List ℕ) (start : ℕ) (rest : List ℕ) (q : ℕ) : Type 0 where

@@ -1,5 +1,7 @@
 -- What `read` promises (01, "Numbers returned").
-use Rattle.std.specs.Prelude.{ℕ, ◌≡◌, Bool, true, false, List, length, take, drop, replicate, leb}
+use Rattle.std.specs.Prelude.{ℕ, ◌≡◌, Bool, true, false, List, length, take, drop, replicate, leb, None, Some, Result, Ok, Err}
+use Rattle.faults.specs.Faults.{number as fault_number}
+use Rattle.faults.specs.declared.Refusal.{Refusal}
 use Rattle.clusters.specs.Sets.{whole}
 use Rattle.trees.specs.Tree.{Tree, clusters}
 use Rattle.trees.specs.Thinned.{clusters_left}
@@ -8,18 +10,14 @@ use Rattle.roster.specs.Roster.{names, faulty, first_fault}
 use Rattle.roster.specs.Judged.{species_most}
 use Rattle.tokens.specs.Answers.{Answer}
 use Rattle.tokens.specs.Answers.Answer.{parsed, refused}
-use Rattle.tokens.specs.Supports.{is_given, weak}
-use Rattle.tokens.specs.declared.answer.Threshold.{Threshold}
-use Rattle.tokens.specs.declared.answer.Threshold.TheVariants.{NoThreshold, Below}
+use Rattle.tokens.specs.Supports.{is_given, weak, Threshold}
 use Rattle.nodes.specs.Reading.{open_most, read_tree}
 use Rattle.reader.specs.declared.Kind.{Kind}
 use Rattle.reader.specs.declared.Kind.TheVariants.{Species, Gene}
+use Rattle.reader.specs.declared.Drawn.{Drawn}
 use Rattle.reader.specs.declared.Reading.{Reading}
-
 -- how many names the roster has at most, and how many parentheses may be open at once
-pub record Limits : Type 0 where
-  pub most : ℕ
-  pub room : ℕ
+pub use Rattle.reader.specs.declared.Limits.{Limits}
 
 -- 01's: "species n | 1 to 16", "open parentheses at once | 15"
 abbrev pub narrow : Limits
@@ -36,14 +34,19 @@ needed Gene n = 0
 
 -- the clusters that a tree is read to: "An inner node, not the root, with support strictly below the threshold loses its cluster"; "without a threshold nothing changes" (#113)
 abbrev pub clusters_read : Threshold → Tree → List ℕ
-clusters_read NoThreshold t = clusters t
-clusters_read (Below amount) t = clusters_left (λ b. weak (Below amount) b) t
+clusters_read None t = clusters t
+clusters_read (Some amount) t = clusters_left (λ b. weak (Some amount) b) t
 
 -- "A refused call returns .. an all-zero record .. and, from the reader, the offset it was given"; start is that offset.
 -- A tree is answered by its record and the offset just after `;`
 abbrev pub reading_of : Threshold → ℕ → Answer Tree → Reading
 reading_of level start (parsed t rest next) = record { number = 0; place = 0; next = next; numbers = record_of (clusters_read level t) }
 reading_of level start (refused number place) = record { number = number; place = place; next = start; numbers = replicate 32 0 }
+
+-- the same by what the layers within have it: the tree that was read, or its refusal
+abbrev pub reading_by : ℕ → Result Drawn Refusal → Reading
+reading_by start (Ok d) = record { number = 0; place = 0; next = d.next; numbers = d.numbers }
+reading_by start (Err e) = record { number = fault_number e.fault; place = e.place; next = start; numbers = replicate 32 0 }
 
 -- "A start beyond the text gives 10"
 abbrev pub from_start : Limits → Kind → Threshold → Bool → List (List ℕ) → List ℕ → ℕ → Answer Tree

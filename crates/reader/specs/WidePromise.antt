@@ -1,10 +1,9 @@
 -- What `read_stand` promises (#110): a gene tree on individuals, read into a wide record.
-use Rattle.std.specs.Prelude.{ℕ, ◌≡◌, List, replicate}
+use Rattle.std.specs.Prelude.{ℕ, ◌≡◌, List, replicate, None}
 use Rattle.trees.specs.Tree.{Tree, clusters}
 use Rattle.trees.specs.Records.{record_for}
 use Rattle.tokens.specs.Answers.{Answer}
 use Rattle.tokens.specs.Answers.Answer.{parsed, refused}
-use Rattle.tokens.specs.declared.answer.Threshold.TheVariants.{NoThreshold}
 use Rattle.reader.specs.Promise.{Limits, answer_within}
 use Rattle.reader.specs.declared.Kind.TheVariants.{Gene}
 use Rattle.reader.specs.declared.wide.WideReading.{WideReading}
@@ -20,7 +19,7 @@ wide_reading_of start (refused number place) = record { number = number; place =
 
 -- "Gene trees are on individuals" (#110), and may lack some (#104); without a threshold. The order is 1, for the second roster, 2, then as met
 abbrev pub stand_answer : List ℕ → List ℕ → ℕ → Answer Tree
-stand_answer individuals text start = answer_within wide Gene NoThreshold individuals text start
+stand_answer individuals text start = answer_within wide Gene None individuals text start
 
 -- the promise of `read_stand`
 unfoldable pub ReadsWide : List ℕ → List ℕ → ℕ → WideReading → Type 0

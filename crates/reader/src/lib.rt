@@ -4,8 +4,7 @@
 mod tree;
 pub mod wide;
 
-pub use tokens::Threshold;
-pub use tree::{read, read_into};
+pub use tree::{draw, read, read_into};
 
 // What a text is read as: a species tree has every species, a gene tree may lack some.
 #[derive(Clone, Copy)]
@@ -14,7 +13,21 @@ pub enum Kind {
     Gene,
 }
 
-// What reading answers: number and place, the offset just after the tree's `;`, and the tree's record.
+// How many names the roster has at most, and how many parentheses may be open at once.
+#[derive(Clone, Copy)]
+pub struct Limits {
+    pub(crate) most: usize,
+    pub(crate) room: usize,
+}
+
+// A tree that was read: its record, and the offset just after its `;`.
+#[derive(Clone, Copy)]
+pub struct Drawn {
+    pub numbers: [u16; 32],
+    pub next: usize,
+}
+
+// What `read` answers, a type of the C interface: number and place, the offset just after the tree's `;`, and the tree's record.
 #[repr(C)]
 #[derive(Clone, Copy)]
 pub struct Reading {

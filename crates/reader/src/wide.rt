@@ -1,15 +1,12 @@
 // The public call for gene trees on individuals: a tree's text read to its wide record.
-ghost use Rattle.std.specs.Prelude.{◌≡◌};
-ghost use Rattle.tokens.specs.Answers.Answer.{refused as Answer·refused};
-ghost use Rattle.reader.specs.WidePromise.{wide_reading_of, ReadsWide};
+ghost use Rattle.reader.specs.WidePromise.{ReadsWide};
 
-use crate::Kind;
 use crate::tree::answered;
-use nodes::answer::{NodeRead, node_refusal};
+use crate::{Kind, Limits};
 use sorting::wide::record_of;
-use tokens::Threshold;
+use trees::WideRecord;
 
-// What reading a tree on individuals answers: number and place, the offset just after the tree's `;`, and the tree's wide record.
+// What reading a tree on individuals answers, as the promise `ReadsWide` has it: number and place, the offset just after the tree's `;`, and the tree's wide record.
 #[derive(Clone, Copy)]
 pub struct WideReading {
     pub number: u32,
@@ -18,43 +15,29 @@ pub struct WideReading {
     pub numbers: [u32; 64],
 }
 
-// A refused call: the offset that was given, and zeros.
-fn refused(start: usize, number: u32, place: usize) -> WideReading
-    ensures { result ≡ wide_reading_of start (Answer·refused number place) }
-{
-    WideReading {
-        number: number,
-        place: place,
-        next: start,
-        numbers: [0u32; 64],
-    }
-}
-
 // The gene tree that begins at `start`, over the names of the individuals.
+// Beside `read` it keeps its own last step: the records differ in type and in length, and one function over both would take two closures.
 pub fn read_stand(individuals: &[u8], text: &[u8], start: usize) -> WideReading
     ensures { ReadsWide individuals.now text.now start result }
 {
     let mut found = [0u32; 64];
-    let read = answered(
-        Kind::Gene,
-        Threshold::NoThreshold,
-        individuals,
-        32,
-        text,
-        start,
-        31,
-        &mut found,
-    );
-    let NodeRead::Node { mask: _, next } = read else {
-        let fault = node_refusal(read);
-        return refused(start, fault.number, fault.place);
-    };
-    let sorted = record_of(&found, next.stored);
-    let numbers = sorted.numbers;
-    WideReading {
-        number: 0,
-        place: 0,
-        next: next.at,
-        numbers: numbers,
+    let limits = Limits { most: 32, room: 31 };
+    let kind = Kind::Gene;
+    match answered(limits, kind, None, individuals, text, start, &mut found) {
+        Ok(tree) => {
+            let WideRecord { numbers } = record_of(&found, tree.next.stored);
+            WideReading {
+                number: 0,
+                place: 0,
+                next: tree.next.at,
+                numbers,
+            }
+        }
+        Err(refusal) => WideReading {
+            number: refusal.fault.number(),
+            place: refusal.place,
+            next: start,
+            numbers: [0; 64],
+        },
     }
 }

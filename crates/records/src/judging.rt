@@ -13,15 +13,13 @@ pub(crate) fn valid(r: &[u32], breadth: usize, s: u32) -> bool
     requires s_bound { s < 2 ^ breadth }
     ensures { Decides result (ValidFor breadth s r.now) }
 {
-    if layout::formed(r, breadth) {
-        let m = r[0] as usize;
-        if presence::inside(r, m, s) {
-            if presence::complete(r, breadth, m, s) {
-                return nesting::nested(r, m);
-            }
-        }
+    if !layout::formed(r, breadth) {
+        return false;
     }
-    false
+    let clusters = &r[1..=r[0] as usize];
+    presence::inside(clusters, s)
+        && presence::complete(clusters, breadth, s)
+        && nesting::nested(clusters)
 }
 
 // Whether r is a valid record of a gene tree for n species: on its largest cluster, the last that it lists.
@@ -34,13 +32,12 @@ pub(crate) fn valid_gene(r: &[u32], breadth: usize, n: usize) -> bool
 {
     let all = clusters::whole(n);
     let m = r[0] as usize;
-    if m < 2 * breadth {
-        let s = r[m];
-        if 1 <= s {
-            if s <= all {
-                return valid(r, breadth, s);
-            }
-        }
+    if m >= 2 * breadth {
+        return false;
     }
-    false
+    let s = r[m];
+    if s < 1 || all < s {
+        return false;
+    }
+    valid(r, breadth, s)
 }

@@ -13,16 +13,16 @@ ghost use Rattle.trees.specs.Lists.{Among};
 ghost use Rattle.trees.specs.Records.{ValidOn, GeneValid, BinaryOn};
 ghost use Rattle.trees.specs.Unrooted.{may_unroot};
 
-// The same numbers, each with 32 bits.
-fn widened(r: &[u16]) -> [u32; 32]
+pub use presence::among;
+
+// The same numbers, each with 32 bits. `sums` asks for them too: there is one judgement, and one way to count, for both widths.
+pub fn widened(r: &[u16]) -> [u32; 32]
     requires { length r.now ≡ 32 }
     ensures { result ≡ r.now }
 {
     let mut wide = [0u32; 32];
-    let mut i = 0;
-    while i < 32 {
-        wide[i] = r[i] as u32;
-        i += 1;
+    for (i, x) in r.iter().enumerate() {
+        wide[i] = u32::from(*x);
     }
     wide
 }
@@ -33,8 +33,7 @@ pub fn valid(r: &[u16], s: u32) -> bool
     requires s_bound { s < 65536 }
     ensures { Decides result (ValidOn s r.now) }
 {
-    let wide = widened(r);
-    judging::valid(&wide, 16, s)
+    judging::valid(&widened(r), 16, s)
 }
 
 // Whether r is a valid record of a gene tree for n species. `writer` and `lineages` ask it of 32 numbers and at most 16 species.
@@ -43,24 +42,7 @@ pub fn valid_gene(r: &[u16], n: usize) -> bool
     requires n_bound { n ≤ 16 }
     ensures { Decides result (GeneValid n r.now) }
 {
-    let wide = widened(r);
-    judging::valid_gene(&wide, 16, n)
-}
-
-// Whether a is one of the m clusters. `sums` asks it too, of records that were checked.
-pub fn among(r: &[u16], m: usize, a: u32) -> bool
-    requires r_len { length r.now ≡ 32 }
-    requires m_bound { m ≤ 31 }
-    ensures { Decides result (Among a (take m (drop 1 r.now))) }
-{
-    let mut i = 1;
-    while i <= m {
-        if r[i] as u32 == a {
-            return true;
-        }
-        i += 1;
-    }
-    false
+    judging::valid_gene(&widened(r), 16, n)
 }
 
 // Whether r has as many clusters as a binary tree on s. `lineages` and `counts` ask it of 32 numbers.
@@ -68,7 +50,7 @@ pub fn binary(r: &[u16], s: u32) -> bool
     requires { length r.now ≡ 32 }
     ensures { Decides result (BinaryOn s r.now) }
 {
-    r[0] as u32 + 1 == 2 * clusters::size(s)
+    u32::from(r[0]) + 1 == 2 * clusters::size(s)
 }
 
 // Whether the tree of a valid gene record is complete, and binary save that the root may have three children. `lineages` asks it of records that it has judged.
@@ -77,6 +59,7 @@ pub fn unrootable(g: &[u16], n: usize) -> bool
     requires gene_valid { GeneValid n g.now }
     ensures { result ≡ may_unroot n g.now }
 {
+    let g = widened(g);
     let m = g[0] as usize;
     // a tree that lacks a species has too few clusters for either
     if m + 1 == 2 * n {
@@ -84,8 +67,8 @@ pub fn unrootable(g: &[u16], n: usize) -> bool
     }
     if m + 2 == 2 * n {
         // it is the root that has three children, unless two clusters part the species; then the largest but the whole set is one of them
-        let rest = clusters::whole(n) - g[m - 1] as u32;
-        return !among(g, m, rest);
+        let rest = clusters::whole(n) - g[m - 1];
+        return !among(&g[1..=m], rest);
     }
     false
 }

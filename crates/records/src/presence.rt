@@ -1,73 +1,43 @@
 // Which clusters a record lists: all lie within the whole set, and the whole set and each single species are there.
-ghost use Rattle.std.specs.Prelude.{◌≡◌, ℕ, ◌^◌, ◌<◌, ◌≤◌, length, take, drop};
+ghost use Rattle.std.specs.Prelude.{◌≡◌, ℕ, ◌^◌, ◌<◌, ◌≤◌};
 ghost use Rattle.clusters.specs.Sets.{Has, Within, single};
 ghost use Rattle.trees.specs.Decides.{Decides};
 ghost use Rattle.trees.specs.Lists.{Among};
 
-// Whether each of the m clusters has a species, and lies within s.
-pub(crate) fn inside(r: &[u32], m: usize, s: u32) -> bool
-    requires { m < length r.now }
-    ensures { Decides result ((a : ℕ) → Among a (take m (drop 1 r.now)) → (1 ≤ a) × Within a s) }
+// Whether each of the clusters has a species, and lies within s.
+pub(crate) fn inside(clusters: &[u32], s: u32) -> bool
+    ensures { Decides result ((a : ℕ) → Among a clusters.now → (1 ≤ a) × Within a s) }
 {
-    let mut i = 1;
-    while i <= m {
-        let a = r[i];
-        if a < 1 {
-            return false;
-        }
-        if clusters::within(a, s) {
-            i += 1;
-        } else {
-            return false;
-        }
-    }
-    true
+    clusters.iter().all(|a| 1 <= *a && clusters::within(*a, s))
 }
 
-// Whether a is one of the m clusters.
-fn among(r: &[u32], m: usize, a: u32) -> bool
-    requires { m < length r.now }
-    ensures { Decides result (Among a (take m (drop 1 r.now))) }
+// Whether a is one of the clusters. `sums` asks it too, of records that were checked.
+pub fn among(clusters: &[u32], a: u32) -> bool
+    ensures { Decides result (Among a clusters.now) }
 {
-    let mut i = 1;
-    while i <= m {
-        if r[i] == a {
-            return true;
-        }
-        i += 1;
-    }
-    false
+    clusters.contains(&a)
 }
 
-// Whether each species of s is, as a set of one, one of the m clusters.
-fn singles(r: &[u32], breadth: usize, m: usize, s: u32) -> bool
-    requires m_in_bounds { m < length r.now }
+// Whether each species of s is, as a set of one, one of the clusters.
+fn singles(clusters: &[u32], breadth: usize, s: u32) -> bool
     requires breadth_bound { breadth ≤ 32 }
     requires s_bound { s < 2 ^ breadth }
-    ensures { Decides result ((i : ℕ) → Has s i → Among (single i) (take m (drop 1 r.now))) }
+    ensures { Decides result ((i : ℕ) → Has s i → Among (single i) clusters.now) }
 {
-    let mut i = 0;
-    while i < breadth {
+    for i in 0..breadth {
         let one = clusters::single(i);
-        if clusters::within(one, s) {
-            if !among(r, m, one) {
-                return false;
-            }
+        if clusters::within(one, s) && !among(clusters, one) {
+            return false;
         }
-        i += 1;
     }
     true
 }
 
-// Whether s and each single species of it are among the m clusters.
-pub(crate) fn complete(r: &[u32], breadth: usize, m: usize, s: u32) -> bool
-    requires m_in_bounds { m < length r.now }
+// Whether s and each single species of it are among the clusters.
+pub(crate) fn complete(clusters: &[u32], breadth: usize, s: u32) -> bool
     requires breadth_bound { breadth ≤ 32 }
     requires s_bound { s < 2 ^ breadth }
-    ensures { Decides result (Among s (take m (drop 1 r.now)) × ((i : ℕ) → Has s i → Among (single i) (take m (drop 1 r.now)))) }
+    ensures { Decides result (Among s clusters.now × ((i : ℕ) → Has s i → Among (single i) clusters.now)) }
 {
-    if among(r, m, s) {
-        return singles(r, breadth, m, s);
-    }
-    false
+    among(clusters, s) && singles(clusters, breadth, s)
 }

@@ -6,6 +6,7 @@ ghost use Rattle.trees.specs.Records.{GeneValidFor};
 use crate::judging;
 
 // Whether r is a valid record of a gene tree for m individuals. The calls on a stand ask it of 64 numbers and at most 32 individuals.
+// A front of one line over the judgement of both breadths: a trait of both widths of numbers would be longer than both fronts.
 pub fn valid_gene(r: &[u32], m: usize) -> bool
     requires r_len { length r.now ≡ 64 }
     requires m_bound { m ≤ 32 }

@@ -1,24 +1,29 @@
 -- The input taken apart by offsets: its two first lines, and the part that holds the trees.
 use Prim.Native.Nat.{ℕ, ◌+◌, ◌-◌, ◌≤◌}
 use mathlib.Core.Path.{◌≡◌, sym, ap, ◌∙◌}
-use mathlib.Core.Bool.{Bool, true, false}
+use mathlib.Core.Bool.{Bool, true, false, not}
 use mathlib.Core.List.{List}
 use native.Mathlib.Omega.{arith}
 use lib.ListN.{length, take, drop, length-drop}
 use lib.Seq.{take_all}
+use lib.Dec.{eqb}
+use Rattle.labels.proofs.Runs.{run-within}
 use borrow.Author.Tests.{le-leb, lt-leb}
 use Rattle.roster.specs.Roster.{names}
 use Rattle.printing.specs.declared.Report.{Report}
 use Rattle.gather.specs.GeneTrees.{gather}
 use Rattle.weights.specs.declared.Rooting.{Rooting}
 use Rattle.report.specs.Input.{line_length, first_line, behind_line, ends_in_feed, mode_place, trees_place}
-use Rattle.report.specs.Program.{mode_of, on_mode, on_species}
-use Rattle.report.specs.declared.modes.Mode.{Mode}
-use Rattle.report.specs.declared.modes.Mode.TheVariants.{Another, Over}
+use Rattle.report.specs.Program.{Mode, mode_of, on_mode, on_species}
+use Rattle.std.proofs.Common.{Option, Some, None}
 use Rattle.outcomes.specs.Outcome.{on_trees}
 use Rattle.outcomes.specs.Outcome.Outcome.{refused}
 use Rattle.outcomes.specs.Work.{told}
-use Rattle.report.proofs.Bytewise.{line-within}
+
+-- a line lies within its text
+pub line-within : (s : List ℕ) → line_length s ≤ length s
+unfolding line_length
+line-within s = run-within (λ b. not (eqb b 10)) s
 
 -- what is lent from a place on
 abbrev pub from : ℕ → List ℕ → List ℕ
@@ -75,7 +80,7 @@ module _ (input : List ℕ) {end : ℕ} (first : end ≡ line_length input) wher
       unfolding first_line
       second_word = rw (← second-line, ← behind_first)
 
-      judged : {mode : Mode} → mode ≡ mode_of (take size (from (end + 1) input)) → on_species true input ≡ on_mode mode input
+      judged : {mode : Option Mode} → mode ≡ mode_of (take size (from (end + 1) input)) → on_species true input ≡ on_mode mode input
       judged is =
           let there : ends_in_feed (behind_line input) ≡ true = feed_there (behind_line input) second-line (λ h. feed (h ∙ ap length (sym behind_first))) in
           rw (feed_there input first more, there, second_word, ← is)
@@ -90,7 +95,7 @@ module _ (input : List ℕ) {end : ℕ} (first : end ≡ line_length input) wher
 
       -- the report of what the trees give in a mode
       pub trees-mode :
-          {n : ℕ} (all : Bool) (rooting : Rooting) → n ≡ length (names (first_line input)) → {r : Report} → Over all rooting
+          {n : ℕ} (all : Bool) (rooting : Rooting) → n ≡ length (names (first_line input)) → {r : Report} → Some (all, rooting)
           ≡ mode_of (take size (from (end + 1) input))
           → r
           ≡ told (names (take end input))
@@ -100,6 +105,6 @@ module _ (input : List ℕ) {end : ℕ} (first : end ≡ line_length input) wher
       trees-mode all rooting named is e = e ∙ rw (judged is, first_line_lem, trees-part, trees-place, named)
 
       -- "Another mode word gives 3 at its first byte"
-      pub other_mode : Another ≡ mode_of (take size (from (end + 1) input)) → refused 3 (end + 1) ≡ on_species true input
+      pub other_mode : None ≡ mode_of (take size (from (end + 1) input)) → refused 3 (end + 1) ≡ on_species true input
       unfolding mode_place
       other_mode is = rw (judged is, first)

@@ -1,5 +1,5 @@
 -- The mathematics behind the proofs of this crate, and the laws that other crates cite.
-pub mod Bytewise
+pub mod Comparing
 pub mod InputParts
 pub mod Checks
 pub mod Outcomes

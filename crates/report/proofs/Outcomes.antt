@@ -13,9 +13,8 @@ use Rattle.reader.specs.Promise.{text_most}
 use Rattle.printing.specs.Texts.{report_bytes}
 use Rattle.printing.specs.declared.Report.{Report}
 use Rattle.report.specs.Input.{first_line, behind_line, ends_in_feed, trees_place}
-use Rattle.report.specs.declared.modes.Mode.{Mode}
-use Rattle.report.specs.declared.modes.Mode.TheVariants.{Another, Over}
-use Rattle.report.specs.Program.{mode_of, on_mode, on_feeds, on_species, on_roster, on_text, program}
+use Rattle.std.proofs.Common.{Option, Some, None}
+use Rattle.report.specs.Program.{Mode, mode_of, on_mode, on_feeds, on_species, on_roster, on_text, program}
 use Rattle.outcomes.specs.Outcome.{Outcome, program_most, printed}
 use Rattle.outcomes.specs.Outcome.Outcome.{refused, solved}
 use Rattle.outcomes.proofs.NeverNine.{other_number, trees-never-nine}
@@ -62,9 +61,9 @@ program-never-nine input {number} {place} = sized (leb (length input) text_most)
     NeverNine : Outcome → Type 0
     NeverNine outcome = outcome ≡ refused number place → number ≡ 9 → ⊥
 
-    moded : (mode : Mode) → NeverNine (on_mode mode input)
-    moded Another e = other_number (λ k. omega arith) e
-    moded (Over all rooting) e =
+    moded : (mode : Option Mode) → NeverNine (on_mode mode input)
+    moded None e = other_number (λ k. omega arith) e
+    moded (Some (all, rooting)) e =
         trees-never-nine (first_line input) (drop (trees_place input) input) (trees_place input) all rooting (length (names (first_line input))) e
 
     fed : (first second : Bool) → NeverNine (on_feeds first second input)

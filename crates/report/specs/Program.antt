@@ -1,33 +1,36 @@
 -- The program as a function from its input to what it finds (01, "The program").
-use Rattle.std.specs.Prelude.{ℕ, Bool, true, false, List, length, drop, leb}
+use Rattle.std.specs.Prelude.{ℕ, Bool, true, false, List, length, drop, leb, Option, Some, None}
 use Rattle.roster.specs.Roster.{names, faulty, first_fault, same}
 use Rattle.roster.specs.Judged.{species_most}
 use Rattle.reader.specs.Promise.{text_most}
+use Rattle.weights.specs.declared.Rooting.{Rooting}
 use Rattle.weights.specs.declared.Rooting.TheVariants.{Rooted, Unrooted}
 use Rattle.gather.specs.GeneTrees.{gather}
 use Rattle.outcomes.specs.Outcome.{Outcome, program_most, on_trees}
 use Rattle.outcomes.specs.Outcome.Outcome.{refused}
 use Rattle.report.specs.Input.{first_line, behind_line, ends_in_feed, mode_place, trees_place, mode_word}
-use Rattle.report.specs.declared.modes.Mode.{Mode}
-use Rattle.report.specs.declared.modes.Mode.TheVariants.{Another, Over}
+
+-- what "a line that is exactly `all` or `genes`" asks for, and one that ends in `unrooted` (#106): whether every cluster is allowed, and how the gene trees are counted
+abbrev pub Mode : Type 0
+Mode = Bool × Rooting
 
 -- the mode of a line, by the words that it may be: "a line that is exactly `all` or `genes`"; "The mode line may read `all unrooted` or `genes unrooted`" (#106)
-abbrev pub mode_by : Bool → Bool → Bool → Bool → Mode
-mode_by true genes all_unrooted genes_unrooted = Over true Rooted
-mode_by false true all_unrooted genes_unrooted = Over false Rooted
-mode_by false false true genes_unrooted = Over true Unrooted
-mode_by false false false true = Over false Unrooted
-mode_by false false false false = Another
+abbrev pub mode_by : Bool → Bool → Bool → Bool → Option Mode
+mode_by true genes all_unrooted genes_unrooted = Some (true, Rooted)
+mode_by false true all_unrooted genes_unrooted = Some (false, Rooted)
+mode_by false false true genes_unrooted = Some (true, Unrooted)
+mode_by false false false true = Some (false, Unrooted)
+mode_by false false false false = None
 
 -- the mode that a line asks for
-unfoldable pub mode_of : List ℕ → Mode
+unfoldable pub mode_of : List ℕ → Option Mode
 mode_of line =
     mode_by (same line (mode_word true Rooted)) (same line (mode_word false Rooted)) (same line (mode_word true Unrooted)) (same line (mode_word false Unrooted))
 
 -- "Another mode word gives 3 at its first byte"
-abbrev pub on_mode : Mode → List ℕ → Outcome
-on_mode Another input = refused 3 (mode_place input)
-on_mode (Over all rooting) input =
+abbrev pub on_mode : Option Mode → List ℕ → Outcome
+on_mode None input = refused 3 (mode_place input)
+on_mode (Some (all, rooting)) input =
     on_trees (gather (first_line input) (drop (trees_place input) input)) (first_line input) (drop (trees_place input) input) (trees_place input) all rooting
     (length (names (first_line input)))
 

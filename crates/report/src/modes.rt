@@ -2,31 +2,24 @@
 ghost use Rattle.std.specs.Prelude.{◌≡◌};
 ghost use Rattle.report.specs.Program.{mode_of};
 
-use crate::lines::is_word;
 use weights::Rooting;
 
-// Another word; or a search over all clusters or over those that the gene trees show, and how these are counted.
-#[derive(Clone, Copy)]
-pub enum Mode {
-    Another,
-    Over(bool, Rooting),
-}
-
-// The mode that a line asks for.
-pub fn mode_of(word: &[u8]) -> Mode
+// What the mode of a line asks for, where it has one: whether every cluster is allowed or those that the gene trees show, and how these are counted.
+pub fn mode_of(word: &[u8]) -> Option<(bool, Rooting)>
     ensures { result ≡ mode_of word.now }
 {
-    if is_word(word, b"all") {
-        return Mode::Over(true, Rooting::Rooted);
+    // No `match`: it goes byte by byte through the four words, with a goal for each byte.
+    if word == b"all".as_slice() {
+        return Some((true, Rooting::Rooted));
     }
-    if is_word(word, b"genes") {
-        return Mode::Over(false, Rooting::Rooted);
+    if word == b"genes".as_slice() {
+        return Some((false, Rooting::Rooted));
     }
-    if is_word(word, b"all unrooted") {
-        return Mode::Over(true, Rooting::Unrooted);
+    if word == b"all unrooted".as_slice() {
+        return Some((true, Rooting::Unrooted));
     }
-    if is_word(word, b"genes unrooted") {
-        return Mode::Over(false, Rooting::Unrooted);
+    if word == b"genes unrooted".as_slice() {
+        return Some((false, Rooting::Unrooted));
     }
-    Mode::Another
+    None
 }

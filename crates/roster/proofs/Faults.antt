@@ -4,7 +4,9 @@ use native.Mathlib.Omega.{arith}
 use mathlib.Core.Path.{◌≡◌}
 use mathlib.Core.Bool.{true, false}
 use mathlib.Core.List.{List}
-use lib.ListN.{length, replicate}
+use lib.ListN.{length}
+use Rattle.std.specs.Prelude.{Ok, Err}
+use Rattle.faults.specs.declared.Fault.TheVariants.{FaultyRoster}
 use borrow.Author.Tests.{le-leb, lt-leb, leb-true, leb-false}
 use Rattle.roster.specs.Roster.{fault_at, first_fault, faulty, names}
 use Rattle.roster.specs.Table.{table}
@@ -43,14 +45,14 @@ module _ (most : ℕ) (line : List ℕ) where
 
   -- the roster where the first fault stands at p
   pub faulty_roster : (p : ℕ) → p ≤ length line → fault_at most line p ≡ true → Clean p
-      → record { number = 1; place = p; count = 0; table = replicate 512 0 } ≡ roster_of most line
+      → Err (record { fault = FaultyRoster; place = p }) ≡ roster_of most line
   unfolding roster_of faulty
   faulty_roster p l e clean =
       let at = fault_first p l e clean in
       rw (le-leb (first_fault most line) (length line) (rw at l), at)
 
   -- the roster where none does
-  pub roster_good : Clean (suc (length line)) → record { number = 0; place = 0; count = length (names line); table = table (names line) } ≡ roster_of most line
+  pub roster_good : Clean (suc (length line)) → Ok (record { count = length (names line); table = table (names line) }) ≡ roster_of most line
   unfolding roster_of faulty first_fault
   roster_good clean =
       let none = least_none (fault_at most line) (suc (length line)) 0 (λ q z l. clean q (omega arith)) in

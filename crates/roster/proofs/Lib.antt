@@ -15,4 +15,5 @@ pub mod Beyond
 pub mod Turns
 pub mod Names
 pub mod Judging
+pub mod Refusals
 pub mod OfLetters

@@ -51,7 +51,7 @@ module _ (most : ℕ) (line : List ℕ) (good : faulty most line ≡ false) wher
     where
       by : Starts line p → Kind (drop p line) → (n : ℕ) × (told (drop p line) ≡ ended n) × (0 < length (letters (drop p line))) × (length (letters (drop p line)) ≤ 15)
       by st (whole n says some short spans) = (n, says, some, short)
-      by st (broken number d says stops) =
+      by st (broken fault d says stops) =
           let w = stops.within in
           let here = st.here in
           let left = length-drop p line in

@@ -12,6 +12,7 @@ use lib.Dec.{eqb, leb, ltb}
 use borrow.Author.Tests.{ne_eqb, eq-eqb, lt-ltb, le-ltb, le-leb, leb-true, ltb-true, eqb-true, lt-leb}
 use Rattle.labels.specs.Bytes.{is_name, is_bare, is_label, run}
 use Rattle.labels.specs.Base.{Unmarked}
+use Rattle.faults.specs.declared.Fault.TheVariants.{LongWord}
 use Rattle.labels.specs.Labels.{raw_to, told}
 use Rattle.labels.specs.Labels.Told.{ended, faulty as at_fault}
 use Rattle.labels.proofs.Runs.{run-byte}
@@ -110,7 +111,7 @@ module _ (line : List ℕ) (a : Bytes line) where
   ends_short : (q : ℕ) → length (name_at line q) ≤ 15 → told (drop q line) ≡ ended (run is_name (drop q line))
   ends_short q h = unquoted_told (drop q line) (left q) ∙ rw (le-leb (run is_name (drop q line)) 15 (rw (length_same q) at h)) refl
 
-  fails_long : (q : ℕ) → 15 < length (name_at line q) → told (drop q line) ≡ at_fault 4 15
+  fails_long : (q : ℕ) → 15 < length (name_at line q) → told (drop q line) ≡ at_fault LongWord 15
   fails_long q h = unquoted_told (drop q line) (left q) ∙ rw (lt-leb (run is_name (drop q line)) 15 (rw (length_same q) at h)) refl
 
   long_at_lem : (q : ℕ) → begins line q ≡ true → 15 < length (name_at line q) → long_at line (q + 15) ≡ true
@@ -241,7 +242,7 @@ module _ (line : List ℕ) (a : Bytes line) where
 
         by : Dec (length (name_at line p) ≤ 15) → again_at line p ≡ base_again_at line p
         by (yes short) = rw (ends_short p short, and-true) (sym base_again)
-        by (no n) = faulty_no_again line p 4 15 (fails_long p (omega arith)) ∙ sym (base_again ∙ none (begins line p) refl (omega arith))
+        by (no n) = faulty_no_again line p LongWord 15 (fails_long p (omega arith)) ∙ sym (base_again ∙ none (begins line p) refl (omega arith))
 
     fault_same : fault_at most line p ≡ base_fault_at most line p
     unfolding fault_at base_fault_at

@@ -8,6 +8,7 @@ use lib.ListN.{length, drop}
 use lib.Dec.{eqb, ltb}
 use borrow.Author.Tests.{eq-eqb, ne_eqb, lt-ltb, le-ltb, not-true, eqb-true}
 use Rattle.labels.specs.Bytes.{is_bare, is_printable, is_label}
+use Rattle.faults.specs.declared.Fault.{Fault}
 use Rattle.labels.specs.Labels.{Told, told}
 use Rattle.labels.specs.Labels.Told.{ended, faulty as at_fault}
 use Rattle.labels.proofs.ByteKinds.{bare-printable, bare_no_quote, passes_other}
@@ -186,9 +187,9 @@ module _ (line : List ℕ) (p : ℕ) where
   unfolding again_at names_to
   new_here h = rw (le-ltb (position (name_at line p) (names_to line p)) (length (beginnings line p)) h) (and-false (begins line p && ends_by (told (drop p line))))
 
-  pub faulty_no_again : (number d : ℕ) → told (drop p line) ≡ at_fault number d → again_at line p ≡ false
+  pub faulty_no_again : (fault : Fault) (d : ℕ) → told (drop p line) ≡ at_fault fault d → again_at line p ≡ false
   unfolding again_at
-  faulty_no_again number d e =
+  faulty_no_again fault d e =
       let known = ltb (position (name_at line p) (map (name_at line) (beginnings line p))) (length (beginnings line p)) in
       ap (λ (t : Told). begins line p && ends_by t && known) e ∙ ap (λ (t : Bool). t && known) (and-false (begins line p))
 

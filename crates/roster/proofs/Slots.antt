@@ -1,67 +1,47 @@
--- The table's sixteens: one of them read and compared byte by byte, and the list of them read one by one.
-use Prim.Native.Nat.{ℕ, suc, ◌+◌, ◌-◌, ◌*◌, ◌≤◌, ◌<◌}
+-- The sixteens of the table: how long a name is in one of them, and where a name stands among them.
+use Prim.Native.Nat.{ℕ, zero, suc, ◌+◌, ◌-◌, ◌*◌, ◌≤◌, ◌<◌, zero-le}
+use native.Mathlib.Nat.{le_refl, sub-zero, zero-add}
+use Rattle.std.specs.Prelude.{Option, None, Some}
+use Rattle.std.specs.Option.{MatchOption, is_some}
 use native.Mathlib.Omega.{arith}
 use native.Mathlib.Numerals.{add-one}
-use mathlib.Core.Path.{◌≡◌, sym, ◌∙◌}
-use mathlib.Core.Bool.{true, false}
-use mathlib.Core.List.{List}
-use lib.ListN.{length, get_or, take, drop, length-drop, drop_of_length-le}
-use lib.Seq.{drop-cons, get_or-drop, get_or-take, length-take-le}
+use mathlib.Core.Path.{◌≡◌, refl, sym, ◌∙◌}
+use mathlib.Core.Bool.{true, false, false≢true}
+use mathlib.Core.List.{List, [], ◌∷◌}
+use lib.ListN.{length, drop, length-drop}
+use lib.Dec.{eqb}
+use lib.Pointwise.{pointwise}
+use lib.Seq.{length-take-le}
 use borrow.Author.Tests.{eq-eqb, ne_eqb}
 use Rattle.labels.specs.Bytes.{run}
-use Rattle.labels.proofs.Runs.{run_on, run-off, run_end}
 use Rattle.trees.specs.Lists.{pieces}
 use Rattle.trees.proofs.EqualPieces.{pieces_next}
 use Rattle.roster.specs.Roster.{same, position}
-use Rattle.roster.specs.Table.{slots, non_zero}
+use Rattle.roster.specs.Table.{slots, slot, non_zero, Sought}
 
--- the i-th sixteen
-abbrev pub slot : List ℕ → ℕ → List ℕ
-slot table i = take 16 (drop (16 * i) table)
+-- the library's comparison of two lists
+pointwise-same : (k l : List ℕ) → pointwise eqb k l ≡ same k l
+unfolding same
+pointwise-same [] [] = refl
+pointwise-same [] (y ∷ l) = refl
+pointwise-same (x ∷ k) [] = refl
+pointwise-same (x ∷ k) (y ∷ l) = rw (pointwise-same k l)
+
+-- how many bytes stand before the first 0
+pub run_none : run non_zero [] ≡ 0
+unfolding run
+run_none = refl
+
+pub run_zero : (b : ℕ) (l : List ℕ) → b ≡ 0 → run non_zero (b ∷ l) ≡ 0
+unfolding run
+run_zero b l e = rw (eq-eqb b 0 e)
+
+pub run_more : (b : ℕ) (l : List ℕ) → (b ≡ 0 → ⊥) → run non_zero (b ∷ l) ≡ run non_zero l + 1
+unfolding run
+run_more b l n = rw (ne_eqb b 0 n) (omega arith)
 
 pub slot-length : (table : List ℕ) (i : ℕ) → 16 * i + 16 ≤ length table → length (slot table i) ≡ 16
 slot-length table i h = length-take-le 16 (drop (16 * i) table) (simp length-drop (omega arith))
-
-pub slot-byte : (table : List ℕ) (i k : ℕ) → k < 16 → get_or (slot table i) k 0 ≡ get_or table (16 * i + k) 0
-slot-byte table i k h = get_or-take 16 (drop (16 * i) table) k 0 h ∙ get_or-drop (16 * i) table k 0
-
-module _ (table : List ℕ) (i k : ℕ) (fits : 16 * i + 16 ≤ length table) (h : k < 16) where
-  -- k is within the i-th sixteen
-  pub within-slot : k < length (slot table i)
-  within-slot = let e = slot-length table i fits in omega arith
-
-  -- a byte that is not 0 goes on the name that stands there, and a 0 ends it
-  pub name_on : (get_or table (16 * i + k) 0 ≡ 0 → ⊥) → run non_zero (drop k (slot table i)) ≡ suc (run non_zero (drop (k + 1) (slot table i)))
-  name_on n = run_on non_zero (slot table i) k within-slot (rw (slot-byte table i k h, ne_eqb (get_or table (16 * i + k) 0) 0 n))
-
-  pub name-off : get_or table (16 * i + k) 0 ≡ 0 → run non_zero (drop k (slot table i)) ≡ 0
-  name-off e = run-off non_zero (slot table i) k within-slot (rw (slot-byte table i k h, eq-eqb (get_or table (16 * i + k) 0) 0 e))
-
-  module _ (name : List ℕ) (sixteen : length name ≡ 16) where
-    -- equal bytes: the name stands there where the rest does; different bytes: it does not
-    pub same_on : get_or table (16 * i + k) 0 ≡ get_or name k 0 → same (drop k name) (drop k (slot table i)) ≡ same (drop (k + 1) name) (drop (k + 1) (slot table i))
-    unfolding same
-    same_on e =
-        let l : k < length name = omega arith in
-        rw (add-one, drop-cons name k 0 l, drop-cons (slot table i) k 0 within-slot, slot-byte table i k h, eq-eqb (get_or name k 0) (get_or table (16 * i + k) 0) (sym e))
-
-    pub same_off : (get_or table (16 * i + k) 0 ≡ get_or name k 0 → ⊥) → same (drop k name) (drop k (slot table i)) ≡ false
-    unfolding same
-    same_off n =
-        let l : k < length name = omega arith in
-        rw (drop-cons name k 0 l, drop-cons (slot table i) k 0 within-slot, slot-byte table i k h, ne_eqb (get_or name k 0) (get_or table (16 * i + k) 0) (λ e. n (sym e)))
-
-module _ (table : List ℕ) (i k : ℕ) (fits : 16 * i + 16 ≤ length table) (all : 16 ≤ k) where
-  -- no byte of the sixteen is left
-  beyond-slot : length (slot table i) ≤ k
-  beyond-slot = let e = slot-length table i fits in omega arith
-
-  pub name_end : run non_zero (drop k (slot table i)) ≡ 0
-  name_end = run_end non_zero (slot table i) k beyond-slot
-
-  pub same_end : (name : List ℕ) → length name ≡ 16 → same (drop k name) (drop k (slot table i)) ≡ true
-  unfolding same
-  same_end name sixteen = let l : length name ≤ k = omega arith in rw (drop_of_length-le name l, drop_of_length-le (slot table i) beyond-slot)
 
 module _ (w table : List ℕ) (count i : ℕ) (h : i < count) where
   -- the i-th sixteen is the word
@@ -80,3 +60,37 @@ module _ (w table : List ℕ) (count i : ℕ) (h : i < count) where
 pub position_end : (w table : List ℕ) (count i : ℕ) → count ≤ i → position w (slots (count - i) table) ≡ 0
 unfolding position pieces
 position_end w table count i h = let n : count - i ≡ 0 = omega arith in rw n
+
+-- the first i sixteens are not the word: it stands i further than it does among those behind them
+position_past :
+    (w table : List ℕ) (count i : ℕ) → i ≤ count → ((k : ℕ) → k < i → pointwise eqb w (slot table k) ≡ false)
+    → position w (slots count table) ≡ i + position w (slots (count - i) (drop (16 * i) table))
+position_past w table count zero h none = simp (sub-zero, zero-add)
+position_past w table count (suc i) h none =
+    let before = position_past w table count i (omega arith) (λ k l. none k (omega arith)) in
+    let on = position_on w table count i (omega arith) (sym (pointwise-same w (slot table i)) ∙ none i (omega arith)) in
+    rw (← add-one i) (omega arith)
+
+-- what the first sixteen that is the word says of where the word stands
+pub sought_first :
+    (w table : List ℕ) (count : ℕ) (r : Option ℕ)
+    → MatchOption r ((k : ℕ) → 0 ≤ k → k < count → pointwise eqb w (slot table k) ≡ false)
+    (λ i. (0 ≤ i) × (i < count) × (pointwise eqb w (slot table i) ≡ true) × ((k : ℕ) → 0 ≤ k → k < i → pointwise eqb w (slot table k) ≡ false))
+    → Sought count (position w (slots count table)) r
+sought_first w table count None none =
+    let past = position_past w table count count (le_refl count) (λ k l. none k zero-le l) in
+    let end = position_end w (drop (16 * count) table) count count (le_refl count) in
+    omega arith
+sought_first w table count (Some i) found =
+    let past = position_past w table count i (omega arith) (λ k l. found.3 k zero-le l) in
+    let here = position_here w table count i found.1 (sym (pointwise-same w (slot table i)) ∙ found.2) in
+    (omega arith, found.1)
+
+-- the name was found, so it is one of so many
+pub known : (count p : ℕ) (r : Option ℕ) → Sought count p r → is_some r ≡ true → p < count
+known count p None s e = absurd (false≢true e)
+known count p (Some i) s e = omega arith
+
+pub unknown : (count p : ℕ) (r : Option ℕ) → Sought count p r → is_some r ≡ false → count ≤ p
+unknown count p None s e = omega arith
+unknown count p (Some i) s e = absurd (false≢true (sym e))

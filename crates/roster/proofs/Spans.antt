@@ -12,6 +12,8 @@ use lib.Dec.{eqb, ltb}
 use borrow.Author.Tests.{eq-eqb, lt-ltb, eqb-true, ltb-true}
 use Rattle.labels.specs.Bytes.{is_bare, is_printable, is_plain, one_more, run, next_is}
 use Rattle.labels.specs.Labels.{letters_from, twice_by, doubled, letters, raw_to, closing, closed_by, told}
+use Rattle.faults.specs.declared.Fault.{Fault}
+use Rattle.faults.specs.declared.Fault.TheVariants.{LongWord, StrayByte, TextEnds}
 use Rattle.labels.specs.Labels.Told.{ended, faulty as at_fault}
 use Rattle.labels.proofs.Letters.{Front, front, over_plain, over_single}
 use Rattle.labels.proofs.Letters.Front.{plainly, twice}
@@ -165,7 +167,7 @@ pub record Stops (s : List ℕ) (d : ℕ) : Type 0 where
 -- what a label is: it ends, or it has a fault
 pub data Kind (s : List ℕ) : Type 0 where
   whole : (n : ℕ) → told s ≡ ended n → 0 < length (letters s) → length (letters s) ≤ 15 → Spans s n → Kind s
-  broken : (number d : ℕ) → told s ≡ at_fault number d → Stops s d → Kind s
+  broken : (fault : Fault) (d : ℕ) → told s ≡ at_fault fault d → Stops s d → Kind s
 
 -- bytes that are fine begin no label, so no long name but the first has its sixteenth letter there
 fine_begins : (s : List ℕ) (d j : ℕ) → ((i : ℕ) → 0 < i → i < d → Fine s i) → j ≤ d → (i : ℕ) → 0 < i → i < j → begins s i ≡ false
@@ -246,7 +248,7 @@ module _ (s : List ℕ) (bare : next_is 39 s ≡ false) (some : 0 < run is_bare 
       let many = bare-length s bare in
       let within = run-within is_bare s in
       let raw = bare-raw in
-      broken 4 15 (told-long s (omega arith) ∙ ap (at_fault 4) raw) (record {
+      broken LongWord 15 (told-long s (omega arith) ∙ ap (at_fault LongWord) raw) (record {
         some = omega arith;
         within = omega arith;
         fine = λ j h l. bare-fine j h (omega arith);
@@ -278,7 +280,7 @@ module _ (r : List ℕ) where
       let passed = inside-letters s (take 15 (letters s)) (drop 15 (letters s)) 1 (sym (take-append-drop 15 (letters s) ∙ quoted-letters)) (inside-begun r) in
       let raw : 1 + length (doubled (take 15 (letters s))) ≡ raw_to 15 s = let e = quoted-raw in omega arith in
       let so : Inside s (raw_to 15 s) = rw raw at passed.0 in
-      broken 4 (raw_to 15 s) (told-long s long) (record {
+      broken LongWord (raw_to 15 s) (told-long s long) (record {
         some = so.some;
         within = so.within;
         fine = so.fine;
@@ -292,9 +294,9 @@ module _ (r : List ℕ) where
     no_long_here j h = no_long s j (fine_begins s k j so.fine h) (λ long e. absurd (omega arith))
 
     -- at fault at k
-    stops : (number : ℕ) → told s ≡ at_fault number k → Own s k → Kind s
-    stops number says own =
-        broken number k says (record { some = so.some; within = so.within; fine = so.fine; early = λ j l. no_long_here j (omega arith); own = own })
+    stops : (fault : Fault) → told s ≡ at_fault fault k → Own s k → Kind s
+    stops fault says own =
+        broken fault k says (record { some = so.some; within = so.within; fine = so.fine; early = λ j l. no_long_here j (omega arith); own = own })
 
     -- a quote stands there, and no other behind it
     closes : (t : List ℕ) → drop k s ≡ 39 ∷ t → next_is 39 t ≡ false → told s ≡ ended (suc k) → 0 < length (letters s) → closes_nothing s k ≡ false → Kind s
@@ -336,7 +338,7 @@ module _ (r : List ℕ) where
         by [] e says =
             let one : gone ≡ 1 = ap (λ (v : List ℕ). suc (length (doubled v))) e in
             let closing = subst (λ (k : ℕ). closes_nothing s k ≡ true) (sym one) (closes-nothing t (rw one at head) single) in
-            stops gone so few 3 says (strays (stray-closing s gone (head-within s gone 39 t head) so.odd closing))
+            stops gone so few StrayByte says (strays (stray-closing s gone (head-within s gone 39 t head) so.odd closing))
         by (b ∷ v) e says =
             let long = ap (length {A = ℕ}) e in
             let raw = doubled-long w in
@@ -349,7 +351,7 @@ module _ (r : List ℕ) where
         let none = ap (length {A = ℕ}) rest in
         let within = so.within in
         let end : gone ≡ length s = omega arith in
-        stops gone so few 10 says (opens (open_quoted s gone end (ap in_quotes (sym (take_all gone s (omega arith))) ∙ so.odd)))
+        stops gone so few TextEnds says (opens (open_quoted s gone end (ap in_quotes (sym (take_all gone s (omega arith))) ∙ so.odd)))
     by_rest (b ∷ t) so rest over says = by (eqb b 39) refl says
       where
         by : (quote : Bool) → eqb b 39 ≡ quote → told s ≡ closed_by quote (length w) gone → Kind s
@@ -358,7 +360,7 @@ module _ (r : List ℕ) where
             by_quote t so (rw same at rest) (over_single t (rw same at over)) says
         by false e says =
             let byte = head_byte s gone b t rest in
-            stops gone so few 3 says (strays (stray-within s gone (head-within s gone b t rest) so.odd
+            stops gone so few StrayByte says (strays (stray-within s gone (head-within s gone b t rest) so.odd
             (ap is_printable byte ∙ unprintable b (over_plain b t over) e)))
 
   quoted-kind : Dec (length (letters s) ≤ 15) → Kind s
@@ -388,13 +390,8 @@ kind (b ∷ s) first = by (eqb b 39) refl
 -- by what is told of it
 pub spanned : (s : List ℕ) (n : ℕ) → told s ≡ ended n → Kind s → Spans s n
 spanned s n e (whole m f some short spans) = let same : m ≡ n = cc in rw same at spans
-spanned s n e (broken number d f stops) = let z : ◌≡◌ {A = ℕ} 0 1 = cc in absurd (omega arith)
+spanned s n e (broken fault d f stops) = absurd (cc)
 
-pub stopped : (s : List ℕ) (number d : ℕ) → told s ≡ at_fault number d → Kind s → Stops s d
-stopped s number d e (whole n f some short spans) = let z : ◌≡◌ {A = ℕ} 0 1 = cc in absurd (omega arith)
-stopped s number d e (broken m c f stops) = let same : c ≡ d = cc in rw same at stops
-
--- a label that ends has letters
-pub ended_some : (s : List ℕ) (n : ℕ) → told s ≡ ended n → Kind s → 0 < length (letters s)
-ended_some s n e (whole m f some short spans) = some
-ended_some s n e (broken number d f stops) = let z : ◌≡◌ {A = ℕ} 0 1 = cc in absurd (omega arith)
+pub stopped : (s : List ℕ) (fault : Fault) (d : ℕ) → told s ≡ at_fault fault d → Kind s → Stops s d
+stopped s fault d e (whole n f some short spans) = absurd (cc)
+stopped s fault d e (broken m c f stops) = let same : c ≡ d = cc in rw same at stops

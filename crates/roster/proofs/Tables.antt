@@ -11,10 +11,9 @@ use Rattle.labels.specs.Bytes.{run}
 use Rattle.labels.specs.Labels.{padded}
 use Rattle.trees.specs.Lists.{pieces}
 use Rattle.trees.proofs.EqualPieces.{piece_at}
-use Rattle.roster.specs.Table.{packed, table, slots, non_zero}
+use Rattle.roster.specs.Table.{packed, table, slots, slot, non_zero}
 use Rattle.roster.proofs.Each.{Each, each_at, each_still}
 use Rattle.roster.proofs.Padding.{Fitting, Bare, padded-length}
-use Rattle.roster.proofs.Slots.{slot}
 
 -- short enough for sixteen bytes
 abbrev pub Short : List ℕ → Type 0

@@ -10,6 +10,9 @@ use mathlib.Core.List.{List, [], ◌∷◌, ◌++◌}
 use lib.ListN.{length, get_or, drop, replicate, length-append, length-drop, length-replicate}
 use lib.Seq.{get_or-drop, take_all, drop-cons, paste, length-paste}
 use lib.Dec.{eqb}
+use Rattle.std.specs.Prelude.{Ok, Err}
+use Rattle.faults.specs.declared.Fault.{Fault}
+use Rattle.faults.specs.declared.Fault.TheVariants.{FaultyRoster}
 use Rattle.labels.specs.Bytes.{is_label}
 use Rattle.labels.specs.Labels.{padded}
 use Rattle.labels.proofs.Scans.{Ends, Fails}
@@ -65,7 +68,7 @@ pub record Starts (line : List ℕ) (at : ℕ) : Type 0 where
 
 -- what a faulty roster is
 abbrev pub FaultyAt : ℕ → List ℕ → ℕ → Type 0
-FaultyAt most line p = record { number = 1; place = p; count = 0; table = replicate 512 0 } ≡ roster_of most line
+FaultyAt most line p = Err (record { fault = FaultyRoster; place = p }) ≡ roster_of most line
 
 -- names that are short enough wherever their labels begin before `at`
 abbrev pub ShortTo : List ℕ → ℕ → Type 0
@@ -154,28 +157,31 @@ module _ (most : ℕ) (line held : List ℕ) (count at : ℕ) (b : Begun most li
       few m = fewer (sym begun-count ∙ m)
 
       -- a label at fault is not compared
-      pub at_fault_lem : (number place : ℕ) → Fails line at number place → FaultyAt most line place
-      at_fault_lem number place f =
+      pub at_fault_lem : (fault : Fault) (place : ℕ) → Fails line at fault place → FaultyAt most line place
+      at_fault_lem fault place f =
           let s = drop at line in
-          let stops = stopped s number f.d f.says (label-kind line at n) in
+          let stops = stopped s fault f.d f.says (label-kind line at n) in
           let w = stops.within in
           let here = n.here in
           let left = length-drop at line in
           rw f.there (faulty_roster most line (at + f.d) (omega arith) (own-fault line at n most f.d stops.own stops.some)
-          (clean_until line at n most b.short b.clean (first_clean line at n most b.short few (faulty_no_again line at number f.d f.says))
+          (clean_until line at n most b.short b.clean (first_clean line at n most b.short few (faulty_no_again line at fault f.d f.says))
           f.d w stops.fine stops.early))
 
--- a label that begins at `at` and ends before `next` has been looked up in the table, and found at `found`
-pub record Met (most : ℕ) (line held : List ℕ) (count at next : ℕ) (name : List ℕ) (found : ℕ) : Type 0 where
+-- a label that begins at `at` ends before `next`; its name is looked up in the table
+pub record Met (most : ℕ) (line held : List ℕ) (count at next : ℕ) (name : List ℕ) : Type 0 where
   pub room : most ≤ 32
   pub begun : Begun most line held count at
   pub starts : Starts line at
   pub fewer : count ≡ most → ⊥
   pub ends : Ends line at next name
-  pub looked : found ≡ position name (slots count held)
 
 -- the ways from there
-module _ (most : ℕ) (line held : List ℕ) (count at next : ℕ) (name : List ℕ) (found : ℕ) (m : Met most line held count at next name found) where
+module _ (most : ℕ) (line held : List ℕ) (count at next : ℕ) (name : List ℕ) (m : Met most line held count at next name) where
+  -- where the name was found
+  abbrev found : ℕ
+  found = position name (slots count held)
+
   abbrev size : ℕ
   size = m.ends.n
 
@@ -201,7 +207,7 @@ module _ (most : ℕ) (line held : List ℕ) (count at next : ℕ) (name : List 
   -- the table tells where the name stands among the names
   found_at : found ≡ position (name_at line at) (names_to line at)
   found_at =
-      m.looked ∙ rw (is_name_lem, m.begun.tabled, m.begun.counted, slots-table (names_to line at) names-short)
+      rw (is_name_lem, m.begun.tabled, m.begun.counted, slots-table (names_to line at) names-short)
       (position-padded (name_at line at) (names_to line at) name-fits names-fit)
 
   pub repeated : found < count → FaultyAt most line at
@@ -299,7 +305,7 @@ module _ (most : ℕ) (line held : List ℕ) (count at next : ℕ) (name : List 
         by (no o) = let s : next ≡ q = omega arith in rw (← s) e
 
     -- the line ends behind the label
-    pub well_ended : next ≡ length line → record { number = 0; place = 0; count = count + 1; table = paste held (16 * count) name 16 } ≡ roster_of most line
+    pub well_ended : next ≡ length line → Ok (record { count = count + 1; table = paste held (16 * count) name 16 }) ≡ roster_of most line
     well_ended end =
         let w = next_within in
         let closed : in_quotes line ≡ false = ap in_quotes (sym (take_all next line (omega arith))) ∙ even_next in

@@ -101,7 +101,7 @@ many_at most line p = begins line p && eqb (length (beginnings line p)) most
 -- the label has no fault of its own: it ends
 abbrev pub ends_by : Told → Bool
 ends_by (ended n) = true
-ends_by (at_fault number d) = false
+ends_by (at_fault fault d) = false
 
 -- "the first of a .. repeated name"; a name whose label is at fault, such as "a quote never closed", is "not compared" (#103)
 unfoldable pub again_at : List ℕ → ℕ → Bool

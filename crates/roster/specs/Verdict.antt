@@ -1,5 +1,7 @@
 -- The refusals of a call, as tests in order, and the reply that they lead to.
-use Rattle.std.specs.Prelude.{ℕ, zero, suc, Bool, true, false, List, [], ◌∷◌, ltb}
+use Rattle.std.specs.Prelude.{ℕ, zero, suc, Bool, true, false, List, [], ◌∷◌, ltb, Result, Ok, Err}
+use Rattle.faults.specs.Faults.{number as fault_number}
+use Rattle.faults.specs.declared.Refusal.{Refusal}
 use Rattle.roster.specs.declared.Reply.{Reply}
 
 -- a test that refuses where it finds a fault, with its number and place
@@ -35,3 +37,8 @@ value_by (suc number) v = 0
 -- what the tests say, with the value
 abbrev pub reply_of : Verdict → ℕ → Reply
 reply_of said v = record { number = said.number; place = said.place; value = value_by said.number v }
+
+-- the verdict that an answer stands for: "0 | done | 0", or the fault's number and its place
+abbrev pub said_by : {A : Type 0} → Result A Refusal → Verdict
+said_by (Ok v) = record { number = 0; place = 0 }
+said_by (Err e) = record { number = fault_number e.fault; place = e.place }

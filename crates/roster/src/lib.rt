@@ -5,38 +5,27 @@ mod line;
 mod table;
 
 ghost use Rattle.std.specs.Prelude.{◌≡◌};
-ghost use Rattle.roster.specs.Judged.{refusal, done};
+ghost use Rattle.roster.specs.Judged.{done, refused_by, reply_to};
 
+use faults::Refusal;
 pub use line::{judge, parse};
 pub use table::{name_len, species};
 
 // What a call answers: 01's number and place, and a value.
 #[repr(C)]
-#[derive(Clone, Copy)]
+#[derive(Clone, Copy, Debug, PartialEq, Eq)]
 pub struct Reply {
     pub number: u32,
     pub place: usize,
     pub value: usize,
 }
 
-// A roster that has been judged: number and place, how many names, and their table.
-#[derive(Clone, Copy)]
+// A good roster: how many names it has, and their table of sixteen bytes each.
+// One row of bytes, no `[[u8; 16]; 32]`: the promises of `nodes`, `texts` and `writer` are over its bytes (`Table.slots`, `texts: Work.name_in`).
+#[derive(Clone, Copy, Debug, PartialEq, Eq)]
 pub struct Roster {
-    pub number: u32,
-    pub place: usize,
     pub count: usize,
     pub table: [u8; 512],
-}
-
-// The reply of a call that refuses: "0 for any other value".
-pub fn refused(number: u32, place: usize) -> Reply
-    ensures { result ≡ refusal number place }
-{
-    Reply {
-        number,
-        place,
-        value: 0,
-    }
 }
 
 // The reply of a call that is done.
@@ -47,5 +36,28 @@ pub fn done(value: usize) -> Reply
         number: 0,
         place: 0,
         value,
+    }
+}
+
+impl From<Refusal> for Reply {
+    ghost from_gives = { λ e r. r ≡ refused_by e };
+
+    // The reply of a call that refuses: "0 for any other value".
+    fn from(refusal: Refusal) -> Reply {
+        Reply {
+            number: refusal.fault.number(),
+            place: refusal.place,
+            value: 0,
+        }
+    }
+}
+
+// The reply of a call: its value, or its refusal.
+pub fn reply_to(outcome: Result<usize, Refusal>) -> Reply
+    ensures { result ≡ reply_to outcome }
+{
+    match outcome {
+        Ok(value) => done(value),
+        Err(refusal) => Reply::from(refusal),
     }
 }

@@ -1,77 +1,46 @@
 // The roster line: labels parted by one space, and the first byte at fault.
-ghost use Rattle.std.specs.Prelude.{◌≡◌, ◌≤◌, replicate};
+ghost use Rattle.std.specs.Prelude.{◌≡◌, ◌≤◌};
 ghost use Rattle.roster.specs.Judged.{Judged, roster_of};
 
 use crate::table::{enter, species};
-use crate::{Reply, Roster};
-use labels::{Label, is_label, scan};
-
-// The roster that is faulty at `place`.
-fn faulty(place: usize) -> Roster
-    ensures { result ≡ record { number = 1; place = place; count = 0; table = replicate 512 0 } }
-{
-    Roster {
-        number: 1,
-        place: place,
-        count: 0,
-        table: [0u8; 512],
-    }
-}
+use crate::{Reply, Roster, reply_to};
+use faults::{Fault, Refusal};
+use labels::{is_label, scan};
 
 // Reads the line from the left. At the top of the loop a label has to begin at `at`. `reader`, `writer`, `counts` and `mapping` call it too, with 16, and `reader` and `mapping` with 32 for individuals, for the table of names, which has room for 32.
-pub fn parse(line: &[u8], most: usize) -> Roster
+pub fn parse(line: &[u8], most: usize) -> Result<Roster, Refusal>
     requires { most ≤ 32 }
     ensures { result ≡ roster_of most line.now }
 {
     let mut table = [0u8; 512];
-    let mut count: usize = 0;
-    let mut at: usize = 0;
+    let mut count = 0;
+    let mut at = 0;
+    // No `for`: a label says itself where the next one begins.
     while at < line.len() {
-        if !is_label(line[at]) {
-            return faulty(at);
+        if !is_label(line[at]) || count == most {
+            return Err(Fault::FaultyRoster.at(at));
         }
-        if count == most {
-            return faulty(at);
+        let scanned = scan(line, at).map_err(|refusal| Fault::FaultyRoster.at(refusal.place))?;
+        let next = scanned.next;
+        if species(&table, count, scanned.name).is_some() {
+            return Err(Fault::FaultyRoster.at(at));
         }
-        let scanned = scan(line, at);
-        let label = scanned.label;
-        let name = scanned.name;
-        match label {
-            Label::Faulty { number: _, place } => {
-                return faulty(place);
-            }
-            Label::Ended { next } => {
-                if species(&table, count, name) < count {
-                    return faulty(at);
-                }
-                enter(&mut table, count, name);
-                count += 1;
-                if next == line.len() {
-                    return Roster {
-                        number: 0,
-                        place: 0,
-                        count: count,
-                        table: table,
-                    };
-                }
-                if line[next] != b' ' {
-                    return faulty(next);
-                }
-                at = next + 1;
-            }
+        enter(&mut table, count, scanned.name);
+        count += 1;
+        if next == line.len() {
+            return Ok(Roster { count, table });
         }
+        if line[next] != b' ' {
+            return Err(Fault::FaultyRoster.at(next));
+        }
+        at = next + 1;
     }
-    faulty(line.len())
+    Err(Fault::FaultyRoster.at(line.len()))
 }
 
 // The roster line judged: how many names it has.
 pub fn judge(line: &[u8]) -> Reply
     ensures { Judged line.now result }
 {
-    let roster = parse(line, 16);
-    Reply {
-        number: roster.number,
-        place: roster.place,
-        value: roster.count,
-    }
+    reply_to(parse(line, 16).map(|roster| roster.count))
 }

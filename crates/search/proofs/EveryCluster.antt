@@ -30,24 +30,24 @@ use Rattle.search.proofs.BestTrees.{best_local, best_there}
 use Rattle.search.proofs.Accepted.{accepts}
 use Rattle.search.proofs.Demand.{found-answers}
 use Rattle.terms.specs.declared.Found.{Found}
-use Rattle.terms.specs.declared.allowing.Allowance.TheVariants.{Every, Marked}
+use Rattle.std.specs.Prelude.{Some, None}
 use Rattle.weights.specs.declared.Rooting.{Rooting}
 
 -- ---- as with bytes that mark every cluster
 
-module _ (rooting : Rooting) (n : ℕ) (genes : List (List ℕ)) (bytes : List ℕ) where
+module _ (rooting : Rooting) (n : ℕ) (genes : List (List ℕ)) where
   -- the best tree on a with every cluster allowed, and with the bytes
   abbrev on_every : ℕ → Option Binary
-  on_every a = best (weight rooting genes) (allowed_for Every n bytes) a
+  on_every a = best (weight rooting genes) (allowed_for None n) a
 
   abbrev on_marked : ℕ → Option Binary
-  on_marked a = best (weight rooting genes) (allowed_for Marked n (every_cluster n)) a
+  on_marked a = best (weight rooting genes) (allowed_for (Some (every_cluster n)) n) a
 
   -- they are equal on each cluster of n species
   pub every-best : (a : ℕ) → a < 2 ^ n → on_every a ≡ on_marked a
   every-best a l =
-      best_local (weight rooting genes) (allowed_for Every n bytes) (allowed_for Marked n (every_cluster n)) a
-      (λ x s m. every_as_marked n x (let k = within-le m in omega arith) bytes)
+      best_local (weight rooting genes) (allowed_for None n) (allowed_for (Some (every_cluster n)) n) a
+      (λ x s m. every_as_marked n x (let k = within-le m in omega arith))
 
   -- the answer
   pub every-found : found_by rooting (on_every (whole n)) genes ≡ found_by rooting (on_marked (whole n)) genes
@@ -66,7 +66,7 @@ module _ (rooting : Rooting) (n : ℕ) (genes : List (List ℕ)) (bytes : List �
   module _ {scores splits : List ℕ} {r : Found} {s p : List ℕ} where
     -- so what is solved with every cluster allowed is what is solved with the bytes, and the other way
     pub every-solves :
-        Solves rooting n genes (allowed_for Every n bytes) scores splits r s p ↔ Solves rooting n genes (allowed_for Marked n (every_cluster n)) scores splits r s p
+        Solves rooting n genes (allowed_for None n) scores splits r s p ↔ Solves rooting n genes (allowed_for (Some (every_cluster n)) n) scores splits r s p
     every-solves = (
       λ h. record { reply = h.reply ∙ every-found; score_table = h.score_table ∙ every-scores scores; split_table = h.split_table ∙ every-splits splits },
       λ h. record {
@@ -78,12 +78,12 @@ module _ (rooting : Rooting) (n : ℕ) (genes : List (List ℕ)) (bytes : List �
 
 -- gene trees and tables that the search accepts: what is solved is what the search with the bytes promises
 pub every-finds :
-    {rooting : Rooting} {n : ℕ} {genes : List ℕ} {count : ℕ} {scores splits : List ℕ} {r : Found} {s p : List ℕ} (bytes : List ℕ)
+    {rooting : Rooting} {n : ℕ} {genes : List ℕ} {count : ℕ} {scores splits : List ℕ} {r : Found} {s p : List ℕ}
     → GenesInOrder rooting n genes count → 2 ^ n ≤ length scores → 2 ^ n ≤ length splits
-    → Solves rooting n (records_in count genes) (allowed_for Every n bytes) scores splits r s p → Finds rooting n genes count (every_cluster n) scores splits r s p
+    → Solves rooting n (records_in count genes) (allowed_for None n) scores splits r s p → Finds rooting n genes count (every_cluster n) scores splits r s p
 unfolding best_for
-every-finds {rooting} {n} {genes} {count} {scores} {splits} bytes order scores_fit splits_fit h =
-    let marked = (every-solves rooting n (records_in count genes) bytes).0 h in
+every-finds {rooting} {n} {genes} {count} {scores} {splits} order scores_fit splits_fit h =
+    let marked = (every-solves rooting n (records_in count genes)).0 h in
     let passed = accepts rooting n genes count (every_cluster n) scores splits (record {
       in_order = order;
       allowed_fits = omega (arith, length-replicate {A = ℕ} (2 ^ n) 1);
@@ -105,8 +105,8 @@ some_tree a one below =
     go (t ∷ l) h on = (t, on t (here refl))
 
 -- so with every cluster allowed each has a best tree
-pub every-tree : (w : ℕ → ℕ) (n : ℕ) (bytes : List ℕ) (a : ℕ) → 1 ≤ a → a < 2 ^ 32 → (t : Binary) × (best w (allowed_for Every n bytes) a ≡ some t)
-every-tree w n bytes a one below = let u = some_tree a one below in best_there w (allowed_for Every n bytes) a u.0 u.1 (λ x m. refl)
+pub every-tree : (w : ℕ → ℕ) (a : ℕ) → 1 ≤ a → a < 2 ^ 32 → (t : Binary) × (best w (allowed_for None 0) a ≡ some t)
+every-tree w a one below = let u = some_tree a one below in best_there w (allowed_for None 0) a u.0 u.1 (λ x m. refl)
 
 -- ---- the answer
 
@@ -120,17 +120,17 @@ all_compete n c b = record {
 
 -- n of 1 to 16: 14 never occurs, and the score is at most that of every binary species record
 pub every-answered :
-    {rooting : Rooting} {n : ℕ} {genes : List (List ℕ)} {scores splits : List ℕ} {r : Found} {s p : List ℕ} (bytes : List ℕ) → 1 ≤ n → n ≤ 16
-    → Solves rooting n genes (allowed_for Every n bytes) scores splits r s p → AnswerOfAll rooting n genes r
+    {rooting : Rooting} {n : ℕ} {genes : List (List ℕ)} {scores splits : List ℕ} {r : Found} {s p : List ℕ} → 1 ≤ n → n ≤ 16
+    → Solves rooting n genes (allowed_for None n) scores splits r s p → AnswerOfAll rooting n genes r
 unfolding best_for
-every-answered {rooting} {n} {genes} {r = r} bytes one few h =
+every-answered {rooting} {n} {genes} {r = r} one few h =
     let below = whole_below_sixteen n few in
-    let t = every-tree (weight rooting genes) n bytes (whole n) (whole_some n one) (omega arith) in
+    let t = every-tree (weight rooting genes) (whole n) (whole_some n one) (omega arith) in
     subst (AnswerOfAll rooting n genes) (sym (h.reply ∙ ap (λ (o : Option Binary). found_by rooting o genes) t.1)) (of_best t.0 t.1)
   where
-    of_best : (t : Binary) → best (weight rooting genes) (allowed_for Every n bytes) (whole n) ≡ some t → AnswerOfAll rooting n genes (found_by rooting (some t) genes)
+    of_best : (t : Binary) → best (weight rooting genes) (allowed_for None n) (whole n) ≡ some t → AnswerOfAll rooting n genes (found_by rooting (some t) genes)
     of_best t e =
-        let answer = found-answers rooting n genes (every_cluster n) few t (sym (every-best rooting n genes bytes (whole n) (whole_below n)) ∙ e) in
+        let answer = found-answers rooting n genes (every_cluster n) few t (sym (every-best rooting n genes (whole n) (whole_below n)) ∙ e) in
         record {
           number = refl;
           place = refl;

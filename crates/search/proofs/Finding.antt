@@ -1,27 +1,28 @@
 -- The promise of the search, one law for each way through its checks.
-use Prim.Native.Nat.{ℕ, zero, suc, ◌^◌, ◌≤◌, ◌<◌}
-use mathlib.Core.Path.{◌≡◌, refl, ◌∙◌}
+use Prim.Native.Nat.{ℕ, zero, suc, ◌^◌, ◌≤◌}
+use mathlib.Core.Path.{◌≡◌, refl, sym, ap, ◌∙◌}
 use mathlib.Core.List.{List, [], ◌∷◌}
 use native.Mathlib.Decide.{dec_le}
 use native.Mathlib.Omega.{arith}
 use lib.ListN.{length}
 use borrow.Author.Tests.{lt-ltb, le-ltb}
+use Rattle.std.specs.Prelude.{Some, Err}
 use Rattle.clusters.specs.Sets.{whole}
-use Rattle.roster.specs.declared.Reply.{Reply}
-use Rattle.roster.specs.Verdict.{Test, verdict, length_test}
+use Rattle.faults.specs.Faults.{number as fault_number}
+use Rattle.faults.specs.declared.Refusal.{Refusal}
+use Rattle.roster.specs.Verdict.{Test, Verdict, verdict, length_test}
 use Rattle.trees.specs.Records.{records_in}
 use Rattle.lineages.specs.InOrder.{Shaped}
-use Rattle.lineages.specs.Work.{shape_tests, said, GenesJudged}
-use Rattle.lineages.proofs.Verdicts.{verdict_first, shape-passed}
+use Rattle.lineages.specs.Work.{shape_tests, genes_tests, said}
+use Rattle.lineages.proofs.Verdicts.{numbered, verdict_first, refused_first, shape-passed}
 use Rattle.lineages.proofs.FirstBad.{checked_in_order}
-use Rattle.terms.specs.Allowed.{allowed_in, first_strange, allowed_test}
-use Rattle.terms.proofs.Refusing.{byte-refused, bytes-passed, refused-told}
+use Rattle.terms.specs.Allowed.{allowed_in, allowed_test}
+use Rattle.terms.proofs.Refusing.{refused-told}
 use Rattle.search.specs.Promise.{search_tests, filled_by, Finds}
-use Rattle.search.specs.Work.{LongEnough}
+use Rattle.search.specs.Work.{LongEnough, long_tests}
 use Rattle.splits.specs.Best.{best_for, found_by}
-use Rattle.terms.specs.Answers.{without}
+use Rattle.terms.specs.Answers.{without, found_to}
 use Rattle.solver.specs.Work.{Checked, Solves}
-use Rattle.terms.specs.declared.allowing.Allowance.{Allowance}
 use Rattle.terms.specs.declared.Found.{Found}
 use Rattle.lineages.proofs.Calls.{genes_then, genes-refused, genes-passed}
 use Rattle.weights.specs.declared.Rooting.{Rooting}
@@ -59,6 +60,27 @@ module _ (n : ℕ) (allowed scores splits : List ℕ) (rest : List Test) where
       go (yes a) (yes b) (no c) = rw (le-ltb (length allowed) (2 ^ n) a, le-ltb (length scores) (2 ^ n) b, lt-ltb (length splits) (2 ^ n) (omega arith))
       go (yes a) (yes b) (yes c) = absurd (f (record { allowed_long = a; scores_long = b; splits_long = c }))
 
+  -- what the tests say of the lengths alone
+  pub long-refused : (e : Refusal) → said (fault_number e.fault) e.place ≡ verdict (long_tests (2 ^ n) allowed scores splits)
+      → verdict (long_then n allowed scores splits rest) ≡ said (fault_number e.fault) e.place
+  long-refused e told = refused_first (long_tests (2 ^ n) allowed scores splits) rest e told
+
+-- where they find no fault, all is long enough
+pub long_passed : (n : ℕ) (allowed scores splits : List ℕ) → said 0 0 ≡ verdict (long_tests (2 ^ n) allowed scores splits) → LongEnough (2 ^ n) allowed scores splits
+long_passed n allowed scores splits told = go (dec_le (2 ^ n) (length allowed)) (dec_le (2 ^ n) (length scores)) (dec_le (2 ^ n) (length splits))
+  where
+    twelve : (k : ℕ) → k ≡ 0 → k ≡ 12 → ⊥
+    twelve k z e = omega arith
+
+    off : (LongEnough (2 ^ n) allowed scores splits → ⊥) → ⊥
+    off f = let z = ap (λ (v : Verdict). v.number) (told ∙ short-refused n allowed scores splits [] f) in twelve _ refl z
+
+    go : Dec (2 ^ n ≤ length allowed) → Dec (2 ^ n ≤ length scores) → Dec (2 ^ n ≤ length splits) → LongEnough (2 ^ n) allowed scores splits
+    go (yes a) (yes b) (yes c) = record { allowed_long = a; scores_long = b; splits_long = c }
+    go (no a) b c = absurd (off (λ long. let l = long.allowed_long in a (omega arith)))
+    go (yes a) (no b) c = absurd (off (λ long. let l = long.scores_long in b (omega arith)))
+    go (yes a) (yes b) (no c) = absurd (off (λ long. let l = long.splits_long in c (omega arith)))
+
 -- ---- the checks that were passed
 
 module _ (rooting : Rooting) (n : ℕ) (genes : List ℕ) (count : ℕ) (allowed scores splits : List ℕ) (shaped : Shaped n genes count) where
@@ -75,10 +97,9 @@ module _ (rooting : Rooting) (n : ℕ) (genes : List ℕ) (count : ℕ) (allowed
     long-told = shape-told ∙ long-passed n allowed scores splits (genes_then rooting n genes count (allowed_test n allowed ∷ [])) long
 
     pub checked :
-        {judged : Reply} {allowance : Allowance} → GenesJudged rooting n genes count judged → judged.number ≡ 0
-        → Checked rooting allowance n genes count allowed scores splits
-    checked told none =
-        let ordered = checked_in_order rooting n genes count told none shaped.few_species shaped in
+        said 0 0 ≡ verdict (genes_tests rooting n (records_in count genes)) → Checked rooting n genes count (Some allowed) scores splits
+    checked none =
+        let ordered = checked_in_order rooting n genes count none shaped in
         record {
           some_species = shaped.some_species;
           weighable = record {
@@ -88,10 +109,15 @@ module _ (rooting : Rooting) (n : ℕ) (genes : List ℕ) (count : ℕ) (allowed
             valid = ordered.valid;
             enter = ordered.enter;
           };
-          allowed_long = λ marked. long.allowed_long;
+          allowed_long = long.allowed_long;
           scores_long = long.scores_long;
           splits_long = long.splits_long;
         }
+
+    -- behind the records the allowed bytes decide
+    genes-told : said 0 0 ≡ verdict (genes_tests rooting n (records_in count genes))
+        → verdict (search_tests rooting n genes count allowed scores splits) ≡ verdict (allowed_test n allowed ∷ [])
+    genes-told none = long-told ∙ genes-passed rooting n genes count (allowed_test n allowed ∷ []) none
 
 -- ---- the ways
 
@@ -119,6 +145,13 @@ module _ (rooting : Rooting) (n : ℕ) (genes : List ℕ) (count : ℕ) (allowed
   unfolding search_tests shape_tests search_rest
   finds-shape e f p q s = finds-refused (verdict_first (shape_tests n genes count) (search_rest rooting n genes count allowed scores splits) e f) f p q s
 
+  pub finds-shape-by : (e : Refusal) → said (fault_number e.fault) e.place ≡ verdict (shape_tests n genes count)
+      → r ≡ found_to (Err e) → scores_after ≡ scores → splits_after ≡ splits
+      → Finds rooting n genes count allowed scores splits r scores_after splits_after
+  unfolding search_tests shape_tests search_rest
+  finds-shape-by e told p q s =
+      finds-refused (refused_first (shape_tests n genes count) (search_rest rooting n genes count allowed scores splits) e told) (numbered e.fault) p q s
+
   module _ (shaped : Shaped n genes count) where
     pub finds-short : (LongEnough (2 ^ n) allowed scores splits → ⊥) → r ≡ without 12 0 → scores_after ≡ scores → splits_after ≡ splits
         → Finds rooting n genes count allowed scores splits r scores_after splits_after
@@ -129,33 +162,35 @@ module _ (rooting : Rooting) (n : ℕ) (genes : List ℕ) (count : ℕ) (allowed
         ∙ short-refused n allowed scores splits (genes_then rooting n genes count (allowed_test n allowed ∷ [])) f)
         (λ z. omega arith) p q s
 
-    module _ (long : LongEnough (2 ^ n) allowed scores splits) {judged : Reply} (told : GenesJudged rooting n genes count judged) where
-      pub finds_bad : (judged.number ≡ 0 → ⊥) → r ≡ without judged.number judged.place → scores_after ≡ scores → splits_after ≡ splits
-          → Finds rooting n genes count allowed scores splits r scores_after splits_after
-      finds_bad f p q s =
-          finds-refused
-          (long-told rooting n genes count allowed scores splits shaped long ∙ genes-refused rooting n genes count told (allowed_test n allowed ∷ []) f)
-          f p q s
+    pub finds-short-by : (e : Refusal) → said (fault_number e.fault) e.place ≡ verdict (long_tests (2 ^ n) allowed scores splits)
+        → r ≡ found_to (Err e) → scores_after ≡ scores → splits_after ≡ splits
+        → Finds rooting n genes count allowed scores splits r scores_after splits_after
+    unfolding search_rest
+    finds-short-by e told p q s =
+        finds-refused
+        (shape-told rooting n genes count allowed scores splits shaped
+        ∙ long-refused n allowed scores splits (genes_then rooting n genes count (allowed_test n allowed ∷ [])) e told)
+        (numbered e.fault) p q s
 
-      pub finds_strange :
-          {strange : ℕ} → judged.number ≡ 0 → strange ≡ first_strange n allowed → strange < 2 ^ n
-          → r ≡ without 13 strange → scores_after ≡ scores → splits_after ≡ splits
+    module _ (long : LongEnough (2 ^ n) allowed scores splits) where
+      pub finds_bad : (e : Refusal) → said (fault_number e.fault) e.place ≡ verdict (genes_tests rooting n (records_in count genes))
+          → r ≡ found_to (Err e) → scores_after ≡ scores → splits_after ≡ splits
           → Finds rooting n genes count allowed scores splits r scores_after splits_after
-      finds_strange none e m p q s =
+      finds_bad e told p q s =
           finds-refused
-          (long-told rooting n genes count allowed scores splits shaped long
-          ∙ genes-passed rooting n genes count told (allowed_test n allowed ∷ []) none
-          ∙ byte-refused n allowed e m)
-          (λ z. omega arith) p q s
+          (long-told rooting n genes count allowed scores splits shaped long ∙ genes-refused rooting n genes count (allowed_test n allowed ∷ []) e told)
+          (numbered e.fault) p q s
 
-      pub finds-solved : {strange : ℕ} → judged.number ≡ 0 → strange ≡ first_strange n allowed → 2 ^ n ≤ strange
-          → Solves rooting n (records_in count genes) (allowed_in n allowed) scores splits r scores_after splits_after
-          → Finds rooting n genes count allowed scores splits r scores_after splits_after
-      unfolding best_for
-      finds-solved none e m s =
-          let passed =
-          long-told rooting n genes count allowed scores splits shaped long
-          ∙ genes-passed rooting n genes count told (allowed_test n allowed ∷ []) none
-          ∙ bytes-passed n allowed e m
-          in
-          record { reply = s.reply ∙ rw passed; score_table = s.score_table ∙ rw passed; split_table = s.split_table ∙ rw passed }
+      module _ (none : said 0 0 ≡ verdict (genes_tests rooting n (records_in count genes))) where
+        pub finds_strange : (e : Refusal) → said (fault_number e.fault) e.place ≡ verdict (allowed_test n allowed ∷ [])
+            → r ≡ found_to (Err e) → scores_after ≡ scores → splits_after ≡ splits
+            → Finds rooting n genes count allowed scores splits r scores_after splits_after
+        finds_strange e told p q s = finds-refused (genes-told rooting n genes count allowed scores splits shaped long none ∙ sym told) (numbered e.fault) p q s
+
+        pub finds-solved : said 0 0 ≡ verdict (allowed_test n allowed ∷ [])
+            → Solves rooting n (records_in count genes) (allowed_in n allowed) scores splits r scores_after splits_after
+            → Finds rooting n genes count allowed scores splits r scores_after splits_after
+        unfolding best_for
+        finds-solved told s =
+            let passed = genes-told rooting n genes count allowed scores splits shaped long none ∙ sym told in
+            record { reply = s.reply ∙ rw passed; score_table = s.score_table ∙ rw passed; split_table = s.split_table ∙ rw passed }

@@ -20,7 +20,11 @@ use Rattle.lineages.specs.InOrder.{Shaped}
 use Rattle.lineages.specs.Work.{shape_tests, said}
 use Rattle.lineages.proofs.Verdicts.{NoneGives, verdict_first, verdict-passed, verdict-never, shape-passed}
 use Rattle.lineages.proofs.Calls.{genes_then}
+use mathlib.Core.Option.{Option, some, none}
+use Rattle.splits.specs.BinaryTrees.{Binary}
+use Rattle.splits.specs.Least.{best}
 use Rattle.splits.specs.Ties.{tie_entry}
+use Rattle.splits.proofs.Ties.{tie_none}
 use Rattle.terms.specs.Allowed.{allowed_in}
 use Rattle.tables.specs.Work.{Tabled, Tieable, FillsTies}
 use Rattle.tables.proofs.TieTable.{filled_at, filled-tabled}
@@ -36,11 +40,6 @@ use Rattle.search.proofs.Accepted.{none_gives, accepted, accepts}
 use Rattle.search.proofs.Demand.{accepted-says, accepted_of}
 use Rattle.terms.proofs.Refusing.{refused-told}
 use Rattle.search.proofs.Finding.{refused-kept}
-
--- a number that is neither of two
-pub neither : {m a b : ℕ} → (m ≡ a → ⊥) → (m ≡ b → ⊥) → (m ≡ a) ⊎ (m ≡ b) → ⊥
-neither f g (inl e) = f e
-neither f g (inr e) = g e
 
 -- ---- the first tests
 
@@ -138,14 +137,14 @@ module _ (rooting : Rooting) (n : ℕ) (genes : List ℕ) (count : ℕ) (allowed
 
   module _ {r : Tied} {scores_after splits_after ties_after : List ℕ} where
     -- a refusal before the search: no tree, and all tables as they were lent
-    pub ties-refused : {number : ℕ} → verdict (ties_shape n genes count ties) ≡ said number 0 → (number ≡ 0 → ⊥) → r ≡ with_ties (without number 0) 0
+    pub ties-refused : {number place : ℕ} → verdict (ties_shape n genes count ties) ≡ said number place → (number ≡ 0 → ⊥) → r ≡ with_ties (without number place) 0
         → scores_after ≡ scores → splits_after ≡ splits → ties_after ≡ ties
         → FindsTies rooting n genes count allowed scores splits ties r scores_after splits_after ties_after
-    ties-refused {number} e f p q s t =
+    ties-refused {number} {place} e f p q s t =
         let v = first_refused e f in
         record {
           reply = p ∙ rw v (ap₂ with_ties
-              (refused-told number 0 f (found_by rooting (best_for rooting n (records_in count genes) allowed (whole n)) (records_in count genes)))
+              (refused-told number place f (found_by rooting (best_for rooting n (records_in count genes) allowed (whole n)) (records_in count genes)))
               (refused_none number f (ties_for rooting n (records_in count genes) allowed (whole n))));
           score_table = q ∙ rw v (refused-kept number n f _ scores);
           split_table = s ∙ rw v (refused-kept number n f _ splits);
@@ -172,9 +171,9 @@ module _ (rooting : Rooting) (n : ℕ) (genes : List ℕ) (count : ℕ) (allowed
     pub ties-kept : {found : Found} → 2 ^ n ≤ length ties → Finds rooting n genes count allowed scores splits found scores_after splits_after
         → ((found.number ≡ 0) ⊎ (found.number ≡ 14) → ⊥) → r ≡ with_ties found 0 → ties_after ≡ ties
         → FindsTies rooting n genes count allowed scores splits ties r scores_after splits_after ties_after
-    ties-kept l f none p t =
+    ties-kept l f never p t =
         let refused : (verdict (search_tests rooting n genes count allowed scores splits)).number ≡ 0 → ⊥ =
-        λ z. none (accepted-says f (accepted rooting n genes count allowed scores splits z))
+        λ z. never (accepted-says f (accepted rooting n genes count allowed scores splits z))
         in
         ties_of_found l f p (refused_none _ refused (ties_for rooting n (records_in count genes) allowed (whole n)))
         (t ∙ refused-kept _ n refused _ ties)
@@ -208,6 +207,23 @@ module _ (rooting : Rooting) (n : ℕ) (genes : List ℕ) (count : ℕ) (allowed
         let t = fills (weight rooting (records_in count genes)) (allowed_in n allowed) (tables-filled f filled) in
         let of_whole : get_or ties_after all 0 ≡ entry (whole n) = ap₂ (λ k b. get_or k b 0) t is ∙ filled_at entry n ties (whole n) (whole_below n) in
         ties_of_found l f p (of_whole ∙ rw z) (t ∙ rw z)
+
+    -- and there are none where there is no tree
+    pub ties-none : {r : Tied} {ties_after : List ℕ} → (found.number ≡ 0 → ⊥) → 2 ^ n ≤ length ties → FillsTies n scores_after splits_after ties ties_after
+        → r ≡ with_ties found 0 → FindsTies rooting n genes count allowed scores splits ties r scores_after splits_after ties_after
+    unfolding ties_for best_for
+    ties-none {ties_after = ties_after} no_tree l fills p =
+        let z = accepts rooting n genes count allowed scores splits (passed f filled) in
+        let w = weight rooting (records_in count genes) in
+        let t = fills w (allowed_in n allowed) (tables-filled f filled) in
+        let none_there = go (best w (allowed_in n allowed) (whole n)) refl (rw z at f.reply) in
+        ties_of_found l f p (sym (tie_none w (allowed_in n allowed) (whole n) none_there) ∙ rw z) (t ∙ rw z)
+      where
+        go : (o : Option Binary) → best (weight rooting (records_in count genes)) (allowed_in n allowed) (whole n) ≡ o
+            → found ≡ found_by rooting (best (weight rooting (records_in count genes)) (allowed_in n allowed) (whole n)) (records_in count genes)
+            → best (weight rooting (records_in count genes)) (allowed_in n allowed) (whole n) ≡ none
+        go none e reply = e
+        go (some u) e reply = absurd (no_tree (ap (λ x. x.number) reply ∙ ap (λ o. (found_by rooting o (records_in count genes)).number) e))
 
   -- ---- what it says of the search
 

@@ -1,5 +1,5 @@
 -- What `search_ties` promises: what `search` does, and how many trees are as good as the one that is found (#111).
-use Rattle.std.specs.Prelude.{ℕ, ◌*◌, ◌^◌, ◌≡◌, List, [], ◌∷◌, length}
+use Rattle.std.specs.Prelude.{ℕ, ◌*◌, ◌^◌, ◌≡◌, List, [], ◌∷◌, length, Result, Ok, Err}
 use Rattle.clusters.specs.Sets.{whole}
 use Rattle.trees.specs.Records.{records_in}
 use Rattle.weights.specs.Count.{weight}
@@ -10,9 +10,11 @@ use Rattle.splits.specs.Ties.{tie_entry}
 use Rattle.terms.specs.Allowed.{allowed_in}
 use Rattle.splits.specs.Best.{best_for, found_by}
 use Rattle.terms.specs.Allowed.{allowed_test}
-use Rattle.terms.specs.Answers.{found_or}
+use Rattle.terms.specs.Answers.{found_to, found_or}
 use Rattle.search.specs.Promise.{filled_by}
+use Rattle.faults.specs.declared.Refusal.{Refusal}
 use Rattle.terms.specs.declared.Found.{Found}
+use Rattle.terms.specs.declared.Solution.{Solution}
 use Rattle.search.specs.declared.tied.Tied.{Tied}
 use Rattle.weights.specs.declared.Rooting.{Rooting}
 
@@ -34,6 +36,11 @@ ties_tests rooting n genes count allowed scores splits ties =
 -- an answer of the search, with its ties
 abbrev pub with_ties : Found → ℕ → Tied
 with_ties found ties = record { number = found.number; place = found.place; score = found.score; ties = ties; numbers = found.numbers }
+
+-- the answer for an outcome: the tree with its ties, or a refusal, "0 for any other value"
+abbrev pub tied_to : Result (Solution × ℕ) Refusal → Tied
+tied_to (Ok s) = with_ties (found_to (Ok s.0)) s.1
+tied_to (Err e) = with_ties (found_to (Err e)) 0
 
 -- an answer without its ties
 abbrev pub without_ties : Tied → Found

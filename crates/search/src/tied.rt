@@ -1,17 +1,19 @@
 // The search with its ties: how many trees are as good as the one that it finds.
 ghost use Rattle.std.specs.Prelude.{◌≡◌, ◌⊎◌, [], ◌∷◌, ◌++◌, ◌^◌, length};
 ghost use Rattle.trees.specs.Decides.{Decides};
-ghost use Rattle.roster.specs.Verdict.{verdict, length_test};
-ghost use Rattle.lineages.specs.Work.{shape_tests, said};
-ghost use Rattle.search.specs.TiesPromise.{with_ties, FindsTies};
+ghost use Rattle.roster.specs.Verdict.{verdict, length_test, said_by};
+ghost use Rattle.lineages.specs.Work.{shape_tests};
+ghost use Rattle.terms.specs.Answers.{found_to};
+ghost use Rattle.search.specs.TiesPromise.{with_ties, tied_to, FindsTies};
 
-use crate::search;
+use crate::searched;
+use faults::{Fault, Refusal};
 use lineages::checks::shape;
 use tables::count_ties;
-use terms::{Found, refused};
+use terms::{Found, Solution};
 use weights::Rooting;
 
-// What the search with ties answers: what the search does, and how many trees reach its score.
+// What the search with ties answers, a type of the C interface: what the search does, and how many trees reach its score.
 #[repr(C)]
 #[derive(Clone, Copy)]
 pub struct Tied {
@@ -36,31 +38,60 @@ fn with_ties(found: Found, ties: u64) -> Tied
     }
 }
 
-// 1, 11 or 12 where n, count, the gene entries that are lent or the third table are at fault, else 0. All are at place 0.
-fn ties_shape(n: usize, genes: &[u16], count: usize, ties: &[u64]) -> u32
-    ensures { verdict (shape_tests n genes.now count ++ (length_test (length ties.now) (2 ^ n) ∷ [])) ≡ said result 0 }
-{
-    let number = shape(n, genes, count);
-    if number != 0 {
-        return number;
+impl From<Result<(Solution, u64), Refusal>> for Tied {
+    ghost from_gives = { λ outcome tied. tied ≡ tied_to outcome };
+
+    // A refused call has no ties.
+    fn from(outcome: Result<(Solution, u64), Refusal>) -> Tied {
+        match outcome {
+            Ok((solution, ties)) => with_ties(Found::from(Ok(solution)), ties),
+            Err(refusal) => with_ties(Found::from(Err(refusal)), 0),
+        }
     }
-    if ties.len() < clusters::single(n) as usize {
-        return 12;
-    }
-    0
 }
 
-// Whether a search that answers this number has filled its tables.
-fn filled(number: u32) -> bool
-    ensures { Decides result ((number ≡ 0) ⊎ (number ≡ 14)) }
+// 1, 11 or 12 where n, count, the gene entries that are lent or the third table are at fault. All are at place 0.
+fn ties_shape(n: usize, genes: &[u16], count: usize, ties: &[u64]) -> Result<(), Refusal>
+    ensures { said_by result ≡ verdict (shape_tests n genes.now count ++ (length_test (length ties.now) (2 ^ n) ∷ [])) }
 {
-    if number == 0 {
-        return true;
+    shape(n, genes, count)?;
+    if ties.len() < clusters::single(n) as usize {
+        return Err(Fault::ShortSlice.at(0));
     }
-    if number == 14 {
-        return true;
+    Ok(())
+}
+
+// Whether a search with this outcome has filled its tables: it has where it looked for a tree, though it found none.
+fn filled(found: Result<Solution, Refusal>) -> bool
+    ensures { Decides result (((found_to found).number ≡ 0) ⊎ ((found_to found).number ≡ 14)) }
+{
+    match found {
+        Ok(_) => true,
+        Err(refusal) => refusal.fault == Fault::NoTree,
     }
-    false
+}
+
+// The search and its ties; the third table is filled where the search has filled the other two. `search_ties` and `outcomes` call it.
+pub fn searched_with_ties(
+    rooting: Rooting,
+    n: usize,
+    genes: &[u16],
+    count: usize,
+    allowed: &[u8],
+    scores: &mut [u32],
+    splits: &mut [u16],
+    ties: &mut [u64],
+) -> Result<(Solution, u64), Refusal>
+    ensures { FindsTies rooting n genes.now count allowed.now scores.old splits.old ties.old (tied_to result) scores.new splits.new ties.new }
+{
+    ties_shape(n, genes, count, ties)?;
+    let found = searched(rooting, n, genes, count, allowed, scores, splits);
+    if filled(found) {
+        count_ties(n, scores, splits, ties);
+    }
+    let solution = found?;
+    let all = clusters::whole(n) as usize;
+    Ok((solution, ties[all]))
 }
 
 // The search, and how many trees over the allowed clusters reach its score; the third table is filled from the other two.
@@ -76,15 +107,5 @@ pub fn search_ties(
 ) -> Tied
     ensures { FindsTies rooting n genes.now count allowed.now scores.old splits.old ties.old result scores.new splits.new ties.new }
 {
-    let number = ties_shape(n, genes, count, ties);
-    if number != 0 {
-        return with_ties(refused(number, 0), 0);
-    }
-    let found = search(rooting, n, genes, count, allowed, scores, splits);
-    if !filled(found.number) {
-        return with_ties(found, 0);
-    }
-    count_ties(n, scores, splits, ties);
-    let all = clusters::whole(n) as usize;
-    with_ties(found, ties[all])
+    Tied::from(searched_with_ties(rooting, n, genes, count, allowed, scores, splits, ties))
 }

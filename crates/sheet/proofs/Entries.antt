@@ -18,7 +18,7 @@ use Rattle.lineages.proofs.Calls.{scores_no_tree, scores_done}
 use Rattle.sheet.specs.declared.Entry.{Entry}
 use Rattle.sheet.specs.Promise.{Sheets, sheet_tests, record_at, entry_for, entries_by}
 use Rattle.sheet.specs.Work.{Passed}
-use Rattle.sheet.proofs.Judged.{passed-shape, passed-told, passed_none}
+use Rattle.sheet.proofs.Judged.{passed-shape, passed-genes}
 use Rattle.sheet.proofs.Filling.{position-stays, position_decides, single-given, twelve_given}
 use Rattle.sheet.proofs.Endings.{entries-kept, not_refused}
 
@@ -99,11 +99,10 @@ module _ {rooting : Rooting} {n : ℕ} {genes : List ℕ} {count : ℕ} {records
           → get_or after i d ≡ record { position = before.position; number = 0; score = score rooting (records_in count genes) species }
       gets_score tree =
           gets_single (done (score rooting (records_in count genes) species))
-          (scores_done rooting n genes count species _ (passed-shape rooting n genes count passed) tree (passed-told rooting n genes count passed)
-          (passed_none rooting n genes count passed) refl refl)
+          (scores_done rooting n genes count species (passed-shape rooting n genes count passed) tree (passed-genes rooting n genes count passed) refl)
 
       pub gets_sixteen : (valid (whole n) species && binary (whole n) species) ≡ false → get_or after i d ≡ record { position = before.position; number = 16; score = 0 }
-      gets_sixteen tree = gets_single (refusal 16 0) (scores_no_tree rooting n genes count species _ (passed-shape rooting n genes count passed) tree refl)
+      gets_sixteen tree = gets_single (refusal 16 0) (scores_no_tree rooting n genes count species (passed-shape rooting n genes count passed) tree)
 
   -- two entries with one position get the same
   pub same_position :

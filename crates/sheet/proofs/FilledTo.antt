@@ -1,8 +1,8 @@
 -- A list of which the first i elements are filled, one after the other.
-use Prim.Native.Nat.{ℕ, zero, suc, ◌+◌, ◌-◌, ◌≤◌}
-use mathlib.Core.Path.{◌≡◌, refl, ap, ap₂, ◌∙◌}
+use Prim.Native.Nat.{ℕ, zero, suc, ◌+◌}
+use mathlib.Core.Path.{◌≡◌, refl, sym, ap, ap₂, ◌∙◌}
 use mathlib.Core.List.{List, [], ◌∷◌, map}
-use native.Mathlib.Omega.{arith}
+use native.Mathlib.Numerals.{add-one}
 use lib.ListN.{length, get_or, set}
 
 module _ {A : Type 0} (fill : A → A) where
@@ -23,14 +23,12 @@ module _ {A : Type 0} (fill : A → A) where
   filled_next (suc i) [] d = refl
   filled_next (suc i) (x ∷ l) d = ap (λ (k : List A). fill x ∷ k) (filled_next i l d)
 
-  -- as the code counts, from 1 on: the nth is filled
-  pub filled_nth :
-      (xs : List A) {ys : List A} {nth : ℕ} {x : A} (d : A) → 1 ≤ nth → ys ≡ filled_to (nth - 1) xs → x ≡ fill (get_or ys (nth - 1) d)
-      → set ys (nth - 1) x ≡ filled_to (nth + 1 - 1) xs
-  filled_nth xs {nth = nth} d some now told =
-      let next : suc (nth - 1) ≡ nth + 1 - 1 = omega arith in
-      ap₂ (λ (l : List A) (x : A). set l (nth - 1) x) now (told ∙ ap (λ (l : List A). fill (get_or l (nth - 1) d)) now)
-      ∙ filled_next (nth - 1) xs d ∙ ap (λ (k : ℕ). filled_to k xs) next
+  -- as the code writes it
+  pub filled_here :
+      (i : ℕ) (xs : List A) {ys : List A} {x : A} (d : A) → ys ≡ filled_to i xs → x ≡ fill (get_or ys i d) → set ys i x ≡ filled_to (i + 1) xs
+  filled_here i xs d now told =
+      ap₂ (λ (l : List A) (x : A). set l i x) now (told ∙ ap (λ (l : List A). fill (get_or l i d)) now)
+      ∙ filled_next i xs d ∙ ap (λ (k : ℕ). filled_to k xs) (sym (add-one i))
 
   pub filled-length : (i : ℕ) (l : List A) → length (filled_to i l) ≡ length l
   unfolding filled_to

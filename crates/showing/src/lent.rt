@@ -1,30 +1,26 @@
-// The fingerprint of the bytes that a call was lent, after it, by which they are compared whole.
+// The fingerprint of what a call was lent, after it, by which it is compared whole.
 ghost use Rattle.std.specs.Prelude.{◌<◌};
 
-use crate::show;
 use std::io;
 use std::io::Write;
 
 // The fingerprint h with one more number.
-pub(crate) fn mixed(h: u64, x: u64) -> u64
+fn mixed(h: u64, x: u64) -> u64
     requires { h < 1000003 }
     ensures { result < 1000003 }
 {
     (h * 31 + x % 1000003 + 1) % 1000003
 }
 
-fn fingerprint(s: &[u8]) -> usize {
-    let mut h: u64 = 7;
-    let mut i = 0;
-    while i < s.len() {
-        h = mixed(h, s[i] as u64);
-        i += 1;
+pub(crate) fn fingerprint<T: Copy + Into<u64>>(s: &[T]) -> u64 {
+    let mut h = 7;
+    for x in s {
+        h = mixed(h, (*x).into());
     }
-    h as usize
+    h
 }
 
 // The fingerprint, with a space before it.
 pub fn show<W: Write>(to: &mut W, s: &[u8]) -> io::Result<()> {
-    show::byte(to, b' ')?;
-    show::number(to, fingerprint(s))
+    write!(to, " {}", fingerprint(s))
 }

@@ -15,18 +15,14 @@ pub fn text<W: Write>(to: &mut W, s: &[u8]) -> io::Result<()>
 pub fn byte<W: Write>(to: &mut W, b: u8) -> io::Result<()>
     ensures { OnOk result (Appends (W.contents to.old) (W.contents to.new) (b ∷ [])) }
 {
-    let s = [b];
-    text(to, &s)
+    text(to, &[b])
 }
 
 // The first count bytes of s.
 pub fn start_of<W: Write>(to: &mut W, s: &[u8], count: usize) -> io::Result<()>
     ensures { OnOk result (Appends (W.contents to.old) (W.contents to.new) (take count s.now)) }
 {
-    if count < s.len() {
-        return text(to, &s[0..count]);
-    }
-    text(to, s)
+    text(to, &s[..count.min(s.len())])
 }
 
 pub fn number<W: Write>(to: &mut W, x: usize) -> io::Result<()>
@@ -37,35 +33,20 @@ pub fn number<W: Write>(to: &mut W, x: usize) -> io::Result<()>
 
 // Number, place and value, parted by spaces.
 pub fn answer<W: Write>(to: &mut W, fault: u32, place: usize, value: usize) -> io::Result<()> {
-    number(to, fault as usize)?;
-    byte(to, b' ')?;
-    number(to, place)?;
-    byte(to, b' ')?;
-    number(to, value)
+    write!(to, "{fault} {place} {value}")
 }
 
 // How many numbers there are up to the last that is not 0.
 fn filled(numbers: &[u16]) -> usize
     ensures { result ≤ length numbers.now }
 {
-    let mut n = numbers.len();
-    while n > 0 {
-        if numbers[n - 1] != 0 {
-            return n;
-        }
-        n -= 1;
-    }
-    n
+    numbers.iter().rposition(|x| *x != 0).map_or(0, |i| i + 1)
 }
 
 // A record's numbers up to its last that is not 0, with a space before each.
 pub fn record_start<W: Write>(to: &mut W, numbers: &[u16]) -> io::Result<()> {
-    let end = filled(numbers);
-    let mut i = 0;
-    while i < end {
-        byte(to, b' ')?;
-        number(to, numbers[i] as usize)?;
-        i += 1;
+    for x in &numbers[..filled(numbers)] {
+        write!(to, " {x}")?;
     }
     Ok(())
 }

@@ -24,9 +24,11 @@ use Rattle.splits.proofs.Recurrence.{best_on_lem, score-bound, best-fork}
 use Rattle.tables.specs.Work.{Weights, Fillable, Fills, Chosen, Chooses}
 use Rattle.tables.proofs.Written.{written_at, written-entries}
 use Rattle.splits.specs.Best.{found_of}
-use Rattle.terms.specs.Answers.{without}
-use Rattle.terms.specs.declared.Found.{Found}
-use Rattle.terms.specs.declared.allowing.Allowance.{Allowance}
+use Rattle.faults.specs.declared.Fault.TheVariants.{NoTree}
+use Rattle.faults.specs.declared.Refusal.{Refusal}
+use Rattle.terms.specs.Answers.{found_to}
+use Rattle.terms.specs.declared.Solution.{Solution}
+use Rattle.std.specs.Prelude.{Option as Maybe, Ok, Err}
 use Rattle.solver.specs.Work.{SolvesFor}
 
 -- ---- the split table leads down the best tree
@@ -93,8 +95,9 @@ module _ {w : ℕ → ℕ} {n : ℕ} {ok : ℕ → Bool} {lent_scores lent_split
         go none e = refl
         go (some t) e = absurd (not_marked t e m)
 
-    pub solves_none : {r : Found} → get_or scores all 0 ≡ no_tree → r ≡ without 14 0 → SolvesFor w n ok lent_scores lent_splits r scores splits
-    solves_none m e = record { reply = e ∙ sym (ap (found_of w) (no_best m)); score_table = h.score_table; split_table = h.split_table }
+    pub solves_none : {e : Refusal} → get_or scores all 0 ≡ no_tree → e ≡ record { fault = NoTree; place = 0 }
+        → SolvesFor w n ok lent_scores lent_splits (found_to (Err e)) scores splits
+    solves_none m e = record { reply = ap (λ k. found_to (Err k)) e ∙ sym (ap (found_of w) (no_best m)); score_table = h.score_table; split_table = h.split_table }
 
     -- a tree on all species, where there is one
     record Best : Type 0 where
@@ -125,16 +128,16 @@ module _ {w : ℕ → ℕ} {n : ℕ} {ok : ℕ → Bool} {lent_scores lent_split
           fits = omega (arith, tree-clusters (best_on_lem w ok (whole n) b.tree b.chosen-best), size_whole n);
         }
 
-    pub solves-found : {r : Found} {score : ℕ} → (get_or scores all 0 ≡ no_tree → ⊥) → score ≡ get_or scores all 0
-        → ((t : Binary) → root t ≡ all → Chosen splits t → r ≡ record { number = 0; place = 0; score = score; numbers = record_of (clusters_in t) })
-        → SolvesFor w n ok lent_scores lent_splits r scores splits
-    solves-found {r} {score} f e g =
+    pub solves-found : {s : Solution} {score : ℕ} → (get_or scores all 0 ≡ no_tree → ⊥) → score ≡ get_or scores all 0
+        → ((t : Binary) → root t ≡ all → Chosen splits t → s ≡ record { score = score; numbers = record_of (clusters_in t) })
+        → SolvesFor w n ok lent_scores lent_splits (found_to (Ok s)) scores splits
+    solves-found {s} {score} f e g =
         let b = a_best f in
         let led = led_down b in
         let points : score ≡ score_of w b.tree = e ∙ score_all ∙ ap (score_entry w) b.chosen-best in
         record {
           reply =
-              g b.tree led.0 led.1
+              ap (λ k. found_to (Ok k)) (g b.tree led.0 led.1)
               ∙ ap (λ k. record { number = 0; place = 0; score = k; numbers = record_of (clusters_in b.tree) }) points
               ∙ sym (ap (found_of w) b.chosen-best);
           score_table = h.score_table;
@@ -147,7 +150,7 @@ module _ {w : ℕ → ℕ} {n : ℕ} {ok : ℕ → Bool} {lent_scores lent_split
 abbrev pub held : ℕ → List ℕ → ℕ → ℕ
 held n scores b = get_or (take (2 ^ n) scores) b 0
 
-module _ {allowance : Allowance} {n : ℕ} {allowed scores splits : List ℕ} (h : Fillable allowance n allowed scores splits) where
+module _ {n : ℕ} {allowed : Maybe (List ℕ)} {scores splits : List ℕ} (h : Fillable n allowed scores splits) where
   held_by : (b : ℕ) → Dec (b < 2 ^ n) → held n scores b ≤ 131072
   held_by b (yes l) = omega (arith, get_or-take (2 ^ n) scores b 0 l, h.light b l)
   held_by b (no f) = omega (arith, get_or-eq_default (take (2 ^ n) scores) 0 {n = b} (omega (arith, length-take (2 ^ n) scores, f)))

@@ -1,13 +1,12 @@
 -- Weights made in the first entries of both tables, which are lent by themselves, and what is then chosen from them.
-use Prim.Native.Nat.{ℕ, ◌+◌, ◌-◌, ◌^◌, ◌≤◌}
+use Prim.Native.Nat.{ℕ, ◌^◌, ◌≤◌}
 use mathlib.Core.Path.{◌≡◌, sym, ap, ◌∙◌}
 use mathlib.Core.Bool.{Bool}
 use mathlib.Core.List.{List, ◌++◌, map}
 use native.Mathlib.Omega.{arith}
 use lib.ListN.{length, get_or, take, drop, length-take, length-drop, length-append}
 use lib.Seq.{drop_at}
-use lib.Pow.{pow_pos}
-use Rattle.clusters.specs.Sets.{whole}
+use Rattle.clusters.specs.Sets.{single}
 use Rattle.trees.specs.Lists.{up_to}
 use Rattle.trees.specs.Records.{records_in}
 use Rattle.weights.specs.Count.{weight}
@@ -18,62 +17,63 @@ use Rattle.splits.specs.Work.{Light}
 use Rattle.tables.specs.Work.{Weights, Fillable}
 use Rattle.tables.proofs.Written.{written, written-length, written_at, written-again, written-entries}
 use Rattle.terms.specs.declared.Found.{Found}
-use Rattle.terms.specs.declared.allowing.Allowance.{Allowance}
-use Rattle.terms.specs.declared.allowing.Allowance.TheVariants.{Marked}
+use Rattle.std.specs.Prelude.{Option as Maybe, IfSome}
 use Rattle.weights.specs.declared.Rooting.{Rooting}
 use Rattle.solver.specs.Work.{Checked, SolvesFor, SolvesWeighed}
 
-pub whole_entries : (n : ℕ) {all : ℕ} → all ≡ whole n → all + 1 ≡ 2 ^ n
-unfolding whole
-whole_entries n e = omega (arith, pow_pos n)
-
 -- the first entries of a table, lent by themselves
 abbrev pub lent_part : ℕ → List ℕ → List ℕ
-lent_part entries l = take (entries - 0) (drop 0 l)
+lent_part entries l = take entries l
 
 -- and the table with others in their place
 abbrev pub back_in : ℕ → List ℕ → List ℕ → List ℕ
-back_in entries part l = take 0 l ++ (part ++ drop (entries - 0) (drop 0 l))
+back_in entries part l = part ++ drop entries l
 
-module _ (n : ℕ) {all : ℕ} (is : all ≡ whole n) where
-  part-entries : all + 1 - 0 ≡ 2 ^ n
-  part-entries = omega (arith, whole_entries n is)
+module _ (n : ℕ) {entries : ℕ} (is : entries ≡ single n) where
+  part-entries : entries ≡ 2 ^ n
+  unfolding single
+  part-entries = is
 
   -- they are as many as there are sets of n species
-  pub part-sized : (l : List ℕ) → 2 ^ n ≤ length l → length (lent_part (all + 1) l) ≡ 2 ^ n
-  part-sized l long = omega (arith, length-take (all + 1 - 0) l, part-entries)
+  pub part-sized : (l : List ℕ) → 2 ^ n ≤ length l → length (lent_part entries l) ≡ 2 ^ n
+  part-sized l long = omega (arith, length-take entries l, part-entries)
 
-  back_is : (part l : List ℕ) → back_in (all + 1) part l ≡ part ++ drop (2 ^ n) l
+  back_is : (part l : List ℕ) → back_in entries part l ≡ part ++ drop (2 ^ n) l
   back_is part l = ap (λ (k : ℕ). part ++ drop k l) part-entries
 
   -- which leaves its length
-  pub back_length : (part l : List ℕ) → 2 ^ n ≤ length l → length part ≡ 2 ^ n → length (back_in (all + 1) part l) ≡ length l
+  pub back_length : (part l : List ℕ) → 2 ^ n ≤ length l → length part ≡ 2 ^ n → length (back_in entries part l) ≡ length l
   back_length part l long sized = omega (arith, ap length (back_is part l), length-append part (drop (2 ^ n) l), length-drop (2 ^ n) l)
 
 -- there is an entry for each set
-pub all_fits : (n : ℕ) {all : ℕ} → all ≡ whole n → (l : List ℕ) → 2 ^ n ≤ length l → all + 1 ≤ length l
-all_fits n is l long = omega (arith, whole_entries n is)
+pub all_fits : (n : ℕ) {entries : ℕ} → entries ≡ single n → (l : List ℕ) → 2 ^ n ≤ length l → entries ≤ length l
+unfolding single
+all_fits n is l long = omega arith
+
+-- and so many are lent
+pub all_lent : (n : ℕ) {entries : ℕ} → entries ≡ single n → (l : List ℕ) → 2 ^ n ≤ length l → entries ≡ length (take entries l)
+all_lent n {entries} is l long = omega (arith, length-take entries l, all_fits n is l long)
 
 -- ---- any weights
 
 -- weights that are light, and slices with an entry for each set, the allowed set where it is looked at
-pub record Lent (w : ℕ → ℕ) (allowance : Allowance) (n : ℕ) (allowed scores splits : List ℕ) : Type 0 where
+pub record Lent (w : ℕ → ℕ) (n : ℕ) (allowed : Maybe (List ℕ)) (scores splits : List ℕ) : Type 0 where
   pub light : Light w
   pub few : n ≤ 16
-  pub allowed_long : allowance ≡ Marked → 2 ^ n ≤ length allowed
+  pub allowed_long : IfSome allowed (λ bytes. 2 ^ n ≤ length bytes)
   pub scores_long : 2 ^ n ≤ length scores
   pub splits_long : 2 ^ n ≤ length splits
 
-module _ {w : ℕ → ℕ} {allowance : Allowance} {n : ℕ} {allowed scores splits : List ℕ} (h : Lent w allowance n allowed scores splits) {all : ℕ} (is : all ≡ whole n)
+module _ {w : ℕ → ℕ} {n : ℕ} {allowed : Maybe (List ℕ)} {scores splits : List ℕ} (h : Lent w n allowed scores splits) {entries : ℕ} (is : entries ≡ single n)
     {made : List ℕ} (work : List ℕ) (e : made ≡ map w (up_to (2 ^ n))) (sized : length work ≡ 2 ^ n) where
-  is_written : back_in (all + 1) made scores ≡ written w (2 ^ n) scores
+  is_written : back_in entries made scores ≡ written w (2 ^ n) scores
   is_written = back_is n is made scores ∙ ap (λ (l : List ℕ). l ++ drop (2 ^ n) scores) e ∙ sym (written-entries w (2 ^ n) scores)
 
-  holds-weights : Weights n w (back_in (all + 1) made scores)
+  holds-weights : Weights n w (back_in entries made scores)
   holds-weights b l = ap (λ t. get_or t b 0) is_written ∙ written_at w (2 ^ n) scores b l
 
   -- the tables can be filled from the weights
-  pub weights_fillable : Fillable allowance n allowed (back_in (all + 1) made scores) (back_in (all + 1) work splits)
+  pub weights_fillable : Fillable n allowed (back_in entries made scores) (back_in entries work splits)
   weights_fillable =
       record {
         few = h.few;
@@ -85,7 +85,7 @@ module _ {w : ℕ → ℕ} {allowance : Allowance} {n : ℕ} {allowed scores spl
 
   -- and what stood in both tables is not seen
   pub weights_solve :
-      {ok : ℕ → Bool} {r : Found} {scores' splits' : List ℕ} → SolvesWeighed n ok (back_in (all + 1) made scores) (back_in (all + 1) work splits) r scores' splits'
+      {ok : ℕ → Bool} {r : Found} {scores' splits' : List ℕ} → SolvesWeighed n ok (back_in entries made scores) (back_in entries work splits) r scores' splits'
       → SolvesFor w n ok scores splits r scores' splits'
   weights_solve {ok} {r} {scores'} {splits'} solves =
       let s = solves w h.light holds-weights in
@@ -97,20 +97,20 @@ module _ {w : ℕ → ℕ} {allowance : Allowance} {n : ℕ} {allowed scores spl
       other : ℕ → ℕ
       other a = split_entry (best w ok a)
 
-      rest : drop (2 ^ n) (back_in (all + 1) work splits) ≡ drop (2 ^ n) splits
+      rest : drop (2 ^ n) (back_in entries work splits) ≡ drop (2 ^ n) splits
       rest = ap (drop (2 ^ n)) (back_is n is work splits) ∙ drop_at work (drop (2 ^ n) splits) (2 ^ n) sized
 
-      behind : filled n entry (back_in (all + 1) made scores) ≡ filled n entry scores
+      behind : filled n entry (back_in entries made scores) ≡ filled n entry scores
       behind =
-          sym (written-entries entry (2 ^ n) (back_in (all + 1) made scores)) ∙ ap (written entry (2 ^ n)) is_written
+          sym (written-entries entry (2 ^ n) (back_in entries made scores)) ∙ ap (written entry (2 ^ n)) is_written
           ∙ written-again entry w (2 ^ n) scores
           ∙ written-entries entry (2 ^ n) scores
 
 -- ---- the weights of gene trees that were checked
 
-pub checked-lent : {rooting : Rooting} {allowance : Allowance} {n : ℕ} {genes : List ℕ} {count : ℕ} {allowed scores splits : List ℕ}
-    → Checked rooting allowance n genes count allowed scores splits → Lent (weight rooting (records_in count genes)) allowance n allowed scores splits
-checked-lent {rooting} {allowance} {n} {genes} h =
+pub checked-lent : {rooting : Rooting} {n : ℕ} {genes : List ℕ} {count : ℕ} {allowed : Maybe (List ℕ)} {scores splits : List ℕ}
+    → Checked rooting n genes count allowed scores splits → Lent (weight rooting (records_in count genes)) n allowed scores splits
+checked-lent {rooting} {n} {genes} h =
     record {
       light = λ b. omega (arith, weight-small rooting genes b h.weighable.few_genes (valid-countable h.weighable.few_species h.weighable.valid));
       few = h.weighable.few_species;

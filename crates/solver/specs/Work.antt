@@ -1,5 +1,5 @@
 -- What the parts of the search ask of one another.
-use Rattle.std.specs.Prelude.{ℕ, ◌^◌, ◌≤◌, ◌≡◌, Bool, List, length}
+use Rattle.std.specs.Prelude.{ℕ, ◌^◌, ◌≤◌, ◌≡◌, Bool, List, length, Option, IfSome}
 use Rattle.clusters.specs.Sets.{whole}
 use Rattle.weights.specs.Count.{weight}
 use Rattle.sums.specs.Work.{Weighable}
@@ -8,15 +8,13 @@ use Rattle.splits.specs.Best.{found_of}
 use Rattle.splits.specs.Work.{Light}
 use Rattle.tables.specs.Work.{Weights}
 use Rattle.terms.specs.declared.Found.{Found}
-use Rattle.terms.specs.declared.allowing.Allowance.{Allowance}
-use Rattle.terms.specs.declared.allowing.Allowance.TheVariants.{Marked}
 use Rattle.weights.specs.declared.Rooting.{Rooting}
 
 -- gene trees and slices that were checked, the allowed set where it is looked at
-pub record Checked (rooting : Rooting) (allowance : Allowance) (n : ℕ) (genes : List ℕ) (count : ℕ) (allowed scores splits : List ℕ) : Type 0 where
+pub record Checked (rooting : Rooting) (n : ℕ) (genes : List ℕ) (count : ℕ) (allowed : Option (List ℕ)) (scores splits : List ℕ) : Type 0 where
   pub some_species : 1 ≤ n
   pub weighable : Weighable rooting n genes count
-  pub allowed_long : allowance ≡ Marked → 2 ^ n ≤ length allowed
+  pub allowed_long : IfSome allowed (λ bytes. 2 ^ n ≤ length bytes)
   pub scores_long : 2 ^ n ≤ length scores
   pub splits_long : 2 ^ n ≤ length splits
 

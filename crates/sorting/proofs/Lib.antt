@@ -1,2 +1,2 @@
-pub mod Insertion
 pub mod Narrowing
+pub mod OneOrder

@@ -2,7 +2,6 @@
 ghost use Rattle.std.specs.Prelude.{◌≡◌, ◌≤◌, length, take};
 ghost use Rattle.trees.specs.Records.{record_for};
 
-use crate::fill;
 use trees::WideRecord;
 
 // The wide record of the first count clusters, which come in any order. `reader` calls it with the clusters that it has stored.
@@ -13,6 +12,8 @@ pub fn record_of(clusters: &[u32], count: usize) -> WideRecord
 {
     let mut numbers = [0u32; 64];
     numbers[0] = count as u32;
-    fill(clusters, count, &mut numbers);
+    let listed = &mut numbers[1..=count];
+    listed.copy_from_slice(&clusters[..count]);
+    listed.sort_unstable();
     WideRecord { numbers }
 }

@@ -9,22 +9,18 @@ ghost use Rattle.report.specs.Promise.{output};
 use std::io;
 use std::io::{Read, Write};
 
-// Room for one byte more than the longest text that is not refused.
-fn room() -> [u8; 65537]
-    ensures { text_most + 1 ≡ length result }
-{
-    [0u8; 65537]
-}
+// One byte more than the longest text that is not refused.
+const ROOM: usize = 65537;
 
 // The program between a reader and a writer: where all is read and written, what it writes is the output for what there was to read.
+#[tactic(auto, using(report::proofs::Outcomes::reported_within))]
 pub fn run<R: Read, W: Write>(from: &mut R, to: &mut W) -> io::Result<()>
     ensures { OnOk result (IfSome (R.remaining from.old) (λ input. Appends (W.contents to.old) (W.contents to.new) (output input))) }
 {
-    let mut input = room();
+    let mut input = [0; ROOM];
     let n = streams::read_full(from, &mut input)?;
     let report = report::report(&input[..n]);
-    let text = report.text;
-    to.write_all(&text[..report.len])
+    to.write_all(&report.text[..report.len])
 }
 
 fn main(rt: HostRuntime) -> io::Result<()> {

@@ -12,6 +12,7 @@ use native.Mathlib.Omega.{arith}
 use lib.Bits.{bit_and}
 use lib.Dec.{leb}
 use borrow.Author.Tests.{leb-true, le-leb}
+use Rattle.std.specs.Prelude.{Some}
 use Rattle.clusters.specs.Sets.{Has, Within, size, single, lowest}
 use Rattle.clusters.proofs.Members.{has_of_within, within_of_has, single-has, union-has_left}
 use Rattle.clusters.proofs.Sets.{within-refl, within-le, within_trans, single-within, union-within, apart-union-sum, apart-within, minus_within, minus_apart, minus_has, has_minus, apart-sym}
@@ -23,6 +24,8 @@ use Rattle.trees.proofs.Listing.{keep-among, among-keep}
 use Rattle.trees.proofs.Order.{rising_same}
 use Rattle.splits.specs.BinaryTrees.{lows}
 use Rattle.splits.specs.WellFormed.{LowPart}
+use Rattle.splits.specs.Falling.{LowPartSteps}
+use Rattle.splits.specs.declared.parts.LowParts.{LowParts}
 use Rattle.splits.proofs.LowParts.{among-lows, lows-among, rising-lows, rising-keep, rising_cons}
 
 -- the low parts of a from m on
@@ -171,6 +174,10 @@ module _ {a : ℕ} (below : a < 2 ^ 32) (two : 2 ≤ size a) where
     rw p (walk-low v l),
     rw (v.lowest_alone, p, v.others) (lows_from-step a (some_of_size (omega arith)) below (rw v.others at v.part) l),
   )
+
+  -- the same for what a step gives
+  pub step_low : (s t : LowParts) {x : ℕ} → Walk a s.low s.rest s.left → LowPartSteps s (Some x) t → LowPart a x
+  step_low s t v st = rw (st.1, st.2) (walk-low v st.0)
 
   -- and at last all are met
   pub met_end : (s : ℕ) → s ≤ 0 → met a s ≡ lows a

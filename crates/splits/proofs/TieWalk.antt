@@ -15,6 +15,9 @@ use Rattle.trees.specs.Lists.{total}
 use Rattle.trees.proofs.Totals.{total_same, total-le}
 use Rattle.splits.specs.BinaryTrees.{lows}
 use Rattle.splits.specs.WellFormed.{LowPart}
+use Rattle.std.specs.Prelude.{Some}
+use Rattle.splits.specs.Falling.{LowPartSteps}
+use Rattle.splits.specs.declared.parts.LowParts.{LowParts}
 use Rattle.splits.specs.Ties.{tree_count}
 use Rattle.splits.specs.Work.{only, tied_at, ties_over, Counted, Room}
 use Rattle.splits.proofs.LowParts.{among-lows, low_some}
@@ -131,3 +134,12 @@ module _ {scores ties : List ℕ} {a least low rest count s : ℕ} (v : Summed s
   pub summed_end : s ≤ 0 → count ≡ ties_over (λ b. get_or scores b 0) (λ b. get_or ties b 0) a least
   unfolding ties_over
   summed_end l = v.same ∙ ap (λ k. total (map (tied_at (λ b. get_or scores b 0) (λ b. get_or ties b 0) a least) k)) (met_end (omega arith) two s l)
+
+-- the same for what a step gives
+module _ {scores ties : List ℕ} {a least count x : ℕ} (s t : LowParts) (v : Summed scores ties a least s.low s.rest count s.left) (below : a < 65536) (two : 2 ≤ size a)
+    (st : LowPartSteps s (Some x) t) where
+  pub step_room : Counted a ties → Room a x count ties
+  step_room h = rw st.1 (summed_room v below two h st.0 st.2)
+
+  pub summed_step : {count' : ℕ} → count' ≡ count + tied_at (λ b. get_or scores b 0) (λ b. get_or ties b 0) a least x → Summed scores ties a least t.low t.rest count' t.left
+  summed_step q = rw (st.3, st.4) (summed_next v below two st.0 st.2 (rw st.1 at q))

@@ -5,3 +5,4 @@ pub mod Least
 pub mod Ties
 pub mod Best
 pub mod Work
+pub mod Falling

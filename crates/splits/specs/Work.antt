@@ -1,5 +1,5 @@
 -- What the functions that look for the best split ask of one another.
-use Rattle.std.specs.Prelude.{ℕ, ◌+◌, ◌-◌, ◌*◌, ◌≤◌, ◌<◌, ◌≡◌, ◌⊎◌, Bool, true, false, ◌||◌, get_or, eqb, leb}
+use Rattle.std.specs.Prelude.{ℕ, ◌+◌, ◌-◌, ◌*◌, ◌≤◌, ◌<◌, ◌≡◌, ◌⊎◌, Bool, true, false, ◌||◌, get_or, eqb, leb, Option, Some, None, IfSome}
 use Rattle.std.proofs.Math.Option.{none}
 use mathlib.Core.List.{List, map, foldr}
 use Rattle.clusters.specs.Sets.{size}
@@ -20,9 +20,9 @@ Light w = (b : ℕ) → w b ≤ 131072
 abbrev pub Scored : ℕ → List ℕ → Type 0
 Scored a scores = (b : ℕ) → b < a → (get_or scores b 0 ≡ no_tree) ⊎ (get_or scores b 0 < 8388608)
 
--- a split has the mark for its score, or a sum that can be added to; its low part is no more than a
+-- a split has a score that can be added to, and its low part is no more than a
 pub record Small (a : ℕ) (s : Split) : Type 0 where
-  pub score : (s.score ≡ no_tree) ⊎ (s.score < 16777216)
+  pub score : s.score < 16777216
   pub low : s.low ≤ a
 
 -- ---- the split of one cluster
@@ -45,6 +45,16 @@ better_split x y low s = split_unless (eqb x no_tree || eqb y no_tree) s (lesser
 abbrev pub no_split : Split
 no_split = record { score = no_tree; low = 0 }
 
+-- a split that was found, or none yet
+abbrev pub split_or : Option Split → Split
+split_or None = no_split
+split_or (Some s) = s
+
+-- of a split so far and one at a low part of a, whose parts have the entries x and y, this is the better
+pub record Bettered (x y a low : ℕ) (best r : Option Split) : Type 0 where
+  pub value : split_or r ≡ better_split x y low (split_or best)
+  pub small : IfSome best (Small a) → IfSome r (Small a)
+
 -- the split at a low part of a, where it is better than the one so far; e gives the entries of the score table
 abbrev pub consider : (ℕ → ℕ) → ℕ → ℕ → Split → Split
 consider e a low s = better_split (e low) (e (a - low)) low s
@@ -63,11 +73,11 @@ pub record SplitOfBest (w : ℕ → ℕ) (ok : ℕ → Bool) (a : ℕ) (s : Spli
   pub missing : s.score ≡ no_tree → best w ok a ≡ none
   pub score : (s.score ≡ no_tree → ⊥) → score_entry w (best w ok a) ≡ w a + s.score
 
--- the best split of a cluster of two or more species by a score table, whatever the weights and the allowed set that the entries below it come from
-pub record BestSplit (scores : List ℕ) (a : ℕ) (s : Split) : Type 0 where
-  pub least : s ≡ least_split (λ b. get_or scores b 0) a
-  pub small : Small a s
-  pub of_best : (w : ℕ → ℕ) (ok : ℕ → Bool) → Light w → ok a ≡ true → ScoresBelow w ok a scores → SplitOfBest w ok a s
+-- the best split of a cluster of two or more species by a score table, if there is one, whatever the weights and the allowed set that the entries below it come from
+pub record BestSplit (scores : List ℕ) (a : ℕ) (r : Option Split) : Type 0 where
+  pub least : split_or r ≡ least_split (λ b. get_or scores b 0) a
+  pub small : IfSome r (Small a)
+  pub of_best : (w : ℕ → ℕ) (ok : ℕ → Bool) → Light w → ok a ≡ true → ScoresBelow w ok a scores → SplitOfBest w ok a (split_or r)
 
 -- ---- the ties of one cluster
 

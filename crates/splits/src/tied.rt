@@ -3,6 +3,8 @@ ghost use Rattle.std.specs.Prelude.{◌≡◌, ◌+◌, ◌*◌, ◌<◌, ◌≤
 ghost use Rattle.clusters.specs.Sets.{size};
 ghost use Rattle.splits.specs.Work.{tied_at, ties_over, Counted, Room};
 
+use crate::parts::LowParts;
+
 // The ties so far and those of one more least split: each tree of the one part with each of the other.
 fn with_split(count: u64, low: u64, other: u64) -> u64
     requires { count + low * other < 18446744073709551616 }
@@ -37,13 +39,9 @@ pub fn tied_splits(scores: &[u32], ties: &[u64], a: u32, least: u64) -> u64
     requires counted { Counted a ties.now }
     ensures { result ≡ ties_over (λ b. get_or scores.now b 0) (λ b. get_or ties.now b 0) a least }
 {
-    let low = clusters::single(clusters::lowest(a) as usize);
-    let rest = a - low;
-    let mut count: u64 = 0;
-    let mut s = rest;
-    while 0 < s {
-        s = (s - 1) & rest;
-        count = add_split(scores, ties, a, low + s, least, count);
+    let mut count = 0;
+    for low in LowParts::of(a) {
+        count = add_split(scores, ties, a, low, least, count);
     }
     count
 }

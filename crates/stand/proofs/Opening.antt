@@ -1,22 +1,26 @@
 -- A stand that was opened: what its first tests say of all tests of a call, and what holds where they find nothing.
-use Prim.Native.Nat.{ℕ, zero, suc, ◌-◌, ◌*◌, ◌≤◌, ◌<◌}
-use mathlib.Core.Path.{◌≡◌, refl, sym, ap, ◌∙◌}
+use Prim.Native.Nat.{ℕ, ◌-◌, ◌*◌, ◌≤◌, ◌<◌}
+use mathlib.Core.Path.{◌≡◌, sym, ap, ◌∙◌}
 use mathlib.Core.Bool.{◌&&◌}
+use mathlib.Core.Logic.{◌⊎◌, inl, inr}
 use mathlib.Core.List.{List, [], ◌∷◌, ◌++◌}
 use native.Mathlib.Omega.{arith}
 use lib.ListN.{length, take, replicate, length-append}
 use lib.Seq.{take-append_seam}
 use lib.Dec.{leb}
 use borrow.Author.Tests.{lt-ltb, le-ltb, le-leb, lt-leb, leb-true, ltb-false, not-false}
+use Rattle.std.proofs.Common.{Ok, Err}
+use Rattle.faults.specs.Faults.{number as fault_number}
+use Rattle.faults.specs.declared.Refusal.{Refusal}
 use Rattle.roster.specs.Roster.{names}
-use Rattle.roster.specs.Verdict.{Test, Verdict, verdict, length_test, value_by}
+use Rattle.roster.specs.Verdict.{Test, Verdict, verdict, length_test}
 use Rattle.roster.proofs.Names.{names-count}
 use Rattle.trees.proofs.Booleans.{both}
 use Rattle.lineages.specs.Checks.{count_test}
 use Rattle.lineages.specs.Work.{said}
-use Rattle.lineages.proofs.Verdicts.{NoneGives, verdict_first, verdict-passed, verdict-rest, verdict_both}
+use Rattle.lineages.proofs.Verdicts.{NoneGives, refused_first, verdict-passed, verdict-rest, verdict_both}
 use Rattle.mapping.specs.Groups.{groups}
-use Rattle.mapping.specs.Promise.{roster_test, mapping_test, stand_tests, groups_by, stand_of, StandParsed}
+use Rattle.mapping.specs.Promise.{roster_test, mapping_test, stand_tests, StandParsed}
 use Rattle.mapping.specs.declared.Stand.{Stand}
 use Rattle.mapping.proofs.Judging.{groups-length}
 use Rattle.stand.specs.Checks.{open_tests}
@@ -28,13 +32,10 @@ abbrev pub genes_lent : List ℕ → ℕ → List Test
 genes_lent genes count = count_test count ∷ length_test (length genes) (64 * count) ∷ []
 
 module _ (genes : List ℕ) (count : ℕ) where
-  pub none_lent : count < 1 → verdict (genes_lent genes count) ≡ said 11 0
+  pub wrong_count : (count < 1) ⊎ ((1 ≤ count) × (4096 < count)) → verdict (genes_lent genes count) ≡ said 11 0
   unfolding verdict count_test
-  none_lent h = rw (lt-leb 1 count h)
-
-  pub many_lent : 4096 < count → verdict (genes_lent genes count) ≡ said 11 0
-  unfolding verdict count_test
-  many_lent h = rw (le-leb 1 count (omega arith), lt-leb count 4096 h)
+  wrong_count (inl h) = rw (lt-leb 1 count h)
+  wrong_count (inr h) = rw (le-leb 1 count h.0, lt-leb count 4096 h.1)
 
   module _ (some : 1 ≤ count) (few : count ≤ 4096) where
     pub short-lent : length genes < 64 * count → verdict (genes_lent genes count) ≡ said 12 0
@@ -57,65 +58,42 @@ unfolding NoneGives open_tests stand_tests roster_test mapping_test count_test l
 open_numbered line individuals mapping genes count =
     (λ z. omega arith, (λ z. omega arith, (λ z. omega arith, (λ z. omega arith, (λ z. omega arith, tt)))))
 
-module _ (line individuals mapping : List ℕ) (stand : Stand) (parsed : StandParsed line individuals mapping stand) (good : stand.number ≡ 0) where
-  none_refuses : (verdict (stand_tests line individuals mapping)).number ≡ 0
-  unfolding StandParsed
-  none_refuses = sym (ap (λ (s : Stand). s.number) parsed) ∙ good
-
-  -- a stand without a fault passes all its tests
-  pub stand-passed : verdict (stand_tests line individuals mapping) ≡ said 0 0
-  unfolding stand_tests verdict
-  stand-passed = verdict-rest (stand_tests line individuals mapping) [] (stand-numbered line individuals mapping) none_refuses
-
-  -- and then the others decide
-  stand-told : (rest : List Test) → verdict (stand_tests line individuals mapping ++ rest) ≡ verdict rest
-  stand-told rest = verdict-rest (stand_tests line individuals mapping) rest (stand-numbered line individuals mapping) none_refuses
-
-module _ (line individuals mapping genes : List ℕ) (count : ℕ) (stand : Stand) (parsed : StandParsed line individuals mapping stand) where
-  abbrev said_of : Verdict → Stand
-  said_of v = stand_of v (length (names line)) (length (names individuals)) (groups (names line) (names individuals) mapping)
-
-  pub opened-refused : (stand.number ≡ 0 → ⊥) → StandOpened line individuals mapping genes count stand
+module _ (line individuals mapping genes : List ℕ) (count : ℕ) where
+  pub opened-refused : (e : Refusal) → StandParsed line individuals mapping (Err e) → StandOpened line individuals mapping genes count (Err e)
   unfolding StandParsed StandOpened open_tests
-  opened-refused some =
-      let told : verdict (stand_tests line individuals mapping) ≡ said stand.number stand.place = sym (ap (λ (s : Stand). said s.number s.place) parsed) in
-      parsed ∙ ap said_of (told ∙ sym (verdict_first (stand_tests line individuals mapping) (genes_lent genes count) told some))
+  opened-refused e parsed = (sym (refused_first (stand_tests line individuals mapping) (genes_lent genes count) e parsed.0), tt)
 
-  module _ (good : stand.number ≡ 0) where
-    pub opened-shut : {number : ℕ} {r : Stand} → verdict (genes_lent genes count) ≡ said number 0 → (number ≡ 0 → ⊥)
-        → r ≡ record { number = number; place = 0; species = 0; individuals = 0; groups = replicate 16 0 }
-        → StandOpened line individuals mapping genes count r
+  module _ (stand : Stand) (parsed : StandParsed line individuals mapping (Ok stand)) where
+    -- behind a stand without a fault the others decide
+    stand-told : (rest : List Test) → verdict (stand_tests line individuals mapping ++ rest) ≡ verdict rest
+    unfolding StandParsed
+    stand-told rest =
+        verdict-rest (stand_tests line individuals mapping) rest (stand-numbered line individuals mapping) (ap (λ (v : Verdict). v.number) (sym parsed.0))
+
+    pub opened-shut : (e : Refusal) → said (fault_number e.fault) e.place ≡ verdict (genes_lent genes count) → StandOpened line individuals mapping genes count (Err e)
     unfolding StandOpened open_tests
-    opened-shut {number} told some is =
-        is ∙ shut number some
-        ∙ ap said_of (sym (stand-told line individuals mapping stand parsed good (genes_lent genes count) ∙ told))
-      where
-        shut : (k : ℕ) → (k ≡ 0 → ⊥) → record { number = k; place = 0; species = 0; individuals = 0; groups = replicate 16 0 } ≡ said_of (said k 0)
-        shut zero f = absurd (f refl)
-        shut (suc k) f = refl
+    opened-shut e told = (told ∙ sym (stand-told (genes_lent genes count)), tt)
 
-    pub opened-good : {number : ℕ} → verdict (genes_lent genes count) ≡ said number 0 → number ≡ 0 → StandOpened line individuals mapping genes count stand
+    pub opened-good : said 0 0 ≡ verdict (genes_lent genes count) → StandOpened line individuals mapping genes count (Ok stand)
     unfolding StandParsed StandOpened open_tests
-    opened-good {number} told zeroth =
-        parsed
-        ∙ ap said_of
-        (stand-passed line individuals mapping stand parsed good
-        ∙ sym (stand-told line individuals mapping stand parsed good (genes_lent genes count) ∙ told ∙ ap (λ (k : ℕ). said k 0) zeroth))
+    opened-good told = (told ∙ sym (stand-told (genes_lent genes count)), parsed.1)
 
 -- ---- what an opened stand says of all tests of a call
 
-module _ (line individuals mapping genes : List ℕ) (count : ℕ) (stand : Stand) (opened : StandOpened line individuals mapping genes count stand) where
-  pub closed-told : (rest : List Test) → (stand.number ≡ 0 → ⊥) → verdict (open_tests line individuals mapping genes count ++ rest) ≡ said stand.number stand.place
+module _ (line individuals mapping genes : List ℕ) (count : ℕ) where
+  pub closed-told :
+      (rest : List Test) (e : Refusal) → StandOpened line individuals mapping genes count (Err e)
+      → verdict (open_tests line individuals mapping genes count ++ rest) ≡ said (fault_number e.fault) e.place
   unfolding StandOpened
-  closed-told rest some =
-      verdict_first (open_tests line individuals mapping genes count) rest (sym (ap (λ (s : Stand). said s.number s.place) opened)) some
+  closed-told rest e opened = refused_first (open_tests line individuals mapping genes count) rest e opened.0
 
-  tests-pass : stand.number ≡ 0 → (verdict (open_tests line individuals mapping genes count)).number ≡ 0
-  unfolding StandOpened
-  tests-pass good = sym (ap (λ (s : Stand). s.number) opened) ∙ good
+  module _ (stand : Stand) (opened : StandOpened line individuals mapping genes count (Ok stand)) where
+    tests-pass : (verdict (open_tests line individuals mapping genes count)).number ≡ 0
+    unfolding StandOpened
+    tests-pass = ap (λ (v : Verdict). v.number) (sym opened.0)
 
-  pub open_told : (rest : List Test) → stand.number ≡ 0 → verdict (open_tests line individuals mapping genes count ++ rest) ≡ verdict rest
-  open_told rest good = verdict-rest (open_tests line individuals mapping genes count) rest (open_numbered line individuals mapping genes count) (tests-pass good)
+    pub open_told : (rest : List Test) → verdict (open_tests line individuals mapping genes count ++ rest) ≡ verdict rest
+    open_told rest = verdict-rest (open_tests line individuals mapping genes count) rest (open_numbered line individuals mapping genes count) tests-pass
 
 -- ---- accepted exactly
 
@@ -173,19 +151,18 @@ pub record Opened (line individuals mapping genes : List ℕ) (count : ℕ) (sta
   pub groups_long : stand.species ≤ length stand.groups
 
 pub is_opened :
-    (line individuals mapping genes : List ℕ) (count : ℕ) (stand : Stand) → StandOpened line individuals mapping genes count stand → stand.number ≡ 0
+    (line individuals mapping genes : List ℕ) (count : ℕ) (stand : Stand) → StandOpened line individuals mapping genes count (Ok stand)
     → Opened line individuals mapping genes count stand
 unfolding StandOpened
-is_opened line individuals mapping genes count stand opened good =
-    let none = tests-pass line individuals mapping genes count stand opened good in
+is_opened line individuals mapping genes count stand opened =
     let sets = groups (names line) (names individuals) mapping in
     let sized = groups-length (names line) (names individuals) mapping in
-    let species : stand.species ≡ length (names line) = ap (λ (s : Stand). s.species) opened ∙ ap (λ (k : ℕ). value_by k (length (names line))) none in
-    let held : stand.groups ≡ sets ++ replicate (16 - length sets) 0 = ap (λ (s : Stand). s.groups) opened ∙ ap (λ (k : ℕ). groups_by k sets) none in
+    let species : stand.species ≡ length (names line) = ap (λ (s : Stand). s.species) opened.1 in
+    let held : stand.groups ≡ sets ++ replicate (16 - length sets) 0 = ap (λ (s : Stand). s.groups) opened.1 in
     record {
-      openable = tests-openable line individuals mapping genes count none;
+      openable = tests-openable line individuals mapping genes count (tests-pass line individuals mapping genes count stand opened);
       species_are = species;
-      individuals_are = ap (λ (s : Stand). s.individuals) opened ∙ ap (λ (k : ℕ). value_by k (length (names individuals))) none;
+      individuals_are = ap (λ (s : Stand). s.individuals) opened.1;
       groups_are = rw (held, species, ← sized) (take-append_seam sets (replicate (16 - length sets) 0));
       groups_long = omega (arith, ap length held, length-append sets (replicate (16 - length sets) 0), species, sized);
     }

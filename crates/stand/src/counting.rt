@@ -1,10 +1,27 @@
 // The weight of a cluster and the score of a species tree on a stand.
+ghost use Rattle.std.specs.Prelude.{◌≡◌, length};
+ghost use Rattle.roster.specs.Judged.{reply_to};
 ghost use Rattle.stand.specs.Promise.{StandWeighs, StandScores};
 
-use crate::checks::{first_bad, opened};
+use crate::checks::{Given, judge_records, opened};
+use faults::{Fault, Refusal};
 use lineages::checks::{is_cluster, is_species_tree};
-use roster::{Reply, done, refused};
+use roster::Reply;
 use weights::wide::{weigh_stand, weigh_stand_tree};
+
+// The weight of a cluster, or why there is none.
+fn weighed(given: &Given, cluster: usize) -> Result<usize, Refusal>
+    ensures { StandWeighs given.now.line.now given.now.individuals.now given.now.mapping.now given.now.genes.now given.now.count cluster (reply_to result) }
+{
+    let Given { genes, count, .. } = *given;
+    let stand = opened(given)?;
+    judge_records(stand.individuals, genes, count)?;
+    if !is_cluster(stand.species, cluster) {
+        return Err(Fault::NoCluster.at(cluster));
+    }
+    let weight = weigh_stand(&stand.groups, stand.species, genes, count, cluster as u32);
+    Ok(weight)
+}
 
 // The weight of a cluster of species: the sum over all gene trees of the extra lineages of its individuals.
 pub fn weight(
@@ -17,20 +34,28 @@ pub fn weight(
 ) -> Reply
     ensures { StandWeighs line.now individuals.now mapping.now genes.now count cluster result }
 {
-    let stand = opened(line, individuals, mapping, genes, count);
-    if stand.number != 0 {
-        return refused(stand.number, stand.place);
+    let given = Given {
+        line,
+        individuals,
+        mapping,
+        genes,
+        count,
+    };
+    roster::reply_to(weighed(&given, cluster))
+}
+
+// The score of a species record, or why there is none.
+fn scored(given: &Given, species: &[u16]) -> Result<usize, Refusal>
+    requires { length species.now ≡ 32 }
+    ensures { StandScores given.now.line.now given.now.individuals.now given.now.mapping.now given.now.genes.now given.now.count species.now (reply_to result) }
+{
+    let Given { genes, count, .. } = *given;
+    let stand = opened(given)?;
+    if !is_species_tree(stand.species, species) {
+        return Err(Fault::BadSpeciesRecord.at(0));
     }
-    let bad = first_bad(stand.individuals, genes, count);
-    if bad < count {
-        return refused(15, bad);
-    }
-    if is_cluster(stand.species, cluster) {
-        let groups = stand.groups;
-        let weight = weigh_stand(&groups, stand.species, genes, count, cluster as u32);
-        return done(weight);
-    }
-    refused(13, cluster)
+    judge_records(stand.individuals, genes, count)?;
+    Ok(weigh_stand_tree(&stand.groups, stand.species, genes, count, species))
 }
 
 // The score of a species tree: the sum of the weights of all its clusters, single species among them.
@@ -44,19 +69,12 @@ pub fn score(
 ) -> Reply
     ensures { StandScores line.now individuals.now mapping.now genes.now count species.numbers result }
 {
-    let stand = opened(line, individuals, mapping, genes, count);
-    if stand.number != 0 {
-        return refused(stand.number, stand.place);
-    }
-    let numbers = species.numbers;
-    if is_species_tree(stand.species, &numbers) {
-        let bad = first_bad(stand.individuals, genes, count);
-        if bad < count {
-            return refused(15, bad);
-        }
-        let groups = stand.groups;
-        let score = weigh_stand_tree(&groups, stand.species, genes, count, &numbers);
-        return done(score);
-    }
-    refused(16, 0)
+    let given = Given {
+        line,
+        individuals,
+        mapping,
+        genes,
+        count,
+    };
+    roster::reply_to(scored(&given, &species.numbers))
 }

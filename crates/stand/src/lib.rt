@@ -8,16 +8,12 @@ mod searching;
 ghost use Rattle.stand.specs.Promise.{StandJudged};
 
 pub use counting::{score, weight};
-use roster::{Reply, done, refused};
+use roster::Reply;
 pub use searching::search;
 
 // A stand judged: how many individuals it has.
 pub fn judge(line: &[u8], individuals: &[u8], mapping: &[u8]) -> Reply
     ensures { StandJudged line.now individuals.now mapping.now result }
 {
-    let stand = mapping::judge(line, individuals, mapping);
-    if stand.number != 0 {
-        return refused(stand.number, stand.place);
-    }
-    done(stand.individuals)
+    roster::reply_to(mapping::judge(line, individuals, mapping).map(|stand| stand.individuals))
 }

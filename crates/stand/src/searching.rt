@@ -3,17 +3,20 @@ ghost use Rattle.std.specs.Prelude.{take};
 ghost use Rattle.trees.specs.Records.{wide_records_in};
 ghost use Rattle.weights.specs.Stand.{stand_weight};
 ghost use Rattle.terms.specs.Allowed.{allowed_in};
+ghost use Rattle.terms.specs.Answers.{found_to};
 ghost use Rattle.solver.specs.Work.{SolvesFor};
 ghost use Rattle.stand.specs.Work.{Solvable};
 ghost use Rattle.stand.specs.Promise.{StandFinds};
 
-use crate::checks::{first_bad, opened};
+use crate::checks::{Given, judge_records, opened};
+use faults::Refusal;
+use search::long_enough;
 use solver::choose;
 use sums::stand::fill_stand;
-use terms::allowing::{Allowance, first_strange};
-use terms::{Found, refused};
+use terms::allowing::judge_allowed;
+use terms::{Found, Solution};
 
-// Fills both tables for gene trees that were checked, and answers the tree that they choose.
+// Fills both tables for gene trees that were checked, and answers the tree that they choose. `solver::solve` is the same over other weights: two calls, no plainer as one.
 fn solve_stand(
     n: usize,
     groups: &[u32],
@@ -22,22 +25,39 @@ fn solve_stand(
     allowed: &[u8],
     scores: &mut [u32],
     splits: &mut [u16],
-) -> Found
+) -> Result<Solution, Refusal>
     requires { Solvable n groups.now genes.now count allowed.now scores.old splits.old }
-    ensures { SolvesFor (λ a. stand_weight (take n groups.now) (wide_records_in count genes.now) a) n (allowed_in n allowed.now) scores.old splits.old result scores.new splits.new }
+    ensures { SolvesFor (λ a. stand_weight (take n groups.now) (wide_records_in count genes.now) a) n (allowed_in n allowed.now) scores.old splits.old (found_to result) scores.new splits.new }
 {
-    let all = clusters::whole(n) as usize;
-    let entries = all + 1;
+    let entries = clusters::single(n) as usize;
     // the split table is work space until it is filled
     fill_stand(
         n,
         groups,
         genes,
         count,
-        &mut scores[0..entries],
-        &mut splits[0..entries],
+        &mut scores[..entries],
+        &mut splits[..entries],
     );
-    choose(Allowance::Marked, n, allowed, scores, splits)
+    choose(n, Some(allowed), scores, splits)
+}
+
+// The checks, then the tree that both tables choose.
+fn searched(
+    given: &Given,
+    allowed: &[u8],
+    scores: &mut [u32],
+    splits: &mut [u16],
+) -> Result<Solution, Refusal>
+    ensures { StandFinds given.now.line.now given.now.individuals.now given.now.mapping.now given.now.genes.now given.now.count allowed.now scores.old splits.old (found_to result) scores.new splits.new }
+{
+    let Given { genes, count, .. } = *given;
+    let stand = opened(given)?;
+    let n = stand.species;
+    long_enough(clusters::single(n) as usize, allowed, scores, splits)?;
+    judge_records(stand.individuals, genes, count)?;
+    judge_allowed(n, allowed)?;
+    solve_stand(n, &stand.groups, genes, count, allowed, scores, splits)
 }
 
 // The first least-scoring binary species tree over the allowed clusters, for gene trees on individuals; both tables are filled on the way.
@@ -53,30 +73,12 @@ pub fn search(
 ) -> Found
     ensures { StandFinds line.now individuals.now mapping.now genes.now count allowed.now scores.old splits.old result scores.new splits.new }
 {
-    let stand = opened(line, individuals, mapping, genes, count);
-    if stand.number != 0 {
-        return refused(stand.number, stand.place);
-    }
-    let entries = clusters::single(stand.species) as usize;
-    if !search::long_enough(entries, allowed, scores, splits) {
-        return refused(12, 0);
-    }
-    let bad = first_bad(stand.individuals, genes, count);
-    if bad < count {
-        return refused(15, bad);
-    }
-    let strange = first_strange(allowed, entries);
-    if strange < entries {
-        return refused(13, strange);
-    }
-    let groups = stand.groups;
-    solve_stand(
-        stand.species,
-        &groups,
+    let given = Given {
+        line,
+        individuals,
+        mapping,
         genes,
         count,
-        allowed,
-        scores,
-        splits,
-    )
+    };
+    Found::from(searched(&given, allowed, scores, splits))
 }

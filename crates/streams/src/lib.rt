@@ -14,6 +14,7 @@ pub fn read_full<R: Read>(input: &mut R, buf: &mut [u8]) -> io::Result<usize>
     ensures end { IfOk result (λ n. n < length buf.new → IsAtEnd (R.remaining input.new)) }
 {
     let mut done = 0;
+    // a read says how many bytes it put
     while done < buf.len() {
         let n = input.read(&mut buf[done..])?;
         if n == 0 {

@@ -1,5 +1,5 @@
 -- The table of weights: what the changes, the transform and the end make of two cleared tables.
-use Rattle.std.proofs.Common.{◌≡◌, ℕ, zero, suc, ◌+◌, ◌-◌, ◌%◌, ◌^◌, ◌<◌, ◌≤◌, List, [], map, length, get_or, take, replicate, sym, ap, ◌∙◌, arith, ext_get_or}
+use Rattle.std.proofs.Common.{◌≡◌, ℕ, zero, suc, ◌+◌, ◌-◌, ◌%◌, ◌^◌, ◌<◌, ◌≤◌, List, [], map, length, get_or, take, replicate, sym, ap, ◌∙◌, arith, length-take, ext_get_or}
 use lib.ListN.{length-map, length-replicate, get_or-replicate}
 use Rattle.clusters.specs.Sets.{whole}
 use Rattle.trees.specs.Lists.{Among, up_to}
@@ -17,9 +17,8 @@ use Rattle.weights.proofs.Sums.{valid-countable}
 use Rattle.weights.proofs.SumOfWeights.{Summed, summed_told, weights_summed}
 use Rattle.weights.proofs.SumOfStand.{stand_summed}
 use Rattle.weights.proofs.Zeta.{length-zeta, zeta_at_most}
-use Rattle.sums.specs.Work.{Changed, Tallied, AllSummable, AtMost, Told, Weighable, Grouped, StandWeighable}
+use Rattle.sums.specs.Work.{Changed, Tallied, AllSummable, AtMost, Told, Weighable, StandWeighable}
 use Rattle.sums.proofs.Changes.{often_none}
-use Rattle.sums.proofs.Grouping.{first_groups}
 
 -- a table of zeros, of so many
 pub record Zeros (m : ℕ) (l : List ℕ) : Type 0 where
@@ -118,9 +117,9 @@ module _ {rooting : Rooting} {n : ℕ} {genes : List ℕ} {count : ℕ} (w : Wei
 -- ---- gene records on the individuals of a stand
 
 module _ {n : ℕ} {groups genes : List ℕ} {count : ℕ} (w : StandWeighable n groups genes count) where
-  -- its groups, with an entry for each set of species
-  pub stand-grouped : {entries : ℕ} → entries ≡ 2 ^ n → Grouped n groups entries
-  stand-grouped e = record { few = w.few_species; long = w.groups_long; all_sets = e }
+  -- as many groups as species
+  pub stand-grouped : length (take n groups) ≡ n
+  stand-grouped = omega (arith, length-take n groups, w.groups_long)
 
   pub stand-countable : AllCountableFor 32 (wide_records_in count genes)
   stand-countable = valid-countable w.few_individuals w.valid
@@ -139,5 +138,5 @@ module _ {n : ℕ} {groups genes : List ℕ} {count : ℕ} (w : StandWeighable n
       Summed n (taken (take n groups) (plus_all Rooted (wide_records_in count genes))) (taken (take n groups) (minus_all Rooted (wide_records_in count genes)))
       (taken (take n groups) (whole_sets (wide_records_in count genes))) (λ a. stand_weight (take n groups) (wide_records_in count genes) a)
   stand-weighable_summed =
-      rw (first_groups groups w.groups_long) at
+      rw stand-grouped at
       (stand_summed (wide_records_in count genes) w.parted w.few_individuals w.valid (omega (arith, w.few_genes, pieces-length 64 count genes)))

@@ -1,5 +1,6 @@
 -- The unions of some sets of a list with what is joined already, made one set after the other.
-use Rattle.std.proofs.Common.{◌≡◌, ℕ, suc, ◌+◌, ◌<◌, ◌≤◌, Bool, true, false, not, eqb, List, [], ◌∷◌, ◌++◌, map, length, get_or, drop, sym, refl, ap, ◌∙◌, subst, arith, drop_of_length-le, drop-cons}
+use Rattle.std.proofs.Common.{◌≡◌, ℕ, ◌+◌, ◌<◌, Bool, true, false, not, eqb, List, [], ◌∷◌, ◌++◌, map, length, sym, refl, ap, ◌∙◌, subst, arith}
+use Rattle.std.proofs.lemmas.List.{nil_from_length}
 use mathlib.Core.List.Memᴰ.{head as here}
 use mathlib.Core.List.Memᴰ.{tail as there}
 use Rattle.clusters.specs.Sets.{Within, union}
@@ -130,45 +131,38 @@ joins-held odd j c l {f} {g} w one = go odd one
     go true d = changed_as d (λ z. omega (arith, odd-held z, even-held z, often_none z))
     go false d = changed_as d (λ z. omega (arith, odd-held z, even-held z, often_none z))
 
--- ---- the sets from a place on
+-- ---- the sets, the first of them and the rest
 
-module _ (sets : List ℕ) (i : ℕ) where
-  -- behind the last there is nothing left
-  pub joins_end : (odd : Bool) (j : ℕ) (f : List ℕ) → length sets ≤ i → Joins odd j (drop i sets) f f
-  joins_end odd j f past = subst (λ (l : List ℕ). Joins odd j l f f) (sym (drop_of_length-le sets {i = i} past)) (joins_none odd j f)
+-- of no sets there is nothing
+pub joins_end : (sets : List ℕ) (odd : Bool) (j : ℕ) (f : List ℕ) → length sets ≡ 0 → Joins odd j sets f f
+joins_end sets odd j f none = subst (λ (l : List ℕ). Joins odd j l f f) (sym (nil_from_length sets none)) (joins_none odd j f)
 
-  module _ (l : i < length sets) where
-    here_and_on : drop i sets ≡ get_or sets i 0 ∷ drop (i + 1) sets
-    here_and_on = let next : suc i ≡ i + 1 = omega arith in drop-cons sets i 0 l ∙ ap (λ (k : ℕ). get_or sets i 0 ∷ drop k sets) next
+module _ {sets : List ℕ} {c : ℕ} {l : List ℕ} (here_and_on : sets ≡ c ∷ l) where
+  parts_here : {entries j : ℕ} → Parts entries j sets → Parts entries j (c ∷ l)
+  parts_here {entries} {j} p = subst (λ (k : List ℕ). Parts entries j k) here_and_on p
 
-    parts_here : {entries j : ℕ} → Parts entries j (drop i sets) → Parts entries j (get_or sets i 0 ∷ drop (i + 1) sets)
-    parts_here {entries} {j} p = subst (λ (k : List ℕ). Parts entries j k) here_and_on p
+  -- the first alone, the unions with it and those without it are all
+  pub joins_here :
+      (odd : Bool) (j : ℕ) {more : ℕ} {f g h k : List ℕ} → more ≡ union j c → Changed (either odd (more ∷ []) []) (either odd [] (more ∷ [])) f g
+      → Joins (not odd) more l g h → Joins odd j l h k → Joins odd j sets f k
+  joins_here odd j {more} {f} {g} {h} {k} e one with_it without =
+      subst (λ (r : List ℕ). Joins odd j r f k) (sym here_and_on)
+      (joins_next odd j c l (subst (λ (x : ℕ). Changed (either odd (x ∷ []) []) (either odd [] (x ∷ [])) f g) e one)
+      (subst (λ (x : ℕ). Joins (not odd) x l g h) e with_it) without)
 
-    -- the set here alone, the unions with it and those without it are all from here on
-    pub joins_here :
-        (odd : Bool) (j : ℕ) {more : ℕ} {f g h k : List ℕ} → more ≡ union j (get_or sets i 0)
-        → Changed (either odd (more ∷ []) []) (either odd [] (more ∷ [])) f g → Joins (not odd) more (drop (i + 1) sets) g h
-        → Joins odd j (drop (i + 1) sets) h k → Joins odd j (drop i sets) f k
-    joins_here odd j {more} {f} {g} {h} {k} e one with_it without =
-        subst (λ (r : List ℕ). Joins odd j r f k) (sym here_and_on)
-        (joins_next odd j (get_or sets i 0) (drop (i + 1) sets) (subst (λ (x : ℕ). Changed (either odd (x ∷ []) []) (either odd [] (x ∷ [])) f g) e one)
-        (subst (λ (x : ℕ). Joins (not odd) x (drop (i + 1) sets) g h) e with_it) without)
+  -- where the first lies within what is joined
+  pub joins-held_here :
+      (odd : Bool) (j : ℕ) {f g : List ℕ} → Within c j → Changed (either odd (j ∷ []) []) (either odd [] (j ∷ [])) f g → Joins odd j sets f g
+  joins-held_here odd j {f} {g} w one = subst (λ (r : List ℕ). Joins odd j r f g) (sym here_and_on) (joins-held odd j c l w one)
 
-    -- where the set here lies within what is joined
-    pub joins-held_here :
-        (odd : Bool) (j : ℕ) {f g : List ℕ} → Within (get_or sets i 0) j → Changed (either odd (j ∷ []) []) (either odd [] (j ∷ [])) f g → Joins odd j (drop i sets) f g
-    joins-held_here odd j {f} {g} w one = subst (λ (r : List ℕ). Joins odd j r f g) (sym here_and_on) (joins-held odd j (get_or sets i 0) (drop (i + 1) sets) w one)
+  -- with what is joined it has an entry
+  pub fits_here : {entries j : ℕ} → Parts entries j sets → union j c < entries
+  fits_here p = joined-fits (parts_here p)
 
-    -- with what is joined it has an entry
-    pub fits_here : {entries j : ℕ} → Parts entries j (drop i sets) → union j (get_or sets i 0) < entries
-    fits_here p = joined-fits (parts_here p)
+  -- a table as long as before, with the first joined
+  pub joined_here : {entries entries' j more : ℕ} → Parts entries j sets → entries' ≡ entries → more ≡ union j c → Parts entries' more l
+  joined_here p e d = rw (e, d) (joined-part (parts_here p))
 
-    -- a table as long as before, with the set here joined
-    pub joined_here :
-        {entries entries' j more : ℕ} → Parts entries j (drop i sets) → entries' ≡ entries → more ≡ union j (get_or sets i 0)
-        → Parts entries' more (drop (i + 1) sets)
-    joined_here p e d = rw (e, d) (joined-part (parts_here p))
-
-    -- or passed over
-    pub passed_here : {entries entries' j : ℕ} → Parts entries j (drop i sets) → entries' ≡ entries → Parts entries' j (drop (i + 1) sets)
-    passed_here p e = rw e (passed-part (parts_here p))
+  -- or passed over
+  pub passed_here : {entries entries' j : ℕ} → Parts entries j sets → entries' ≡ entries → Parts entries' j l
+  passed_here p e = rw e (passed-part (parts_here p))

@@ -1,22 +1,21 @@
--- What a gene tree with its root adds and takes off, node by node; on a stand, each set taken to its species.
-use Rattle.std.proofs.Common.{◌≡◌, ℕ, ◌+◌, ◌-◌, ◌^◌, ◌<◌, ◌≤◌, Bool, true, false, not, eqb, List, [], ◌∷◌, ◌++◌, map, length, get_or, drop, sym, refl, ap, ◌∙◌, subst, append-nil, map-id, arith, eq-eqb, ne_eqb}
-use Rattle.clusters.specs.Sets.{union, whole, size}
-use Rattle.clusters.proofs.Sets.{zero-within, zero-union, whole_below, within_whole}
+-- What a gene tree with its root adds and takes off, node by node, each set as it is seen.
+use Rattle.std.proofs.Common.{◌≡◌, ℕ, ◌+◌, ◌-◌, ◌<◌, ◌≤◌, Bool, true, false, not, eqb, List, [], ◌∷◌, ◌++◌, map, get_or, drop, sym, refl, ap, ◌∙◌, subst, append-nil, arith, eq-eqb, ne_eqb}
+use Rattle.std.proofs.lemmas.List.{map-append}
+use mathlib.Core.List.Memᴰ
+use Rattle.clusters.specs.Sets.{Within, union, size}
+use Rattle.clusters.proofs.Sets.{zero-within, zero-union, within_trans}
 use Rattle.trees.specs.Lists.{Among, keep_if, keep}
 use Rattle.trees.specs.Records.{count, listed, largest}
 use Rattle.trees.specs.Drawn.{children}
 use Rattle.trees.proofs.Children.{hierarchy_of_valid, among-children, children-once}
-use Rattle.trees.proofs.GeneRecords.{places-le}
-use Rattle.weights.specs.Stand.{species_in}
-use Rattle.weights.specs.Subsets.{often, gathered, odds, evens, inner_nodes, plus_by, minus_by, taken}
+use Rattle.trees.proofs.GeneRecords.{places-le, largest_of_valid}
+use Rattle.weights.specs.Subsets.{often, gathered, odds, evens, inner_nodes, plus_by, minus_by}
 use Rattle.weights.specs.Work.{CountableFor}
 use Rattle.weights.specs.declared.Rooting.TheVariants.{Rooted}
-use Rattle.weights.proofs.Checked.{listed_from, first_none}
-use Rattle.weights.proofs.Groups.{species-union}
+use Rattle.weights.proofs.Checked.{listed_at, listed_from, first_none}
 use Rattle.weights.proofs.SumOfLists.{many_same}
-use Rattle.weights.proofs.SumOfStand.{taken-below, taken-gathered}
 use Rattle.weights.proofs.SumOfUnions.{SameUnions, unions_reordered, unions_seen}
-use Rattle.sums.specs.Work.{Changed, Summable, ChildrenIn, Parts, of_nodes, node_plus, node_minus}
+use Rattle.sums.specs.Work.{Changed, Summable, Entered, ChildrenIn, Parts, of_nodes, node_plus, node_minus}
 use Rattle.sums.proofs.Changes.{often_both, often-map, changed_none, changed_both, changed_as, ChangedTo, to_start, to_next, to_end}
 use Rattle.sums.proofs.Joins.{Joins}
 
@@ -43,15 +42,6 @@ often-alone z l =
     often-map z (λ x. union 0 x) l ∙ many_same (λ x. eqb z (union 0 x)) (λ x. eqb z x) l (λ x m. ap (λ (y : ℕ). eqb z y) (zero-union x))
 
 module _ {b : ℕ} {g : List ℕ} (can : CountableFor b g) {p : ℕ} {l : List ℕ} (found : ChildrenIn (listed g) p l) where
-  -- all children lie within p
-  pub children-parts : {entries : ℕ} → p < entries → Parts entries 0 l
-  children-parts fits = record {
-    of = p;
-    fits = fits;
-    joined_in = zero-within p;
-    each_in = λ x m. (among-children (listed g) p (found.are x m)).inside;
-  }
-
   reordered : SameUnions l (children (listed g) p)
   reordered =
       unions_reordered l (children (listed g) p) found.once (children-once (hierarchy_of_valid can.valid can.small) p) found.are found.all
@@ -77,32 +67,30 @@ module _ {b : ℕ} {g : List ℕ} (can : CountableFor b g) {p : ℕ} {l : List �
         often-map z see (evens (children (listed g) p)),
       ))
 
-  -- as it is
+  -- where it has more than one species
   pub node_done :
-      {f k h : List ℕ} → (size p ≡ 1 → ⊥) → Changed [] (p ∷ []) f k → Joins true 0 l k h
-      → Changed (of_nodes (node_plus (listed g)) (p ∷ [])) (of_nodes (node_minus (listed g)) (p ∷ [])) f h
-  node_done {f} {k} {h} inner own unions =
-      node-inner (node_plus (listed g)) (node_minus (listed g)) p inner
-      (rw (map-id (node_plus (listed g) p), map-id (node_minus (listed g) p)) at
-      (node_seen (λ x. x) (λ x y. refl) own (subst (λ (c : List ℕ). Joins true 0 c k h) (sym (map-id l)) unions)))
+      (see : ℕ → ℕ) → ((x y : ℕ) → see (union x y) ≡ union (see x) (see y)) → {own : ℕ} {seen f k h : List ℕ} → (size p ≡ 1 → ⊥) → own ≡ see p
+      → Changed [] (own ∷ []) f k → seen ≡ map see l → Joins true 0 seen k h
+      → Changed (of_nodes (λ q. map see (node_plus (listed g) q)) (p ∷ [])) (of_nodes (λ q. map see (node_minus (listed g) q)) (p ∷ [])) f h
+  node_done see joins {own} {seen} {f} {k} {h} inner is one are unions =
+      node-inner (λ q. map see (node_plus (listed g) q)) (λ q. map see (node_minus (listed g) q)) p inner
+      (node_seen see joins (subst (λ (x : ℕ). Changed [] (x ∷ []) f k) is one) (subst (λ (c : List ℕ). Joins true 0 c k h) are unions))
 
-  -- taken to its species
-  pub stand-node_done :
-      (groups : List ℕ) {own : ℕ} {seen f k h : List ℕ} → (size p ≡ 1 → ⊥) → own ≡ species_in groups p → Changed [] (own ∷ []) f k → seen ≡ taken groups l
-      → Joins true 0 seen k h
-      → Changed (of_nodes (λ q. taken groups (node_plus (listed g) q)) (p ∷ [])) (of_nodes (λ q. taken groups (node_minus (listed g) q)) (p ∷ [])) f h
-  stand-node_done groups {own} {seen} {f} {k} {h} inner is one are unions =
-      node-inner (λ q. taken groups (node_plus (listed g) q)) (λ q. taken groups (node_minus (listed g) q)) p inner
-      (node_seen (λ x. species_in groups x) (species-union groups) (subst (λ (x : ℕ). Changed [] (x ∷ []) f k) is one)
-      (subst (λ (c : List ℕ). Joins true 0 c k h) are unions))
+-- a cluster lies within the whole set
+pub listed_inside : {b : ℕ} {g : List ℕ} (i : ℕ) → CountableFor b g → 1 ≤ i → i ≤ count g → Within (get_or g i 0) (largest g)
+listed_inside {b} {g} i can one last =
+    subst (λ (s : ℕ). Within (get_or g i 0) s) (sym (largest_of_valid can.valid)) (can.valid.inside (get_or g i 0) (listed_at i can.valid.form one last)).1
 
--- sets of the stand's species have an entry each
-pub taken-parts : (groups l : List ℕ) {seen : List ℕ} {entries : ℕ} → seen ≡ taken groups l → entries ≡ 2 ^ length groups → Parts entries 0 seen
-taken-parts groups l {seen} {entries} are e = record {
-  of = whole (length groups);
-  fits = omega (arith, whole_below (length groups));
-  joined_in = zero-within (whole (length groups));
-  each_in = λ x m. within_whole (length groups) (taken-below groups l x (subst (λ (c : List ℕ). Among x c) are m));
+-- what is seen of the children lies within a set that has an entry
+pub seen-parts :
+    {see : ℕ → ℕ} {entries p : ℕ} {g l seen : List ℕ} → Entered see entries g → Within p (largest g) → ChildrenIn (listed g) p l → seen ≡ map see l → Parts entries 0 seen
+seen-parts {see} {entries} {p} {g} {l} e w found are = record {
+  of = e.of;
+  fits = e.fits;
+  joined_in = zero-within e.of;
+  each_in = λ x m.
+      let y = Memᴰ.of_map see l (subst (λ (c : List ℕ). Among x c) are m) in
+      subst (λ (z : ℕ). Within z e.of) y.2 (e.inside y.0 (within_trans y.0 p (largest g) (among-children (listed g) p (found.are y.0 y.1)).inside w));
 }
 
 -- ---- all nodes
@@ -152,21 +140,20 @@ module _ {b : ℕ} {plus minus : ℕ → List ℕ} {g : List ℕ} (can : Countab
       none : (give : ℕ → List ℕ) → of_nodes give (drop (i - 1) (listed g)) ≡ []
       none give = ap (of_nodes give) (first_none g (count g) i past) ∙ of_no_nodes give
 
+gathered-seen : (see : ℕ → ℕ) (give : ℕ → List ℕ) (l : List ℕ) → gathered (λ x. map see (give x)) l ≡ map see (gathered give l)
+unfolding gathered
+gathered-seen see give [] = refl
+gathered-seen see give (x ∷ l) =
+    ap (λ (k : List ℕ). map see (give x) ++ k) (gathered-seen see give l) ∙ sym (map-append see (give x) (gathered give l))
+
 -- then the gene tree is done
 pub rooted_done :
-    {b : ℕ} {g f before now : List ℕ} {i : ℕ} → CountableFor b g → NodesTo (node_plus (listed g)) (node_minus (listed g)) g before now i → count g < i
-    → Changed (largest g ∷ []) [] f before → Changed (plus_by Rooted g) (minus_by Rooted g) f now
+    {b : ℕ} (see : ℕ → ℕ) {g f before now : List ℕ} {i all : ℕ} → CountableFor b g
+    → NodesTo (λ p. map see (node_plus (listed g) p)) (λ p. map see (node_minus (listed g) p)) g before now i → count g < i → all ≡ see (largest g)
+    → Changed (all ∷ []) [] f before → Changed (map see (plus_by Rooted g)) (map see (minus_by Rooted g)) f now
 unfolding plus_by minus_by inner_nodes of_nodes
-rooted_done can t past c = nodes_end can t past c
-
--- on a stand too
-pub stand-tree_done :
-    {b : ℕ} (groups : List ℕ) {g f before now : List ℕ} {i all : ℕ} → CountableFor b g
-    → NodesTo (λ p. taken groups (node_plus (listed g) p)) (λ p. taken groups (node_minus (listed g) p)) g before now i → count g < i
-    → all ≡ species_in groups (largest g) → Changed (all ∷ []) [] f before → Changed (taken groups (plus_by Rooted g)) (taken groups (minus_by Rooted g)) f now
-unfolding plus_by minus_by inner_nodes of_nodes
-stand-tree_done groups {g} {f} {before} can t past is c =
-    rw (taken-gathered groups (node_plus (listed g)) (inner_nodes g), taken-gathered groups (node_minus (listed g)) (inner_nodes g)) at
+rooted_done see {g} {f} {before} can t past is c =
+    rw (gathered-seen see (node_plus (listed g)) (inner_nodes g), gathered-seen see (node_minus (listed g)) (inner_nodes g)) at
     (nodes_end can t past (subst (λ (x : ℕ). Changed (x ∷ []) [] f before) is c))
 
 -- ---- records with an entry for each set

@@ -1,15 +1,35 @@
 -- What all gene trees add and take off, one tree after the other, and the number of them by their whole set. Their records are pieces of one size of what is lent.
-use Rattle.std.proofs.Common.{◌≡◌, ℕ, ◌+◌, ◌*◌, ◌<◌, ◌≤◌, Bool, true, false, eqb, List, [], ◌∷◌, map, length, get_or, take, drop, set, replicate, sym, refl, ap, ◌∙◌, arith, length-set, get_or-drop, get_or-set_other, get_or-take, get_or-set_same}
+use Rattle.std.proofs.Common.{◌≡◌, ℕ, ◌+◌, ◌*◌, ◌<◌, ◌≤◌, Bool, true, false, eqb, List, [], ◌∷◌, map, length, get_or, take, drop, set, replicate, sym, refl, ap, ◌∙◌, arith, length-set, get_or-set_other, get_or-set_same}
+use mathlib.Core.List.Memᴰ
+use mathlib.Core.List.{Memᴰ}
 use native.Mathlib.Decide.{ℕ_discrete}
+use Rattle.std.proofs.lemmas.List.{get_or_default}
 use lib.ListN.{length-map, get_or-replicate}
 use Rattle.trees.specs.Lists.{pieces}
-use Rattle.trees.specs.Records.{count as count_of, largest}
-use Rattle.trees.proofs.EqualPieces.{pieces-length, pieces_from, pieces_from_first, pieces_from_next, pieces_from_last}
+use Rattle.trees.proofs.EqualPieces.{pieces-length, piece_at, piece_among, pieces_from, pieces_from_first, pieces_from_next, pieces_from_last}
 use Rattle.weights.specs.Lineages.{one_if}
 use Rattle.weights.specs.Subsets.{often, gathered}
 use Rattle.weights.proofs.SumOfLists.{many_cons}
 use Rattle.sums.specs.Work.{Changed, Tallied}
 use Rattle.sums.proofs.Changes.{often_none, often-own, often_other, often_both, ChangedTo, to_start, to_next, to_end}
+
+-- ---- the gene trees one by one
+
+-- g is the i-th of them
+pub record Turn (size count : ℕ) (genes : List ℕ) (i : ℕ) (g : List ℕ) : Type 0 where
+  pub less : i < count
+  pub is : g ≡ take size (drop (size * i) genes)
+
+pub turn_of :
+    (size count : ℕ) (genes : List ℕ) {i : ℕ} {g : List ℕ} → (i < length (pieces size count genes)) × (g ≡ get_or (pieces size count genes) i g)
+    → Turn size count genes i g
+turn_of size count genes {i} {g} t =
+    let less : i < count = let k = t.0 in omega (arith, pieces-length size count genes) in
+    record { less = less; is = t.1 ∙ get_or_default (pieces size count genes) i g [] t.0 ∙ piece_at size count i genes less }
+
+-- it is one of them
+pub turn-among : {size count : ℕ} {genes : List ℕ} {i : ℕ} {g : List ℕ} → Turn size count genes i g → Memᴰ g (pieces size count genes)
+turn-among {size} {count} {genes} {i} t = Memᴰ.cast t.is (piece_among size i count genes t.less)
 
 -- ---- what they add and take off
 
@@ -142,24 +162,3 @@ module _ {size : ℕ} {whole : List ℕ → ℕ} {genes : List ℕ} {count : ℕ
     where
       all : i ≡ count
       all = omega (arith, t.place)
-
--- ---- a record among all the numbers
-
--- its whole set stands as far behind its count as the count says
-pub whole_at :
-    (size : ℕ) (genes : List ℕ) (i : ℕ) {m : ℕ} → count_of (take size (drop (size * i) genes)) < size → m ≡ get_or genes (size * i) 0
-    → (m < size) × (get_or genes (size * i + m) 0 ≡ largest (take size (drop (size * i) genes)))
-whole_at size genes i {m} f e = (
-  few,
-  sym (get_or-drop (size * i) genes m 0) ∙ sym (get_or-take size (drop (size * i) genes) m 0 few)
-      ∙ ap (λ (k : ℕ). get_or (take size (drop (size * i) genes)) k 0) (e ∙ sym first),
-)
-  where
-    place : size * i + 0 ≡ size * i
-    place = omega arith
-
-    first : count_of (take size (drop (size * i) genes)) ≡ get_or genes (size * i) 0
-    first = get_or-take size (drop (size * i) genes) 0 0 (omega arith) ∙ get_or-drop (size * i) genes 0 0 ∙ ap (λ (k : ℕ). get_or genes k 0) place
-
-    few : m < size
-    few = omega (arith, e, first, f)

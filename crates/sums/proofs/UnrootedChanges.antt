@@ -1,5 +1,5 @@
 -- What a gene tree without a root adds and takes off: by its clusters before the last, and by their complements that it does not list.
-use Rattle.std.proofs.Common.{◌≡◌, ℕ, ◌+◌, ◌-◌, ◌<◌, ◌≤◌, Bool, true, false, not, ◌&&◌, eqb, ◌⊎◌, List, [], ◌∷◌, ◌++◌, map, get_or, drop, sym, refl, ap, ◌∙◌, subst, inl, inr, arith, ne_eqb}
+use Rattle.std.proofs.Common.{◌≡◌, ℕ, ◌+◌, ◌-◌, ◌<◌, ◌≤◌, Bool, true, false, not, ◌&&◌, eqb, ◌⊎◌, List, [], ◌∷◌, ◌++◌, map, get_or, drop, get_or-take, get_or-drop, sym, refl, ap, ◌∙◌, subst, inl, inr, arith, ne_eqb}
 use mathlib.Core.List.Memᴰ
 use mathlib.Core.List.Memᴰ.{head as here}
 use mathlib.Core.List.Memᴰ.{tail as there}
@@ -218,6 +218,11 @@ unrooted_done {g} can c d e =
 
 -- ---- the clusters before the last, one after the other
 
+-- the k-th of them, counted from 0
+pub proper_at : (g : List ℕ) (k : ℕ) → k < count g - 1 → get_or (proper_ones g) k 0 ≡ get_or g (k + 1) 0
+proper_at g k l =
+    get_or-take (count g - 1) (drop 1 g) k 0 l ∙ get_or-drop 1 g k 0 ∙ ap (λ (n : ℕ). get_or g n 0) (omega arith)
+
 -- those from the i-th on, counted from 1, are left
 pub record OwnTo (g before now : List ℕ) (i : ℕ) : Type 0 where
   pub first : 1 ≤ i
@@ -242,15 +247,16 @@ own_both false x s c d = changed_both c d
 module _ {g : List ℕ} (can : Countable g) {before now : List ℕ} {i : ℕ} (t : OwnTo g before now i) where
   -- the next one
   pub own_next :
-      {one : ℕ} {h after : List ℕ} → i < count g → one ≡ size (get_or g i 0)
-      → Changed (either (eqb one 1) (get_or g i 0 ∷ []) []) (either (eqb one 1) [] (get_or g i 0 ∷ [])) now h
+      {x one : ℕ} {h after : List ℕ} → x ≡ get_or g i 0 → i < count g → one ≡ size x
+      → Changed (either (eqb one 1) (x ∷ []) []) (either (eqb one 1) [] (x ∷ [])) now h
       → Changed (either (not (eqb one 1)) (largest g ∷ []) []) (either (not (eqb one 1)) [] (largest g ∷ [])) h after → OwnTo g before after (i + 1)
-  own_next {one} {h} {after} l e c d = record {
+  own_next {x} {one} {h} {after} at l e c d = record {
     first = omega arith;
     changed =
         to_next t.changed (ap (map (λ x. own_plus (largest g) x)) here_on) (ap (map (λ x. own_minus (largest g) x)) here_on)
-        (subst (λ (k : ℕ). Changed (either (eqb k 1) (get_or g i 0) (largest g) ∷ []) (either (eqb k 1) (largest g) (get_or g i 0) ∷ []) now after) e
-        (own_both (eqb one 1) (get_or g i 0) (largest g) c d));
+        (subst (λ (y : ℕ). Changed (either (eqb (size y) 1) y (largest g) ∷ []) (either (eqb (size y) 1) (largest g) y ∷ []) now after) at
+        (subst (λ (k : ℕ). Changed (either (eqb k 1) x (largest g) ∷ []) (either (eqb k 1) (largest g) x ∷ []) now after) e
+        (own_both (eqb one 1) x (largest g) c d)));
   }
     where
       here_on : drop (i - 1) (proper_ones g) ≡ get_or g i 0 ∷ drop (i + 1 - 1) (proper_ones g)
@@ -295,18 +301,20 @@ module _ {g : List ℕ} (can : Countable g) {before now : List ℕ} {i : ℕ} (t
       ∙ ap (λ (d : Bool). keep_if (not d) other (keep (λ y. not (among y (listed g))) (complements_from (i + 1) g))) e
 
   -- it is listed: nothing is done
-  pub others-listed : i < count g → Among (largest g - get_or g i 0) (listed g) → OthersTo g before now (i + 1)
-  others-listed l m =
-      let e = here_or_not true ((tells_among other (listed g)).told m) l in
+  pub others-listed : {x : ℕ} → x ≡ get_or g i 0 → i < count g → Among (largest g - x) (listed g) → OthersTo g before now (i + 1)
+  others-listed at l m =
+      let e = here_or_not true ((tells_among other (listed g)).told (subst (λ (y : ℕ). Among (largest g - y) (listed g)) at m)) l in
       record { first = omega arith; changed = to_next t.changed (ap (map (λ x. largest g)) e) e (changed_none now) }
 
   -- it is not: it is taken off, and the whole counted
   pub others_next :
-      {h after : List ℕ} → i < count g → (Among (largest g - get_or g i 0) (listed g) → ⊥) → Changed [] ((largest g - get_or g i 0) ∷ []) now h
+      {x : ℕ} {h after : List ℕ} → x ≡ get_or g i 0 → i < count g → (Among (largest g - x) (listed g) → ⊥) → Changed [] ((largest g - x) ∷ []) now h
       → Changed (largest g ∷ []) [] h after → OthersTo g before after (i + 1)
-  others_next l f c d =
-      let e = here_or_not false (unless (among other (listed g)) (λ m. f ((tells_among other (listed g)).holds m))) l in
-      record { first = omega arith; changed = to_next t.changed (ap (map (λ x. largest g)) e) e (changed_both c d) }
+  others_next {x} {h} {after} at l f c d =
+      let off = subst (λ (y : ℕ). Among (largest g - y) (listed g) → ⊥) at f in
+      let taken = subst (λ (y : ℕ). Changed [] ((largest g - y) ∷ []) now h) at c in
+      let e = here_or_not false (unless (among other (listed g)) (λ m. off ((tells_among other (listed g)).holds m))) l in
+      record { first = omega arith; changed = to_next t.changed (ap (map (λ x. largest g)) e) e (changed_both taken d) }
 
   -- none is left
   pub others_end : count g ≤ i → Changed (map (λ x. largest g) (unlisted g)) (unlisted g) before now

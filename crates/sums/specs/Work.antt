@@ -1,7 +1,7 @@
 -- What the parts that make the sums ask of one another: what one table has more and less than another, and which gene records have entries for all their sets.
-use Rattle.std.specs.Prelude.{◌≡◌, ℕ, ◌+◌, ◌-◌, ◌*◌, ◌%◌, ◌^◌, ◌<◌, ◌≤◌, Bool, true, false, not, List, ◌∷◌, length, take, drop, ◌==◌, slice_index, slice_index_or}
+use Rattle.std.specs.Prelude.{◌≡◌, ℕ, ◌+◌, ◌-◌, ◌*◌, ◌%◌, ◌<◌, ◌≤◌, Bool, true, false, not, List, ◌∷◌, length, take, drop, ◌==◌, slice_index, slice_index_or}
 use mathlib.Core.List.{Memᴰ}
-use Rattle.clusters.specs.Sets.{Within, size}
+use Rattle.clusters.specs.Sets.{Within, union, size}
 use Rattle.trees.specs.Lists.{Among, NoneTwice, keep}
 use Rattle.trees.specs.Records.{count, listed, largest, records_in, wide_records_in, AllValidFor, AllValid}
 use Rattle.trees.specs.Valid.{among}
@@ -37,11 +37,12 @@ pub record Summable (entries : ℕ) (g : List ℕ) : Type 0 where
 abbrev pub AllSummable : ℕ → List (List ℕ) → Type 0
 AllSummable entries genes = (g : List ℕ) → Memᴰ g genes → Summable entries g
 
--- the groups of n species of a stand, and an entry for each set of them
-pub record Grouped (n : ℕ) (groups : List ℕ) (entries : ℕ) : Type 0 where
-  pub few : n ≤ 16
-  pub long : n ≤ length groups
-  pub all_sets : entries ≡ 2 ^ n
+-- a way to see sets by which unions are seen as unions, and all within the whole set of a gene record lie within one that has an entry
+pub record Entered (see : ℕ → ℕ) (entries : ℕ) (g : List ℕ) : Type 0 where
+  pub joins : (x y : ℕ) → see (union x y) ≡ union (see x) (see y)
+  pub of : ℕ
+  pub fits : of < entries
+  pub inside : (x : ℕ) → Within x (largest g) → Within (see x) of
 
 -- the children of p, each once, in some order
 pub record ChildrenIn (cs : List ℕ) (p : ℕ) (l : List ℕ) : Type 0 where

@@ -3,6 +3,7 @@
 
 mod entries;
 mod rooted;
+mod seen;
 pub mod stand;
 mod unrooted;
 mod zeta;
@@ -14,7 +15,8 @@ ghost use Rattle.weights.specs.Count.{weight};
 ghost use Rattle.weights.specs.Subsets.{plus_by, minus_by, plus_all, minus_all, whole_sets};
 ghost use Rattle.sums.specs.Work.{Changed, Tallied, Summable, AllSummable, Told, Weighable};
 
-use std::num::{wrapping_add_u32, wrapping_sub_u32};
+use records::widened;
+use seen::Itself;
 use weights::Rooting;
 
 // What one gene tree adds and takes off, by its rooting.
@@ -22,9 +24,10 @@ fn add_tree(rooting: Rooting, g: &[u16], sums: &mut [u32])
     requires { Summable (length sums.old) g.now }
     ensures { Changed (plus_by rooting g.now) (minus_by rooting g.now) sums.old sums.new }
 {
+    let wide = widened(g);
     match rooting {
-        Rooting::Rooted => rooted::add_rooted(g, sums),
-        Rooting::Unrooted => unrooted::add_unrooted(g, sums),
+        Rooting::Rooted => rooted::add_rooted::<Itself, 16>(&Itself, &wide, sums),
+        Rooting::Unrooted => unrooted::add_unrooted(&wide, sums),
     }
 }
 
@@ -34,12 +37,8 @@ fn add_trees(rooting: Rooting, genes: &[u16], count: usize, sums: &mut [u32])
     requires all_summable { AllSummable (length sums.old) (records_in count genes.now) }
     ensures { Changed (plus_all rooting (records_in count genes.now)) (minus_all rooting (records_in count genes.now)) sums.old sums.new }
 {
-    let mut tree = 0;
-    while tree < count {
-        let start = 32 * tree;
-        let end = start + 32;
-        add_tree(rooting, &genes[start..end], sums);
-        tree += 1;
+    for tree in genes[..32 * count].chunks_exact(32) {
+        add_tree(rooting, tree, sums);
     }
 }
 
@@ -51,14 +50,9 @@ fn count_sets(genes: &[u16], count: usize, lost: &mut [u16])
     requires lost_value { lost.old ≡ replicate (length lost.old) 0 }
     ensures { Tallied (whole_sets (records_in count genes.now)) lost.old lost.new }
 {
-    let mut i = 0;
-    while i < count {
-        let start = 32 * i;
-        let m = genes[start] as usize;
-        let last = start + m;
-        let all = genes[last] as usize;
-        lost[all] = lost[all] + 1;
-        i += 1;
+    for g in genes[..32 * count].chunks_exact(32) {
+        let all = g[g[0] as usize] as usize;
+        lost[all] += 1;
     }
 }
 
@@ -70,15 +64,11 @@ pub(crate) fn tell(count: usize, sums: &mut [u32], lost: &[u16])
     requires sums_len { length sums.old ≡ length lost.now }
     ensures { Told count sums.old lost.now sums.new }
 {
-    let entries = sums.len();
-    let all = entries - 1;
+    let all = sums.len() - 1;
     sums[0] = 0;
-    let mut a = 1;
-    while a < entries {
-        let others = all - a;
-        let met = wrapping_add_u32(sums[a], lost[others] as u32);
-        sums[a] = wrapping_sub_u32(met, count as u32);
-        a += 1;
+    for a in 1..sums.len() {
+        let met = sums[a].wrapping_add(u32::from(lost[all - a]));
+        sums[a] = met.wrapping_sub(count as u32);
     }
 }
 

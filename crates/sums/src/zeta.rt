@@ -3,8 +3,6 @@ ghost use Rattle.std.specs.Prelude.{◌≡◌, ℕ, ◌+◌, ◌^◌, ◌<◌, �
 ghost use Rattle.weights.specs.Subsets.{stepped, zeta};
 ghost use Rattle.sums.specs.Work.{HalfAdded, AtMost};
 
-use std::num::wrapping_add_u32;
-
 // In both tables, adds each of the half entries from start on to the entry half places behind it; every other entry stays.
 fn add_half(start: usize, half: usize, sums: &mut [u32], lost: &mut [u16])
     requires half_in_bounds { start + half + half ≤ length sums.old }
@@ -14,13 +12,10 @@ fn add_half(start: usize, half: usize, sums: &mut [u32], lost: &mut [u16])
     ensures half_added { HalfAdded start half sums.old sums.new }
     ensures half_added_2 { HalfAdded start half lost.old lost.new }
 {
-    let end = start + half;
-    let mut a = start;
-    while a < end {
+    for a in start..start + half {
         let b = a + half;
-        sums[b] = wrapping_add_u32(sums[b], sums[a]);
-        lost[b] = lost[b] + lost[a];
-        a += 1;
+        sums[b] = sums[b].wrapping_add(sums[a]);
+        lost[b] += lost[a];
     }
 }
 
@@ -35,11 +30,8 @@ fn step(i: usize, n: usize, sums: &mut [u32], lost: &mut [u16])
     ensures lost_after { lost.new ≡ stepped i lost.old }
 {
     let half = clusters::single(i) as usize;
-    let entries = sums.len();
-    let mut start = 0;
-    while start < entries {
+    for start in (0..sums.len()).step_by(2 * half) {
         add_half(start, half, sums, lost);
-        start += 2 * half;
     }
 }
 
@@ -52,9 +44,7 @@ pub(crate) fn transform(n: usize, sums: &mut [u32], lost: &mut [u16])
     ensures sums_after { sums.new ≡ zeta n sums.old }
     ensures lost_after { lost.new ≡ zeta n lost.old }
 {
-    let mut i = 0;
-    while i < n {
+    for i in 0..n {
         step(i, n, sums, lost);
-        i += 1;
     }
 }

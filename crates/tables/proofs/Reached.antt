@@ -9,13 +9,13 @@ use native.Mathlib.Omega.{arith}
 use lib.ListN.{length, get_or, set, length-set}
 use lib.Seq.{get_or-set_other, set-set, drop-set-lt}
 use lib.Pow.{pow_mono, pow_pos}
-use Rattle.clusters.specs.Sets.{whole}
-use Rattle.clusters.proofs.Sets.{whole_below}
+use Rattle.clusters.specs.Sets.{single}
 use Rattle.clusters.proofs.Sizes.{size-le}
 use Rattle.trees.specs.Lists.{up_to}
 use Rattle.splits.specs.BinaryTrees.{Binary}
 use Rattle.splits.specs.Least.{best, no_tree, score_entry, split_entry, filled}
-use Rattle.terms.specs.declared.allowing.Allowance.{Allowance}
+use Rattle.std.specs.Prelude.{Option as Maybe, Some, None, IfSome, option_copied}
+use Rattle.std.proofs.Common.{Bor}
 use Rattle.tables.specs.Work.{Next, Settles, Fillable, Fills}
 use Rattle.splits.specs.Work.{Light, Scored, ScoresBelow}
 use Rattle.splits.proofs.Recurrence.{best_on_lem, score-bound, entry_zero, split-zero}
@@ -26,12 +26,14 @@ use Rattle.tables.proofs.Written.{written, written_none, written_next, written-l
 pub entries_few : {n : ℕ} → n ≤ 16 → 2 ^ n ≤ 65536
 entries_few h = pow_mono h
 
-pub below_of_whole : (n a : ℕ) → a ≤ whole n → a < 2 ^ n
-below_of_whole n a l = omega (arith, whole_below n)
+pub entries : (n : ℕ) → single n ≡ 2 ^ n
+unfolding single
+entries n = refl
 
-pub past_whole : (n a : ℕ) → whole n < a → 2 ^ n ≤ a
-unfolding whole
-past_whole n a l = omega arith
+-- so many bytes are there, where there are bytes
+pub bytes_there : (n a : ℕ) (allowed : Maybe (Bor (List ℕ))) → IfSome (option_copied allowed) (λ bytes. 2 ^ n ≤ length bytes) → a < 2 ^ n → IfSome allowed (λ bytes. a < length bytes.now)
+bytes_there n a None long l = tt
+bytes_there n a (Some bytes) long l = omega arith
 
 -- ---- an entry of the score table is the mark, or far below it
 
@@ -68,7 +70,7 @@ first_written f v l e h =
 kept-behind : (l : List ℕ) (v b : ℕ) → 1 ≤ b → get_or (set l 0 v) b 0 ≡ get_or l b 0
 kept-behind l v b h = get_or-set_other l 0 b v 0 (λ e. omega arith)
 
-pub reached_start : {allowance : Allowance} {n : ℕ} {allowed scores splits : List ℕ} (ok : ℕ → Bool) → Fillable allowance n allowed scores splits
+pub reached_start : {n : ℕ} {allowed : Maybe (List ℕ)} {scores splits : List ℕ} (ok : ℕ → Bool) → Fillable n allowed scores splits
     → Reached n ok (set scores 0 no_tree) (set splits 0 0) (set scores 0 no_tree) (set splits 0 0) 1
 reached_start {n = n} {scores = scores} {splits = splits} ok f =
     let ns = f.scores_long in

@@ -1,12 +1,10 @@
 -- What the parts that fill and read the tables ask of one another.
-use Rattle.std.specs.Prelude.{ℕ, suc, ◌-◌, ◌^◌, ◌≤◌, ◌<◌, ◌≡◌, Bool, List, length, get_or, set}
+use Rattle.std.specs.Prelude.{ℕ, suc, ◌-◌, ◌^◌, ◌≤◌, ◌<◌, ◌≡◌, Bool, List, length, get_or, set, Option, IfSome}
 use Rattle.splits.specs.BinaryTrees.{Binary, root, clusters_in}
 use Rattle.splits.specs.BinaryTrees.Binary.{tip, fork}
 use Rattle.splits.specs.Least.{best, score_entry, split_entry, filled}
 use Rattle.splits.specs.Ties.{tie_entry}
 use Rattle.splits.specs.Work.{Light, Scored, ScoresBelow}
-use Rattle.terms.specs.declared.allowing.Allowance.{Allowance}
-use Rattle.terms.specs.declared.allowing.Allowance.TheVariants.{Marked}
 
 -- ---- the entries of one cluster
 
@@ -32,9 +30,9 @@ abbrev pub Weights : ℕ → (ℕ → ℕ) → List ℕ → Type 0
 Weights n w scores = (b : ℕ) → b < 2 ^ n → get_or scores b 0 ≡ w b
 
 -- 2^n entries are there, in the allowed set too where it is looked at, and those of the score table are at most 131,072
-pub record Fillable (allowance : Allowance) (n : ℕ) (allowed scores splits : List ℕ) : Type 0 where
+pub record Fillable (n : ℕ) (allowed : Option (List ℕ)) (scores splits : List ℕ) : Type 0 where
   pub few : n ≤ 16
-  pub allowed_long : allowance ≡ Marked → 2 ^ n ≤ length allowed
+  pub allowed_long : IfSome allowed (λ bytes. 2 ^ n ≤ length bytes)
   pub scores_long : 2 ^ n ≤ length scores
   pub splits_long : 2 ^ n ≤ length splits
   pub light : (b : ℕ) → b < 2 ^ n → get_or scores b 0 ≤ 131072

@@ -4,14 +4,13 @@
 mod tied;
 mod tree;
 
-ghost use Rattle.std.specs.Prelude.{◌≡◌, Bool, true, ℕ, ◌+◌, ◌-◌, ◌<◌, ◌≤◌, length};
+ghost use Rattle.std.specs.Prelude.{◌≡◌, Bool, true, ℕ, ◌+◌, ◌-◌, ◌<◌, ◌≤◌, length, IfSome, option_copied};
 ghost use Rattle.clusters.specs.Sets.{size};
 ghost use Rattle.terms.specs.Allowed.{allowed_for};
-ghost use Rattle.terms.specs.declared.allowing.Allowance.TheVariants.{Marked};
 ghost use Rattle.tables.specs.Work.{Next, Settles, Fillable, Fills};
 
 use splits::{NO_TREE, best_split};
-use terms::allowing::{Allowance, is_allowed_for};
+use terms::allowing::is_allowed_for;
 pub use tied::count_ties;
 pub use tree::collect;
 
@@ -30,31 +29,26 @@ fn join(scores: &mut [u32], splits: &mut [u16], a: usize)
     requires bound { 2 ≤ size a }
     ensures { (ok : ℕ → Bool) → ok a ≡ true → Settles ok a scores.old splits.old scores.new splits.new }
 {
-    let best = best_split(scores, a as u32);
-    splits[a] = best.low as u16;
-    // the mark is never added to
-    if best.score == NO_TREE {
-        scores[a] = NO_TREE;
-    } else {
-        scores[a] = with_own(scores[a], best.score);
+    match best_split(scores, a as u32) {
+        Some(best) => {
+            splits[a] = best.low as u16;
+            scores[a] = with_own(scores[a], best.score);
+        }
+        None => {
+            splits[a] = 0;
+            scores[a] = NO_TREE;
+        }
     }
 }
 
 // The entries of one cluster, those of all smaller ones being there.
-fn settle(
-    allowance: Allowance,
-    n: usize,
-    allowed: &[u8],
-    scores: &mut [u32],
-    splits: &mut [u16],
-    a: usize,
-)
+fn settle(n: usize, allowed: Option<&[u8]>, scores: &mut [u32], splits: &mut [u16], a: usize)
     requires next { Next a scores.old splits.old }
     requires n_bound { n ≤ 16 }
-    requires a_in_bounds { allowance ≡ Marked → a < length allowed.now }
-    ensures { Settles (allowed_for allowance n allowed.now) a scores.old splits.old scores.new splits.new }
+    requires a_in_bounds { IfSome allowed (λ bytes. a < length bytes.now) }
+    ensures { Settles (allowed_for (option_copied allowed.entry) n) a scores.old splits.old scores.new splits.new }
 {
-    if !is_allowed_for(allowance, n, allowed, a) {
+    if !is_allowed_for(n, allowed, a) {
         scores[a] = NO_TREE;
         splits[a] = 0;
         return;
@@ -67,16 +61,14 @@ fn settle(
 }
 
 // Fills the first 2^n entries of both tables, the score table holding the weights. `solver` calls it, for `search`, whose checks have passed then.
-pub fn fill(allowance: Allowance, n: usize, allowed: &[u8], scores: &mut [u32], splits: &mut [u16])
-    requires { Fillable allowance n allowed.now scores.old splits.old }
-    ensures { Fills n (allowed_for allowance n allowed.now) scores.old splits.old scores.new splits.new }
+pub fn fill(n: usize, allowed: Option<&[u8]>, scores: &mut [u32], splits: &mut [u16])
+    requires { Fillable n (option_copied allowed) scores.old splits.old }
+    ensures { Fills n (allowed_for (option_copied allowed.entry) n) scores.old splits.old scores.new splits.new }
 {
     scores[0] = NO_TREE;
     splits[0] = 0;
-    let all = clusters::whole(n) as usize;
-    let mut a = 1;
-    while a <= all {
-        settle(allowance, n, allowed, scores, splits, a);
-        a += 1;
+    let entries = clusters::single(n) as usize;
+    for a in 1..entries {
+        settle(n, allowed, scores, splits, a);
     }
 }

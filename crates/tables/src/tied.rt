@@ -25,11 +25,9 @@ pub fn count_ties(n: usize, scores: &[u32], splits: &[u16], ties: &mut [u64])
     requires { Tieable n scores.now splits.now ties.old }
     ensures { FillsTies n scores.now splits.now ties.old ties.new }
 {
-    let all = clusters::whole(n) as usize;
-    let mut a = 0;
-    while a <= all {
+    let entries = clusters::single(n) as usize;
+    for a in 0..entries {
         let count = ties_of(scores, splits, ties, a);
         ties[a] = count;
-        a += 1;
     }
 }

@@ -2,7 +2,6 @@
 use Prim.Native.Nat.{ℕ, ◌^◌, ◌≤◌, ◌<◌}
 use mathlib.Core.Path.{◌≡◌, sym}
 use mathlib.Core.Bool.{true, ◌||◌}
-use mathlib.Core.List.{List}
 use native.Mathlib.Omega.{arith}
 use lib.ListN.{get_or, get_or-replicate}
 use lib.Dec.{eqb}
@@ -10,7 +9,7 @@ use borrow.Author.Tests.{eq-eqb}
 use Rattle.clusters.specs.Sets.{whole, size}
 use Rattle.trees.proofs.Booleans.{or_right}
 use Rattle.terms.specs.Allowed.{allowed_in, allowed_for, every_cluster}
-use Rattle.terms.specs.declared.allowing.Allowance.TheVariants.{Every, Marked}
+use Rattle.std.specs.Prelude.{Some, None}
 
 module _ (n a : ℕ) (below : a < 2 ^ n) where
   all_ones : get_or (every_cluster n) a 0 ≡ 1
@@ -25,5 +24,5 @@ module _ (n a : ℕ) (below : a < 2 ^ n) where
   all_allowed = or_right (eqb (size a) 1 || eqb a (whole n)) (eqb (get_or (every_cluster n) a 0) 1) (eq-eqb (get_or (every_cluster n) a 0) 1 all_ones)
 
   -- every cluster of n species is allowed by them as it is without them
-  pub every_as_marked : (bytes : List ℕ) → allowed_for Every n bytes a ≡ allowed_for Marked n (every_cluster n) a
-  every_as_marked bytes = sym all_allowed
+  pub every_as_marked : allowed_for None n a ≡ allowed_for (Some (every_cluster n)) n a
+  every_as_marked = sym all_allowed

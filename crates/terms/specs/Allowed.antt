@@ -1,19 +1,17 @@
 -- The allowed clusters, every one or given by a byte for each cluster number, and the refusal of a byte that says neither.
-use Rattle.std.specs.Prelude.{ℕ, ◌^◌, Bool, true, ◌||◌, not, List, get_or, replicate, eqb, leb, ltb}
+use Rattle.std.specs.Prelude.{ℕ, ◌^◌, Bool, true, ◌||◌, not, List, Option, Some, None, get_or, replicate, eqb, leb, ltb}
 use Rattle.clusters.specs.Sets.{whole, size}
 use Rattle.roster.specs.Roster.{least}
 use Rattle.roster.specs.Verdict.{Test}
-use Rattle.terms.specs.declared.allowing.Allowance.{Allowance}
-use Rattle.terms.specs.declared.allowing.Allowance.TheVariants.{Every, Marked}
 
 -- "Single species and the whole are allowed whether marked or not"
 unfoldable pub allowed_in : ℕ → List ℕ → ℕ → Bool
 allowed_in n bytes a = eqb (size a) 1 || eqb a (whole n) || eqb (get_or bytes a 0) 1
 
 -- "over all clusters" (#114): every cluster is allowed, and no byte is looked at; or those are allowed that the bytes allow
-abbrev pub allowed_for : Allowance → ℕ → List ℕ → ℕ → Bool
-allowed_for Every n bytes = λ a. true
-allowed_for Marked n bytes = allowed_in n bytes
+abbrev pub allowed_for : Option (List ℕ) → ℕ → ℕ → Bool
+allowed_for None n = λ a. true
+allowed_for (Some bytes) n = allowed_in n bytes
 
 -- "over all clusters" (#114), as an allowed set of n species: 2^n bytes of 1
 abbrev pub every_cluster : ℕ → List ℕ

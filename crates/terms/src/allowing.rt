@@ -1,56 +1,49 @@
 // The allowed clusters: every one, or by a byte for each cluster number.
-ghost use Rattle.std.specs.Prelude.{◌≡◌, not, ◌<◌, ◌≤◌, length, get_or, leb};
-ghost use Rattle.roster.specs.Roster.{least};
-ghost use Rattle.terms.specs.Allowed.{allowed_in, allowed_for};
-ghost use Rattle.terms.specs.declared.allowing.Allowance.TheVariants.{Marked};
+ghost use Rattle.std.specs.Prelude.{◌≡◌, ◌<◌, ◌≤◌, ◌^◌, [], ◌∷◌, length, nat_lt, IfSome, option_copied};
+ghost use Rattle.std.specs.List.{position};
+ghost use Rattle.roster.specs.Verdict.{verdict, said_by};
+ghost use Rattle.terms.specs.Allowed.{allowed_in, allowed_for, allowed_test};
 
-// Which clusters are allowed: every one, or those that the bytes mark. No bytes are looked at where every one is.
-#[derive(Clone, Copy)]
-pub enum Allowance {
-    Every,
-    Marked,
-}
+use faults::{Fault, Refusal};
 
 // Whether a is allowed by the bytes: marked, a single species, or the whole. `is_allowed_for` and `plain` call it, with an allowed set that was judged.
+#[tactic(auto, unfolding(crate::specs::Allowed::allowed_in))]
 pub fn is_allowed(n: usize, allowed: &[u8], a: usize) -> bool
     requires n_bound { n ≤ 16 }
     requires a_bound { a < 65536 }
     requires a_in_bounds { a < length allowed.now }
     ensures { result ≡ allowed_in n allowed.now a }
 {
-    if clusters::size(a as u32) == 1 {
-        return true;
-    }
-    if a as u32 == clusters::whole(n) {
-        return true;
-    }
-    allowed[a] == 1
+    let cluster = a as u32;
+    clusters::size(cluster) == 1 || cluster == clusters::whole(n) || allowed[a] == 1
 }
 
-// Whether a is allowed, by the bytes where they are looked at. `tables` calls it, with bytes that were judged then.
-pub fn is_allowed_for(allowance: Allowance, n: usize, allowed: &[u8], a: usize) -> bool
+// Whether a is allowed: every cluster is where there are no bytes, else as the bytes say. `tables` calls it, with bytes that were judged then.
+pub fn is_allowed_for(n: usize, allowed: Option<&[u8]>, a: usize) -> bool
     requires n_bound { n ≤ 16 }
     requires a_bound { a < 65536 }
-    requires a_in_bounds { allowance ≡ Marked → a < length allowed.now }
-    ensures { result ≡ allowed_for allowance n allowed.now a }
+    requires a_in_bounds { IfSome allowed (λ bytes. a < length bytes.now) }
+    ensures { result ≡ allowed_for (option_copied allowed.entry) n a }
 {
-    match allowance {
-        Allowance::Every => true,
-        Allowance::Marked => is_allowed(n, allowed, a),
-    }
+    allowed.is_none_or(|bytes| is_allowed(n, bytes, a))
 }
 
-// The first of the entries that is not 0 or 1, and how many there are where all are. `search` and `plain` call it, with so many entries lent.
-pub fn first_strange(allowed: &[u8], entries: usize) -> usize
-    requires { entries ≤ length allowed.now }
-    ensures { result ≡ least (λ a. not (leb (get_or allowed.now a 0) 1)) 0 entries }
+// The place of the first byte that is not 0 or 1, if there is one.
+fn first_strange(bytes: &[u8]) -> Option<usize>
+    ensures { result ≡ position (λ byte. nat_lt 1 byte) bytes.now }
 {
-    let mut a = 0;
-    while a < entries {
-        if 1 < allowed[a] {
-            return a;
-        }
-        a += 1;
+    bytes.iter().position(|byte| *byte > 1)
+}
+
+// Whether the bytes of the clusters of n species are 0 or 1; the first that is not is refused. `search`, `plain` and `stand` call it, with so many bytes lent.
+pub fn judge_allowed(n: usize, allowed: &[u8]) -> Result<(), Refusal>
+    requires n_bound { n ≤ 16 }
+    requires allowed_long { 2 ^ n ≤ length allowed.now }
+    ensures { said_by result ≡ verdict (allowed_test n allowed.now ∷ []) }
+{
+    let entries = clusters::single(n) as usize;
+    match first_strange(&allowed[..entries]) {
+        Some(place) => Err(Fault::NoCluster.at(place)),
+        None => Ok(()),
     }
-    a
 }

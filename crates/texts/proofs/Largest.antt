@@ -1,13 +1,15 @@
 -- The child of a cluster that holds a species: of the clusters properly within it that hold the species the largest, and the last in the record.
-use Prim.Native.Nat.{ℕ, ◌+◌, ◌^◌, ◌≤◌, ◌<◌}
+use Prim.Native.Nat.{ℕ, zero, suc, ◌+◌, ◌-◌, ◌^◌, ◌≤◌, ◌<◌}
 use mathlib.Core.Path.{◌≡◌, refl, sym, ap, ◌∙◌, subst}
-use mathlib.Core.Bool.{Bool, true, false, ◌&&◌, not, true≢false, false≢true}
-use mathlib.Core.List.{List}
+use mathlib.Core.Bool.{Bool, true, false, cond, ◌&&◌, true≢false, false≢true}
+use mathlib.Core.List.{List, [], ◌∷◌, ◌++◌, reverse}
 use native.Mathlib.Decide.{ℕ_discrete}
 use native.Mathlib.Omega.{arith}
-use lib.ListN.{get_or}
-use lib.Dec.{eqb}
-use borrow.Author.Tests.{eq-eqb, ne_eqb}
+use lib.ListN.{get_or, take, drop, length-drop}
+use lib.Seq.{take-suc, get_or-drop}
+use Rattle.std.specs.Prelude.{Option, Some, unwrap_or}
+use Rattle.std.specs.List.{find}
+use Rattle.std.proofs.lemmas.List.{reverse-append}
 use Rattle.clusters.specs.Sets.{Has, Within, single, within, size, lowest}
 use Rattle.clusters.proofs.Members.{has_of_within, has-below, single-has}
 use Rattle.clusters.proofs.Sets.{within-le, within-true, true-within, single-within, within-below}
@@ -28,24 +30,6 @@ pub record Inner (r : List ℕ) (a i x : ℕ) : Type 0 where
   pub inside : Within x a
   pub other : x ≡ a → ⊥
   pub holds : Has x i
-
--- the test for an inner cluster that holds the species s, by its cases
-module _ (c a s : ℕ) where
-  pub not_itself : c ≡ a → false ≡ (properly c a && within s c)
-  unfolding properly
-  not_itself e = by (within c a)
-    where
-      by : (t : Bool) → false ≡ (t && not (eqb c a) && within s c)
-      by true = rw (eq-eqb c a e)
-      by false = refl
-
-  pub not_outside : within c a ≡ false → false ≡ (properly c a && within s c)
-  unfolding properly
-  not_outside e = rw e
-
-  pub held-inside : (c ≡ a → ⊥) → within c a ≡ true → (properly c a && within s c) ≡ within s c
-  unfolding properly
-  held-inside n e = rw (e, ne_eqb c a n)
 
 -- x is one of these, and none of the first places holds a larger one
 pub record Largest (r : List ℕ) (a i x places : ℕ) : Type 0 where
@@ -139,3 +123,44 @@ module _ {r : List ℕ} {a : ℕ} (h : Listed r a) where
               let v = true-within s c (rw d (single-within c i (subst (λ (z : ℕ). Has z i) same inner.holds))) in
               let t : (properly c a && within s c) ≡ true = rw (w, v) in
               absurd (true≢false (sym t ∙ f))
+
+  -- the last of the first k listed clusters that passes, or else the species by itself, is the largest of them
+  module _ {i s : ℕ} (alone : s ≡ single i) (first : Largest r a i (single i) 1) where
+    abbrev test : ℕ → Bool
+    test c = properly c a && within s c
+
+    abbrev last_of : List ℕ → ℕ
+    last_of l = unwrap_or (find test (reverse l)) s
+
+    largest_last : (k : ℕ) → k ≤ count r → Largest r a i (last_of (take k (drop 1 r))) (k + 1)
+    largest_last zero most = rw alone first
+    largest_last (suc k) most = rw (here, reverse-append) (go (test c) refl (largest_last k (omega arith)))
+      where
+        c : ℕ
+        c = get_or (drop 1 r) k 0
+
+        before : List ℕ
+        before = take k (drop 1 r)
+
+        here : take (suc k) (drop 1 r) ≡ before ++ (c ∷ [])
+        here = take-suc (drop 1 r) k 0 (let f = h.valid.form in omega (arith, f.sized, f.counted, length-drop 1 r))
+
+        place : c ≡ get_or r (k + 1) 0
+        place = get_or-drop 1 r k 0 ∙ ap (λ (n : ℕ). get_or r n 0) (omega arith)
+
+        one-more : suc k + 1 ≡ k + 1 + 1
+        one-more = omega arith
+
+        go :
+            (t : Bool) → test c ≡ t → Largest r a i (last_of before) (k + 1)
+            → Largest r a i (unwrap_or (cond t (Some c) (find test (reverse before))) s) (suc k + 1)
+        go true e l = rw one-more (larger_next l (omega arith) (omega arith) alone place e)
+        go false e l = rw one-more (largest_next l (omega arith) (omega arith) alone place e)
+
+    -- so the last one of all is the child
+    pub last-child :
+        {m x : ℕ} {found : Option ℕ} → m ≡ count r → found ≡ find test (reverse (take (m + 1 - 1) (drop 1 r))) → x ≡ unwrap_or found s
+        → ChildWith r a i x
+    last-child {m} d e f =
+        let all : m + 1 - 1 ≡ count r = omega arith in
+        rw (f, e, all) (largest-child (largest_last (count r) (omega arith)) (omega arith))

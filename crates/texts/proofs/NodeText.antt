@@ -3,6 +3,7 @@ use Prim.Native.Nat.{ℕ, ◌+◌, ◌-◌, ◌≤◌, ◌<◌}
 use mathlib.Core.Path.{◌≡◌, sym, ap, ap₂}
 use mathlib.Core.List.{List, [], ◌∷◌, ◌++◌, append-nil}
 use native.Mathlib.Omega.{arith}
+use Rattle.std.specs.Prelude.{Option}
 use lib.ListN.{length, set, length-append}
 use Rattle.clusters.specs.Sets.{Within, size, lowest}
 use Rattle.clusters.proofs.Sets.{within-below}
@@ -21,13 +22,13 @@ use Rattle.texts.proofs.Storing.{Going, going_all, going-put, going-byte, going_
 use Rattle.texts.proofs.Childwise.{list_text, Rest, rest_all, rest-within, rest_none, rest_next}
 
 -- part of the node of a is written
-pub record Begun (counts table r : List ℕ) (a : ℕ) (out₀ : List ℕ) (at : ℕ) (out : List ℕ) (end left mark : ℕ) : Type 0 where
+pub record Begun (counts : Option (List ℕ)) (table r : List ℕ) (a : ℕ) (out₀ : List ℕ) (at : ℕ) (out : List ℕ) (end left mark : ℕ) : Type 0 where
   pub todo : List ℕ
   pub rest : Rest (note_in counts r) (names_in 32 table) (listed r) a left mark todo
   pub going : Going out₀ at (cluster_text counts table r a) out end todo
 
 -- the next child can be written, and that goes on
-pub record Onward (counts table r : List ℕ) (a : ℕ) (out₀ : List ℕ) (at : ℕ) (out : List ℕ) (end left mark x : ℕ) : Type 0 where
+pub record Onward (counts : Option (List ℕ)) (table r : List ℕ) (a : ℕ) (out₀ : List ℕ) (at : ℕ) (out : List ℕ) (end left mark x : ℕ) : Type 0 where
   pub listed : Listed r x
   pub smaller : size x < size a
   pub some : 1 ≤ x
@@ -48,7 +49,7 @@ module _ {r : List ℕ} {a : ℕ} (h : Listed r a) where
       lowest-below 16 (h.valid.inside a h.among).0 (cluster-below tree h.among)
       (within-below h.all 16 (h.valid.inside a h.among).1 (let b = h.sixteen in omega arith))
 
-  pub leaf-text : (counts table : List ℕ) → size a ≡ 1 → cluster_text counts table r a ≡ label (name_in table (lowest a)) ++ note_in counts r a
+  pub leaf-text : (counts : Option (List ℕ)) (table : List ℕ) → size a ≡ 1 → cluster_text counts table r a ≡ label (name_in table (lowest a)) ++ note_in counts r a
   unfolding cluster_text node_with cluster
   leaf-text counts table e =
       let l = lowest-sixteen in
@@ -61,7 +62,7 @@ module _ {r : List ℕ} {a : ℕ} (h : Listed r a) where
   pub two_species : (size a ≡ 1 → ⊥) → 2 ≤ size a
   two_species n = let s = size_some (h.valid.inside a h.among).0 in omega arith
 
-  module _ (counts table out₀ : List ℕ) (at : ℕ) where
+  module _ (counts : Option (List ℕ)) (table out₀ : List ℕ) (at : ℕ) where
     pub begun_all : (size a ≡ 1 → ⊥) → Begun counts table r a out₀ at out₀ at a 40
     unfolding cluster_text
     begun_all n = record {

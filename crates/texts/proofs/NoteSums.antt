@@ -7,6 +7,7 @@ use mathlib.Core.List.{List, [], ◌∷◌, map}
 use native.Mathlib.Nat.{mul-suc, pow-suc}
 use native.Mathlib.Decide.{dec_lt}
 use native.Mathlib.Omega.{arith}
+use Rattle.std.specs.Prelude.{Option}
 use lib.ListN.{length, get_or, take, drop, length-drop}
 use lib.Seq.{take-suc, get_or-drop}
 use Rattle.trees.specs.Lists.{Among, sorted, total}
@@ -35,7 +36,7 @@ drawn_notes notes {s} {r} v b =
 
 -- ---- place by place
 
-module _ (counts : List ℕ) (notes : ℕ → List ℕ) (l : List ℕ) where
+module _ (counts : Option (List ℕ)) (notes : ℕ → List ℕ) (l : List ℕ) where
   notes_to_lem : (m : ℕ) → m ≤ length l → ((i : ℕ) → i < m → notes (get_or l i 0) ≡ note_at counts (suc i)) → note_bytes notes (take m l) ≡ notes_to counts m
   unfolding notes_to total
   notes_to_lem zero h e = refl
@@ -45,7 +46,7 @@ module _ (counts : List ℕ) (notes : ℕ → List ℕ) (l : List ℕ) where
       let b = ap length (e m (omega arith)) in
       rw (take-suc l m 0 (omega arith)) (omega arith)
 
-pub listed_notes : {counts r : List ℕ} {notes : ℕ → List ℕ} → Form r → Notes counts r notes → note_bytes notes (listed r) ≡ notes_to counts (count r)
+pub listed_notes : {counts : Option (List ℕ)} {r : List ℕ} {notes : ℕ → List ℕ} → Form r → Notes counts r notes → note_bytes notes (listed r) ≡ notes_to counts (count r)
 listed_notes {counts} {r} {notes} f given =
     notes_to_lem counts notes (drop 1 r) (count r) (let l = length-drop 1 r in let c = f.counted in let d = f.sized in omega arith)
     (λ i h.

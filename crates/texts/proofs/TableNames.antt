@@ -73,11 +73,3 @@ labels_more n table set i h =
 pub label-short : (table : List ℕ) (i : ℕ) → 16 * i + 16 ≤ length table → (b : Bool) → bytes_if b (length (label (name_in table i))) ≤ 34
 label-short table i fits true = let n = name-short table i fits in le_trans (label-twice (name_in table i)) (omega arith)
 label-short table i fits false = omega arith
-
--- the label of species i by the test that the code makes
-module _ (i set : ℕ) {one : ℕ} {b : Bool} (n : ℕ) (alone : one ≡ single i) (test : b ≡ within one set) where
-  pub bytes_there : b ≡ true → {r : ℕ} → r ≡ n → r ≡ bytes_if (within (single i) set) n
-  bytes_there t e = rw (← alone, ← test, t) e
-
-  pub bytes-absent : b ≡ false → 0 ≡ bytes_if (within (single i) set) n
-  bytes-absent t = rw (← alone, ← test, t)

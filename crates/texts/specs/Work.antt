@@ -1,7 +1,9 @@
 -- What the functions that write a node ask of one another: the names in a table, and a cluster of a record that draws a tree.
-use Rattle.std.specs.Prelude.{ℕ, zero, suc, ◌+◌, ◌*◌, ◌≤◌, ◌<◌, ◌≡◌, Bool, true, false, not, List, [], ◌∷◌, length, get_or, take, drop, eqb}
+use Rattle.std.specs.Prelude.{ℕ, zero, suc, ◌+◌, ◌*◌, ◌≤◌, ◌<◌, ◌≡◌, Bool, true, false, ◌==◌, List, [], ◌∷◌, length, get_or, take, drop, Option, None, Some}
+use Rattle.std.specs.List.{position_or_len}
+use denote.Ref.{Bor}
 use Rattle.clusters.specs.Sets.{Has, single, within}
-use Rattle.labels.specs.Bytes.{one_more, run}
+use Rattle.labels.specs.Bytes.{run}
 use Rattle.trees.specs.Lists.{Among}
 use Rattle.trees.specs.Records.{count, listed, ValidOn}
 use Rattle.trees.specs.Drawn.{children, drawn}
@@ -44,32 +46,33 @@ pub record ChildWith (r : List ℕ) (a i x : ℕ) : Type 0 where
 -- ---- the counts of a record's clusters: none, or one for each, at the index at which the cluster stands
 
 -- where there are any, there is one for each of m clusters
-abbrev pub Enough : List ℕ → ℕ → Type 0
-Enough counts m = 1 ≤ length counts → m < length counts
+abbrev pub Enough : Option (List ℕ) → ℕ → Type 0
+Enough None m = Unit {0}
+Enough (Some counts) m = m < length counts
+
+-- the counts that are lent
+abbrev pub lent : Option (Bor (List ℕ)) → Option (List ℕ)
+lent None = None
+lent (Some counts) = Some counts.now
 
 -- the note of the cluster at index i: nothing where there are no counts, else a colon and its count
-abbrev pub note_at : List ℕ → ℕ → List ℕ
-note_at [] i = []
-note_at (k ∷ counts) i = 58 ∷ decimal (get_or (k ∷ counts) i 0)
+abbrev pub note_at : Option (List ℕ) → ℕ → List ℕ
+note_at None i = []
+note_at (Some counts) i = 58 ∷ decimal (get_or counts i 0)
 
 -- notes that the counts give, entry for entry
-pub record Notes (counts r : List ℕ) (notes : ℕ → List ℕ) : Type 0 where
+pub record Notes (counts : Option (List ℕ)) (r : List ℕ) (notes : ℕ → List ℕ) : Type 0 where
   pub each : (i : ℕ) → 1 ≤ i → i ≤ count r → notes (get_or r i 0) ≡ note_at counts i
 
--- where a number stands first in a list, from 0; the list's length where it does not
-unfoldable pub place_of : ℕ → List ℕ → ℕ
-place_of a [] = zero
-place_of a (x ∷ l) = one_more (not (eqb x a)) (place_of a l)
-
 -- such notes: that of a cluster by where it stands
-unfoldable pub note_in : List ℕ → List ℕ → ℕ → List ℕ
-note_in counts r a = note_at counts (suc (place_of a (listed r)))
+unfoldable pub note_in : Option (List ℕ) → List ℕ → ℕ → List ℕ
+note_in counts r a = note_at counts (suc (position_or_len (λ c. c == a) (listed r)))
 
 -- the bytes of the notes of the first m clusters of a record
-unfoldable pub notes_to : List ℕ → ℕ → ℕ
+unfoldable pub notes_to : Option (List ℕ) → ℕ → ℕ
 notes_to counts zero = 0
 notes_to counts (suc i) = notes_to counts i + length (note_at counts (suc i))
 
 -- the text of the node of a cluster, with the notes that the counts give, over a table of 32 names
-unfoldable pub cluster_text : List ℕ → List ℕ → List ℕ → ℕ → List ℕ
+unfoldable pub cluster_text : Option (List ℕ) → List ℕ → List ℕ → ℕ → List ℕ
 cluster_text counts table r a = node_with (note_in counts r) (names_in 32 table) (drawn (listed r) a)

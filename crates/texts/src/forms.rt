@@ -8,34 +8,21 @@ ghost use Rattle.printing.specs.Work.{Put};
 fn is_free(b: u8) -> bool
     ensures { result ≡ is_free b }
 {
-    if labels::is_name_byte(b) {
-        return true;
-    }
-    b == b' '
+    labels::is_name_byte(b) || b == b' '
 }
 
 // Whether the name has only letters, digits and blanks.
 fn may_be_bare(name: &[u8]) -> bool
     ensures { result ≡ may_be_bare name.now }
 {
-    let mut i = 0;
-    while i < name.len() {
-        if !is_free(name[i]) {
-            return false;
-        }
-        i += 1;
-    }
-    true
+    name.iter().all(|b| is_free(*b))
 }
 
 // A byte of a name as it stands in a bare label: an underscore for a blank.
 fn underscored(b: u8) -> u8
     ensures { result ≡ Writing·underscored b }
 {
-    if b == b' ' {
-        return b'_';
-    }
-    b
+    if b == b' ' { b'_' } else { b }
 }
 
 // Writes the name bare from `at` on; answers the offset behind it.
@@ -43,31 +30,26 @@ fn bare(out: &mut [u8], at: usize, name: &[u8]) -> usize
     requires { at + length name.now ≤ length out.old }
     ensures { Put out.old at (map Writing·underscored name.now) result out.new }
 {
-    let mut i = 0;
-    while i < name.len() {
-        out[at + i] = underscored(name[i]);
-        i += 1;
+    for (i, b) in name.iter().enumerate() {
+        out[at + i] = underscored(*b);
     }
-    at + i
+    at + name.len()
 }
 
-// Writes the name with each quote twice from `at` on; answers the offset behind it.
+// Writes the name with each quote twice from `at` on; answers the offset behind it. `bare` puts one byte for each, so one function for both is no plainer.
 fn doubled(out: &mut [u8], at: usize, name: &[u8]) -> usize
     requires { at + length (Labels·doubled name.now) ≤ length out.old }
     ensures { Put out.old at (Labels·doubled name.now) result out.new }
 {
     let mut end = at;
-    let mut i = 0;
-    while i < name.len() {
-        let b = name[i];
-        let quote = b == b'\'';
+    for b in name {
+        let quote = *b == b'\'';
         if quote {
-            out[end] = b;
+            out[end] = *b;
             end += 1;
         }
-        out[end] = b;
+        out[end] = *b;
         end += 1;
-        i += 1;
     }
     end
 }
@@ -89,9 +71,10 @@ pub(crate) fn written(out: &mut [u8], at: usize, name: &[u8]) -> usize
     ensures { Put out.old at (label_of name.now) result out.new }
 {
     if may_be_bare(name) {
-        return bare(out, at, name);
+        bare(out, at, name)
+    } else {
+        quoted(out, at, name)
     }
-    quoted(out, at, name)
 }
 
 // How many bytes the name has with each quote twice.
@@ -99,15 +82,7 @@ fn doubled_length(name: &[u8]) -> usize
     requires { length name.now ≤ 16 }
     ensures { result ≡ length (Labels·doubled name.now) }
 {
-    let mut total = name.len();
-    let mut i = 0;
-    while i < name.len() {
-        if name[i] == b'\'' {
-            total += 1;
-        }
-        i += 1;
-    }
-    total
+    name.len() + name.iter().filter(|b| **b == b'\'').count()
 }
 
 // How many bytes the label of a name has.
@@ -116,7 +91,8 @@ pub(crate) fn written_length(name: &[u8]) -> usize
     ensures { result ≡ length (label_of name.now) }
 {
     if may_be_bare(name) {
-        return name.len();
+        name.len()
+    } else {
+        doubled_length(name) + 2
     }
-    doubled_length(name) + 2
 }

@@ -7,15 +7,23 @@ ghost use Rattle.texts.specs.Work.{name_in, names_in, bytes_if, labels_in};
 
 use crate::forms::{written, written_length};
 
+// The name of species i.
+fn name(table: &[u8], i: usize) -> &[u8]
+    requires { 16 * i + 16 ≤ length table.now }
+    ensures value { result.now ≡ name_in table.now i }
+    ensures short { length result.now ≤ 16 }
+{
+    let start = 16 * i;
+    &table[start..start + roster::name_len(table, i)]
+}
+
 // Writes the label of species i from `at` on; answers the offset behind it.
 pub(crate) fn label(out: &mut [u8], at: usize, table: &[u8], i: usize) -> usize
     requires i_in_bounds { 16 * i + 16 ≤ length table.now }
     requires i_in_bounds_2 { at + length (Writing·label (name_in table.now i)) ≤ length out.old }
     ensures { Put out.old at (Writing·label (name_in table.now i)) result out.new }
 {
-    let n = roster::name_len(table, i);
-    let start = 16 * i;
-    written(out, at, &table[start..start + n])
+    written(out, at, name(table, i))
 }
 
 // The length of the label of species i, where it is in the set; else 0.
@@ -23,13 +31,11 @@ fn label_length(table: &[u8], i: usize, set: u32) -> usize
     requires { (i ≤ 15) × (16 * i + 16 ≤ length table.now) }
     ensures { result ≡ bytes_if (within (single i) set) (length (Writing·label (name_in table.now i))) }
 {
-    let one = clusters::single(i);
-    if clusters::within(one, set) {
-        let n = roster::name_len(table, i);
-        let start = 16 * i;
-        return written_length(&table[start..start + n]);
+    if clusters::within(clusters::single(i), set) {
+        written_length(name(table, i))
+    } else {
+        0
     }
-    0
 }
 
 // The length of the text of a record of m clusters on a set of the n species: the labels of the set, and two bytes for each cluster less one for each species of it.
@@ -40,10 +46,8 @@ pub fn text_length(table: &[u8], n: usize, set: u32, m: usize) -> usize
     ensures { result + size set ≡ labels_in (names_in n table.now) set n + 2 * m }
 {
     let mut total = 2 * m;
-    let mut i = 0;
-    while i < n {
+    for i in 0..n {
         total += label_length(table, i, set);
-        i += 1;
     }
     total - clusters::size(set) as usize
 }

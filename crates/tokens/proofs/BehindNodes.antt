@@ -12,18 +12,18 @@ use Rattle.labels.specs.Labels.Told.{ended, faulty}
 use Rattle.tokens.specs.Answers.{and_then}
 use Rattle.tokens.specs.Answers.Answer.{parsed}
 use Rattle.tokens.specs.Tokens.{blanks, skip, number, number_behind, second_number, first_number, numbers, name_by, name, inner_name}
-use Rattle.tokens.specs.Says.{between, Valued, name_says, inner_word}
+use Rattle.tokens.specs.Says.{between, Valued, label_says, inner_word}
 use Rattle.tokens.specs.declared.answer.Figure.{Figure}
-use Rattle.tokens.specs.declared.answer.Value.TheVariants.{NoValue}
+use Rattle.std.proofs.Common.{None}
 use Rattle.tokens.proofs.Places.{skip_to, tail_at}
 use Rattle.tokens.proofs.Values.{no_bytes}
 
 -- no bytes
-pub between_none : (text : List ℕ) (p : ℕ) → between text (record { from = p; to = p; value = NoValue }) ≡ []
+pub between_none : (text : List ℕ) (p : ℕ) → between text (record { from = p; to = p; value = None }) ≡ []
 between_none text p = let e : p - p ≡ 0 = omega arith in rw e
 
 -- have no value
-pub none_valued : (text : List ℕ) (p : ℕ) → Valued text (record { from = p; to = p; value = NoValue })
+pub none_valued : (text : List ℕ) (p : ℕ) → Valued text (record { from = p; to = p; value = None })
 none_valued text p = (rw (between_none text p) no_bytes.0, rw (between_none text p) (omega arith))
 
 -- the blanks from `at` on end at `colon`
@@ -62,7 +62,7 @@ module _ (text : List ℕ) (at colon : ℕ) (skipped : colon ≡ at + blanks (dr
 
     -- a second colon: the support alone
     pub support-alone :
-        (none : Figure) → none ≡ record { from = second; to = second; value = NoValue } → next_is 58 (drop second text) ≡ true
+        (none : Figure) → none ≡ record { from = second; to = second; value = None } → next_is 58 (drop second text) ≡ true
         → and_then (number_behind (drop (second + 1) text) (second + 1))
         (λ b s p. parsed (record { name = w; distance = between text none; support = b }) s p)
         ≡ numbers w (drop at text) at
@@ -78,18 +78,18 @@ module _ (text : List ℕ) (at colon : ℕ) (skipped : colon ≡ at + blanks (dr
         rw (numbers_first, skip_to text (colon + 1) second again, u, number_behind_lem text (colon + 1) second again)
 
 -- the label that is scanned is the name
-pub scanned-name : (text : List ℕ) (at : ℕ) → name_says text (letters (drop at text)) (scanned_at text at).label ≡ name (drop at text) at
+pub scanned-name : (text : List ℕ) (at : ℕ) → label_says text (letters (drop at text)) (scanned_at text at) ≡ name (drop at text) at
 unfolding scanned_at name
 scanned-name text at = by_end (told (drop at text))
   where
-    by_end : (t : Told) → name_says text (letters (drop at text)) (scanned_by t (drop at text) at).label ≡ name_by t (drop at text) at
+    by_end : (t : Told) → label_says text (letters (drop at text)) (scanned_by t (drop at text) at) ≡ name_by t (drop at text) at
     by_end (ended n) = rw (drop-drop n at text)
-    by_end (faulty number d) = refl
+    by_end (faulty fault d) = refl
 
 -- an inner node's name
 module _ (text : List ℕ) (at begun : ℕ) (skipped : begun ≡ at + blanks (drop at text)) where
   pub inner-named :
-      next_label (drop begun text) ≡ true → name_says text (inner_word (drop at text)) (scanned_at text begun).label ≡ inner_name (drop at text) at
+      next_label (drop begun text) ≡ true → label_says text (inner_word (drop at text)) (scanned_at text begun) ≡ inner_name (drop at text) at
   unfolding inner_word inner_name
   inner-named t =
       rw (skip_to text at begun skipped, t, skip_to text at begun skipped, ← skipped) (scanned-name text begun)

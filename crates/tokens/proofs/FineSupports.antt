@@ -13,13 +13,11 @@ use Rattle.tokens.specs.Answers.{Answer, and_then, unexpected}
 use Rattle.tokens.specs.Answers.Answer.{parsed, refused}
 use Rattle.tokens.specs.Tokens.{number_bytes, blanks, skip, limited, numeral, pointed, fraction, digits, number, number_behind, second_number, first_number, numbers_by, numbers}
 use Rattle.tokens.specs.Values.{too_fine, value_unless, thousandths}
-use Rattle.tokens.specs.Says.{between, behind_says, behind_valued, fine_by, fine_figure, fine_as, judged_as}
-use Rattle.tokens.specs.Supports.{is_given, unless_fine, supported}
-use Rattle.tokens.specs.declared.answer.Threshold.{Threshold}
-use Rattle.tokens.specs.declared.answer.Threshold.TheVariants.{NoThreshold, Below}
+use Rattle.tokens.specs.Says.{refusal, between, behind_says, behind_valued, fine_by, fine_figure, fine_as, judged_as}
+use Rattle.tokens.specs.Supports.{Threshold, is_given, unless_fine, supported}
 use Rattle.tokens.specs.declared.answer.Figures.{Figures}
-use Rattle.tokens.specs.declared.answer.BehindRead.{BehindRead}
-use Rattle.tokens.specs.declared.answer.BehindRead.TheVariants.{Behind as Extended, Refused as NotExtended}
+use Rattle.std.proofs.Common.{None, Some, Ok}
+use Rattle.faults.specs.declared.Refusal.{Refusal}
 use Rattle.tokens.proofs.Values.{no_bytes, number-value}
 
 -- what was read has the property P
@@ -121,17 +119,10 @@ fine_same (b ∷ w) from to begun e = rw (number-value (b ∷ w) (begun (omega a
     by_fine true n = lt-ltb from to (omega arith)
     by_fine false n = refl
 
--- where a threshold is given, what was read is judged by its support
-pub judged_by_lem :
-    (t : Threshold) (r : BehindRead) (e : Figures) (n : ℕ) → r ≡ Extended e → t ≡ Below n → (fine : Bool) → fine ≡ fine_figure e.support
-    → fine_as fine e ≡ judged_as t r
-judged_by_lem t r e n read given fine is = rw (read, given, is)
-
 -- what is judged keeps its values
-pub judged-valued : (text : List ℕ) (t : Threshold) (r : BehindRead) → behind_valued text r → behind_valued text (judged_as t r)
-judged-valued text t (NotExtended e) v = tt
-judged-valued text NoThreshold (Extended e) v = v
-judged-valued text (Below n) (Extended e) v = by_fine (fine_figure e.support)
+pub judged-valued : (text : List ℕ) (t : Threshold) (e : Figures) → behind_valued text (Ok e) → behind_valued text (judged_as t e)
+judged-valued text None e v = v
+judged-valued text (Some n) e v = by_fine (fine_figure e.support)
   where
     by_fine : (fine : Bool) → behind_valued text (fine_as fine e)
     by_fine true = tt
@@ -140,12 +131,11 @@ judged-valued text (Below n) (Extended e) v = by_fine (fine_figure e.support)
 -- numbers that were read and judged are numbers with their support judged
 module _ (text w s : List ℕ) (p : ℕ) where
   pub judged-supported :
-      (t : Threshold) (r : BehindRead) → behind_valued text r → behind_says text w r ≡ numbers w s p
-      → behind_says text w (judged_as t r) ≡ supported (is_given t) w s p
+      (t : Threshold) (e : Figures) → behind_valued text (Ok e) → behind_says text w (Ok e) ≡ numbers w s p
+      → behind_says text w (judged_as t e) ≡ supported (is_given t) w s p
   unfolding supported
-  judged-supported t (NotExtended e) v says = rw (← says)
-  judged-supported NoThreshold (Extended e) v says = rw (← says)
-  judged-supported (Below n) (Extended e) v says = rw (← says, same) (by_fine (too_fine bytes))
+  judged-supported None e v says = rw (← says)
+  judged-supported (Some n) e v says = rw (← says, same) (by_fine (too_fine bytes))
     where
       bytes : List ℕ
       bytes = between text e.support
@@ -159,3 +149,8 @@ module _ (text w s : List ℕ) (p : ℕ) where
           ≡ unless_fine fine (record { name = w; distance = between text e.distance; support = bytes }) (drop e.next text) e.next
       by_fine true = ap (refused 18) (omega (arith, v.1.1, v.2))
       by_fine false = refl
+
+  -- and a refusal of them stays
+  pub refused-supported : (given : Bool) (e : Refusal) → refusal e ≡ numbers w s p → refusal e ≡ supported given w s p
+  unfolding supported
+  refused-supported given e says = rw (← says)

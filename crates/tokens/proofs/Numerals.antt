@@ -1,35 +1,18 @@
 -- A number read from a place of the text, for each way that it ends.
 use Prim.Native.Nat.{ℕ, zero, suc, ◌+◌, ◌-◌, ◌≤◌, ◌<◌}
 use native.Mathlib.Omega.{arith}
-use mathlib.Core.Path.{◌≡◌, sym, ap, ◌∙◌}
+use mathlib.Core.Path.{◌≡◌, refl, sym, ◌∙◌}
 use mathlib.Core.Bool.{Bool, true, false}
 use mathlib.Core.List.{List}
-use lib.ListN.{length, drop, length-drop}
-use lib.Seq.{drop-drop, length-take-le}
+use lib.ListN.{length, drop}
+use lib.Seq.{drop-drop}
 use borrow.Author.Tests.{le-leb, lt-leb}
 use Rattle.labels.specs.Bytes.{is_digit, run, next_is}
 use Rattle.labels.proofs.Runs.{run_left}
-use Rattle.tokens.specs.Answers.Answer.{parsed, refused}
 use Rattle.tokens.specs.Tokens.{numeral, pointed, digits, number}
-use Rattle.tokens.specs.Says.{refusal, stray_at, between}
-use Rattle.tokens.specs.declared.answer.Refusal.{Refusal}
-use Rattle.tokens.specs.declared.answer.Value.{Value}
+use Rattle.tokens.specs.Says.{refusal, stray_at}
+use Rattle.faults.specs.declared.Refusal.{Refusal}
 use Rattle.tokens.proofs.Places.{stray-unexpected}
-
-module _ (text : List ℕ) (at n : ℕ) where
-  -- n bytes are few enough, or too many
-  pub numeral-short :
-      (v : Value) → n ≤ 12 → parsed (between text (record { from = at; to = at + n; value = v })) (drop (at + n) text) (at + n) ≡ numeral n (drop at text) at
-  numeral-short v h = let e : at + n - at ≡ n = omega arith in rw (e, le-leb n 12 h, drop-drop n at text)
-
-  -- and where the text has them, they stand between the two places
-  pub numeral-within : (v : Value) → at + n ≤ length text → at + n ≡ at + length (between text (record { from = at; to = at + n; value = v }))
-  numeral-within v h =
-      let e : at + n - at ≡ n = omega arith in
-      rw e (ap (λ (l : ℕ). at + l) (sym (length-take-le n (drop at text) (omega (arith, length-drop at text)))))
-
-  pub numeral-long : 12 < n → refused 4 (at + 12) ≡ numeral n (drop at text) at
-  numeral-long h = rw (lt-leb n 12 h)
 
 module _ (s : List ℕ) (p : ℕ) where
   -- no digit
@@ -103,3 +86,13 @@ module _ (text : List ℕ) (at d : ℕ) (whole : d ≡ run is_digit (drop at tex
 
       pub decimal-number : 0 < e → numeral (d + 1 + e) (drop at text) at ≡ number (drop at text) at
       decimal-number h = number-decimal (drop at text) at d whole some (behind-digits true point) e part-digits h
+
+      -- digits behind it, or no room for one
+      pub past_point : (e ≡ 0 → 12 ≤ d) → numeral (d + 1 + e) (drop at text) at ≡ number (drop at text) at
+      past_point full = by e refl
+        where
+          by : (k : ℕ) → e ≡ k → numeral (d + 1 + e) (drop at text) at ≡ number (drop at text) at
+          by zero z =
+              let n : d + 1 + e ≡ d + 1 = omega arith in
+              rw n (point_too_long z (full z))
+          by (suc k) z = decimal-number (omega arith)

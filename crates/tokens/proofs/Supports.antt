@@ -10,11 +10,9 @@ use Rattle.trees.specs.Tree.{Behind}
 use Rattle.tokens.specs.Answers.{Answer, and_then}
 use Rattle.tokens.specs.Answers.Answer.{parsed, refused}
 use Rattle.tokens.specs.Tokens.{numbers}
-use Rattle.tokens.specs.Values.{leading, decimals, too_fine}
+use Rattle.tokens.specs.Values.{Value, leading, decimals, too_fine}
 use Rattle.tokens.specs.Supports.{refuses_fine, unless_fine, supported, below}
-use Rattle.tokens.specs.declared.answer.Value.{Value}
-use Rattle.tokens.specs.declared.answer.Value.TheVariants.{Thousandths, NoValue}
-use Rattle.tokens.specs.declared.answer.Threshold.TheVariants.{Below}
+use Rattle.std.proofs.Common.{None, Some}
 
 -- "without a threshold nothing changes" (#113)
 pub supported_none : (w s : List ℕ) (p : ℕ) → supported false w s p ≡ numbers w s p
@@ -37,12 +35,7 @@ pub record Judged (given : Bool) (w s : List ℕ) (p : ℕ) (b : Behind) (rest :
   pub not_fine : refuses_fine given b.support ≡ false
 
 module _ (given : Bool) (w s : List ℕ) (p : ℕ) {b : Behind} {rest : List ℕ} {q : ℕ} where
-  -- numbers whose support is not too fine are read the same with it judged
-  pub not_fine_same : numbers w s p ≡ parsed b rest q → refuses_fine given b.support ≡ false → supported given w s p ≡ parsed b rest q
-  unfolding supported
-  not_fine_same is coarse = rw (is, coarse)
-
-  -- and what is read with it judged are such numbers
+  -- what is read with its support judged are numbers whose support is not too fine
   pub supported-parsed : supported given w s p ≡ parsed b rest q → Judged given w s p b rest q
   unfolding supported
   supported-parsed h = by_answer (numbers w s p) refl h
@@ -60,11 +53,11 @@ module _ (given : Bool) (w s : List ℕ) (p : ℕ) {b : Behind} {rest : List ℕ
       by_answer (refused n r) e k = absurd (let z : ◌≡◌ {A = ℕ} 0 1 = cc in omega arith)
 
 -- a value below one threshold is below every higher one
-pub below_higher : (m n : ℕ) (v : Value) → m ≤ n → below (Below m) v ≡ true → below (Below n) v ≡ true
-below_higher m n (Thousandths k) h is = let l = ltb-true k m is in lt-ltb k n (omega arith)
-below_higher m n NoValue h is = is
+pub below_higher : (m n : ℕ) (v : Value) → m ≤ n → below (Some m) v ≡ true → below (Some n) v ≡ true
+below_higher m n (Some k) h is = let l = ltb-true k m is in lt-ltb k n (omega arith)
+below_higher m n None h is = is
 
 -- no value is below 0
-pub below-zero : (v : Value) → below (Below 0) v ≡ false
-below-zero (Thousandths k) = le-ltb k 0 (omega arith)
-below-zero NoValue = refl
+pub below-zero : (v : Value) → below (Some 0) v ≡ false
+below-zero (Some k) = le-ltb k 0 (omega arith)
+below-zero None = refl

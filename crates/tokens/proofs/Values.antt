@@ -15,18 +15,19 @@ use Rattle.labels.proofs.Bytewise.{All}
 use Rattle.labels.proofs.Bytewise.All.{no_byte, a_byte}
 use Rattle.tokens.proofs.DigitValues.{filled_none, filled_zero, filled-behind, filled-below, written-zero, written_below, tens_rise}
 use Rattle.tokens.specs.Values.{leading, decimals, written_behind, written, filled, too_fine, value_unless, value_by, thousandths}
-use Rattle.tokens.specs.declared.answer.Value.TheVariants.{Thousandths, NoValue}
+use Rattle.std.proofs.Common.{None, Some}
+use Rattle.std.proofs.lemmas.Option.{none-some, same_Some}
 
 -- a number that is written
 value_some : (fine : Bool) (w ds : List ℕ) → 0 < length w → value_by fine w ds ≡ value_unless fine (1000 * written w + written (filled ds))
 value_some fine [] ds h = absurd (omega arith)
 value_some fine (d ∷ w) ds h = refl
 
-pub no_value : {n : ℕ} → NoValue ≡ Thousandths n → ⊥
-no_value e = let z : ◌≡◌ {A = ℕ} 0 1 = cc in absurd (omega arith)
+pub no_value : {n : ℕ} → None ≡ Some n → ⊥
+no_value {n} e = none-some n e
 
 -- no bytes have no value, and are not too fine
-pub no_bytes : (NoValue ≡ thousandths []) × (too_fine [] ≡ false)
+pub no_bytes : (None ≡ thousandths []) × (too_fine [] ≡ false)
 unfolding thousandths too_fine decimals leading run
 no_bytes = (refl, refl)
 
@@ -39,7 +40,7 @@ module _ (bytes : List ℕ) (whole : ℕ) (first : whole ≡ run is_digit bytes)
   leading_many : length (leading bytes) ≡ whole
   leading_many = rw leading_is (length-take-le whole bytes (omega (arith, run-within is_digit bytes)))
 
-  pub valued_none : whole ≡ 0 → NoValue ≡ thousandths bytes
+  pub valued_none : whole ≡ 0 → None ≡ thousandths bytes
   unfolding thousandths
   valued_none none = let e : leading bytes ≡ [] = rw none at leading_is in rw e
 
@@ -58,12 +59,12 @@ module _ (bytes : List ℕ) (whole : ℕ) (first : whole ≡ run is_digit bytes)
     unfolding thousandths too_fine
     value_is = rw (← decimals_many) (value_some (ltb 3 (length (decimals bytes))) (leading bytes) (decimals bytes) (omega (arith, leading_many)))
 
-    pub valued-fine : 3 < part → NoValue ≡ thousandths bytes
+    pub valued-fine : 3 < part → None ≡ thousandths bytes
     valued-fine h = rw (value_is, lt-ltb 3 part h)
 
     pub valued :
         (units thousands : ℕ) → part ≤ 3 → units ≡ written (take whole bytes) → thousands ≡ written (filled (take part (drop (whole + 1) bytes)))
-        → Thousandths (1000 * units + thousands) ≡ thousandths bytes
+        → Some (1000 * units + thousands) ≡ thousandths bytes
     valued units thousands h u t = rw (value_is, le-ltb 3 part h, leading_is, decimals-are, ← u, ← t)
 
 -- ---- the value of digits, and of digits, a point and digits
@@ -92,10 +93,10 @@ module _ (w : List ℕ) (all : All is_digit w) (some : 0 < length w) where
       rw end
 
   -- "digits times 1000"
-  pub whole_value : thousandths w ≡ Thousandths (1000 * written w)
+  pub whole_value : thousandths w ≡ Some (1000 * written w)
   whole_value =
       let v = valued w (length w) whole_counted some 0 nothing-behind (written w) 0 (omega arith) (rw (take-length w)) (sym filled_none) in
-      sym v ∙ ap Thousandths (omega arith)
+      sym v ∙ ap Some (omega arith)
 
   pub whole_not_fine : too_fine w ≡ false
   unfolding too_fine
@@ -115,7 +116,7 @@ module _ (v w : List ℕ) (before : All is_digit v) (some : 0 < length v) (behin
   counted-behind = rw behind-point (sym (rw (append-nil w) at (digits-counted behind [] refl)))
 
   -- "and the decimals as thousandths"
-  pub decimal-value : length w ≤ 3 → thousandths (v ++ 46 ∷ w) ≡ Thousandths (1000 * written v + written (filled w))
+  pub decimal-value : length w ≤ 3 → thousandths (v ++ 46 ∷ w) ≡ Some (1000 * written v + written (filled w))
   decimal-value few =
       sym
       (valued (v ++ 46 ∷ w) (length v) counted some (length w) counted-behind (written v) (written (filled w)) few
@@ -123,7 +124,7 @@ module _ (v w : List ℕ) (before : All is_digit v) (some : 0 < length v) (behin
       (rw (behind-point, take-length w)))
 
   -- "a longer one no value" (#113)
-  pub decimal_too_fine : 3 < length w → thousandths (v ++ 46 ∷ w) ≡ NoValue
+  pub decimal_too_fine : 3 < length w → thousandths (v ++ 46 ∷ w) ≡ None
   decimal_too_fine fine = sym (valued-fine (v ++ 46 ∷ w) (length v) counted some (length w) counted-behind fine)
 
   pub fine_by_decimals : too_fine (v ++ 46 ∷ w) ≡ ltb 3 (length w)
@@ -131,8 +132,8 @@ module _ (v w : List ℕ) (before : All is_digit v) (some : 0 < length v) (behin
   fine_by_decimals = rw (decimals_many (v ++ 46 ∷ w) (length v) counted some (length w) counted-behind)
 
   -- in a second way: the digits without the point, filled up to three decimals, write the thousandths
-  pub point_left_out : length w ≤ 3 → thousandths (v ++ 46 ∷ w) ≡ Thousandths (written (v ++ filled w))
-  point_left_out few = decimal-value few ∙ ap Thousandths (sym (filled-behind v w few))
+  pub point_left_out : length w ≤ 3 → thousandths (v ++ 46 ∷ w) ≡ Some (written (v ++ filled w))
+  point_left_out few = decimal-value few ∙ ap Some (sym (filled-behind v w few))
 
 zero-digits : {w : List ℕ} → All is_digit w → All is_digit (w ++ (48 ∷ []))
 zero-digits no_byte = a_byte refl no_byte
@@ -143,7 +144,7 @@ pub zero-behind :
     (v w : List ℕ) → All is_digit v → 0 < length v → All is_digit w → length w < 3 → thousandths (v ++ 46 ∷ (w ++ (48 ∷ []))) ≡ thousandths (v ++ 46 ∷ w)
 zero-behind v w before some behind few =
     decimal-value v (w ++ (48 ∷ [])) before some (zero-digits behind) (omega (arith, length-append w (48 ∷ [])))
-    ∙ (ap (λ (ds : List ℕ). Thousandths (1000 * written v + written ds)) (filled_zero w few)
+    ∙ (ap (λ (ds : List ℕ). Some (1000 * written v + written ds)) (filled_zero w few)
     ∙ sym (decimal-value v w before some behind (omega arith)))
 
 -- ---- a number has no value exactly where it is too fine
@@ -154,8 +155,8 @@ unfolding thousandths
 number-value bytes some = value_some (too_fine bytes) (leading bytes) (decimals bytes) (omega (arith, leading_many bytes (run is_digit bytes) refl))
 
 pub record NoneWhereFine (w : List ℕ) : Type 0 where
-  pub too_fine_lem : too_fine w ≡ true → thousandths w ≡ NoValue
-  pub none : thousandths w ≡ NoValue → too_fine w ≡ true
+  pub too_fine_lem : too_fine w ≡ true → thousandths w ≡ None
+  pub none : thousandths w ≡ None → too_fine w ≡ true
 
 pub none_where_fine : (bytes : List ℕ) → 0 < run is_digit bytes → NoneWhereFine bytes
 none_where_fine bytes some = by_fine (too_fine bytes) refl (number-value bytes some)
@@ -202,7 +203,7 @@ zeros_in_front (suc n) w some = zero_in_front (replicate n 48 ++ w) (digits_firs
 -- ---- how large it can be
 
 -- twelve bytes are worth less than 10 ^ 15 thousandths
-pub value-below : (bytes : List ℕ) (n : ℕ) → length bytes ≤ 12 → thousandths bytes ≡ Thousandths n → n < 10 ^ 15
+pub value-below : (bytes : List ℕ) (n : ℕ) → length bytes ≤ 12 → thousandths bytes ≡ Some n → n < 10 ^ 15
 value-below bytes n few is = by_whole (dec_lt 0 (run is_digit bytes))
   where
     whole : ℕ
@@ -212,10 +213,10 @@ value-below bytes n few is = by_whole (dec_lt 0 (run is_digit bytes))
     rest = drop (whole + 1) bytes
 
     by_fine : 0 < whole → (part : ℕ) → part ≡ run is_digit rest → (fine : Bool) → ltb 3 part ≡ fine
-        → value_unless fine (1000 * written (leading bytes) + written (filled (decimals bytes))) ≡ Thousandths n → n < 10 ^ 15
+        → value_unless fine (1000 * written (leading bytes) + written (filled (decimals bytes))) ≡ Some n → n < 10 ^ 15
     by_fine some part second true t e = absurd (no_value e)
     by_fine some part second false t e =
-        let same : 1000 * written (leading bytes) + written (filled (decimals bytes)) ≡ n = cc in
+        let same : 1000 * written (leading bytes) + written (filled (decimals bytes)) ≡ n = same_Some _ n e in
         let l : written (leading bytes) < 10 ^ whole = rw (leading_is bytes whole refl) (written_below bytes whole (omega arith)) in
         let m : written (decimals bytes) < 10 ^ part = rw (decimals-are bytes whole refl some part second) (written_below rest part (omega arith)) in
         let k = filled-below part (decimals bytes) (sym (decimals_many bytes whole refl some part second)) (ltb-false 3 part t) m in
@@ -227,10 +228,10 @@ value-below bytes n few is = by_whole (dec_lt 0 (run is_digit bytes))
 
 -- ---- computed: `7`, `0.5`, `1.250`, `07`, `7.0`, `7.000`, `1.2345`, and the largest number of twelve bytes
 pub worked_values :
-    (thousandths (55 ∷ []) ≡ Thousandths 7000) × (thousandths (48 ∷ 46 ∷ 53 ∷ []) ≡ Thousandths 500)
-    × (thousandths (49 ∷ 46 ∷ 50 ∷ 53 ∷ 48 ∷ []) ≡ Thousandths 1250) × (thousandths (48 ∷ 55 ∷ []) ≡ Thousandths 7000)
-    × (thousandths (55 ∷ 46 ∷ 48 ∷ []) ≡ Thousandths 7000) × (thousandths (55 ∷ 46 ∷ 48 ∷ 48 ∷ 48 ∷ []) ≡ Thousandths 7000)
-    × (thousandths (49 ∷ 46 ∷ 50 ∷ 51 ∷ 52 ∷ 53 ∷ []) ≡ NoValue) × (too_fine (49 ∷ 46 ∷ 50 ∷ 51 ∷ 52 ∷ 53 ∷ []) ≡ true)
-    × (thousandths (replicate 12 57) ≡ Thousandths 999999999999000) × (thousandths [] ≡ NoValue)
+    (thousandths (55 ∷ []) ≡ Some 7000) × (thousandths (48 ∷ 46 ∷ 53 ∷ []) ≡ Some 500)
+    × (thousandths (49 ∷ 46 ∷ 50 ∷ 53 ∷ 48 ∷ []) ≡ Some 1250) × (thousandths (48 ∷ 55 ∷ []) ≡ Some 7000)
+    × (thousandths (55 ∷ 46 ∷ 48 ∷ []) ≡ Some 7000) × (thousandths (55 ∷ 46 ∷ 48 ∷ 48 ∷ 48 ∷ []) ≡ Some 7000)
+    × (thousandths (49 ∷ 46 ∷ 50 ∷ 51 ∷ 52 ∷ 53 ∷ []) ≡ None) × (too_fine (49 ∷ 46 ∷ 50 ∷ 51 ∷ 52 ∷ 53 ∷ []) ≡ true)
+    × (thousandths (replicate 12 57) ≡ Some 999999999999000) × (thousandths [] ≡ None)
 unfolding thousandths too_fine decimals leading run filled written written_behind
 worked_values = (refl, refl, refl, refl, refl, refl, refl, refl, refl, refl)

@@ -1,5 +1,5 @@
 pub mod Answers
 pub mod Tokens
 pub mod Values
-pub mod Says
 pub mod Supports
+pub mod Says

@@ -1,19 +1,19 @@
 -- Supports and the threshold (#113).
-use Rattle.std.specs.Prelude.{ℕ, ◌-◌, Bool, true, false, ◌&&◌, List, length, ltb}
+use Rattle.std.specs.Prelude.{ℕ, ◌-◌, Bool, true, false, ◌&&◌, List, length, ltb, Option, None, Some}
 use Rattle.trees.specs.Tree.{Behind}
 use Rattle.tokens.specs.Answers.{Answer, and_then}
 use Rattle.tokens.specs.Answers.Answer.{parsed, refused}
 use Rattle.tokens.specs.Tokens.{numbers}
-use Rattle.tokens.specs.Values.{too_fine, thousandths}
-use Rattle.tokens.specs.declared.answer.Value.{Value}
-use Rattle.tokens.specs.declared.answer.Value.TheVariants.{Thousandths, NoValue}
-use Rattle.tokens.specs.declared.answer.Threshold.{Threshold}
-use Rattle.tokens.specs.declared.answer.Threshold.TheVariants.{NoThreshold, Below}
+use Rattle.tokens.specs.Values.{Value, too_fine, thousandths}
 
--- "Reading may be given a threshold" (#113)
+-- "Reading may be given a threshold" (#113), in whole thousandths
+abbrev pub Threshold : Type 0
+Threshold = Option ℕ
+
+-- a threshold is given
 abbrev pub is_given : Threshold → Bool
-is_given NoThreshold = false
-is_given (Below amount) = true
+is_given None = false
+is_given (Some amount) = true
 
 -- "18, only where a threshold is given, for a support with more than three decimals" (#113)
 abbrev pub refuses_fine : Bool → List ℕ → Bool
@@ -30,9 +30,9 @@ supported given w s p = and_then (numbers w s p) (λ b s p. unless_fine (refuses
 
 -- "support strictly below the threshold"; "without support it stays" (#113)
 abbrev pub below : Threshold → Value → Bool
-below NoThreshold v = false
-below (Below amount) NoValue = false
-below (Below amount) (Thousandths n) = ltb n amount
+below None v = false
+below (Some amount) None = false
+below (Some amount) (Some n) = ltb n amount
 
 -- whether what stands behind an inner node makes it lose its cluster
 abbrev pub weak : Threshold → Behind → Bool

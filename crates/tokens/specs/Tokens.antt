@@ -1,6 +1,7 @@
 -- Blanks, names and numbers at the front of a text, and what stands behind a node (01, "Tree text").
 use Rattle.std.specs.Prelude.{ℕ, zero, suc, ◌+◌, Bool, true, false, take, drop, leb}
 use mathlib.Core.List.{List, [], tail}
+use Rattle.faults.specs.Faults.{number as number_of}
 use Rattle.labels.specs.Bytes.{is_digit, is_blank, run, next_is, next_label}
 use Rattle.labels.specs.Labels.{letters, Told, told}
 use Rattle.labels.specs.Labels.Told.{ended, faulty}
@@ -77,7 +78,7 @@ numbers w s p = numbers_by (next_is 58 (skip s)) w s p
 -- a label as an answer: its name with the text behind it, or its fault
 abbrev pub name_by : Told → List ℕ → ℕ → Answer (List ℕ)
 name_by (ended n) s p = parsed (letters s) (drop n s) (p + n)
-name_by (faulty number d) s p = refused number (p + d)
+name_by (faulty fault d) s p = refused (number_of fault) (p + d)
 
 -- the name at the front, decoded: "Names are 1 to 15 printable bytes decoded" (#103)
 unfoldable pub name : List ℕ → ℕ → Answer (List ℕ)

@@ -1,8 +1,10 @@
 -- What the bytes of a number are worth, in whole thousandths (#113).
-use Rattle.std.specs.Prelude.{ℕ, ◌+◌, ◌-◌, ◌*◌, Bool, true, false, List, [], ◌∷◌, ◌++◌, length, take, drop, replicate, ltb}
+use Rattle.std.specs.Prelude.{ℕ, ◌+◌, ◌-◌, ◌*◌, Bool, true, false, List, [], ◌∷◌, ◌++◌, length, take, drop, replicate, ltb, Option, None, Some}
 use Rattle.labels.specs.Bytes.{is_digit, run}
-use Rattle.tokens.specs.declared.answer.Value.{Value}
-use Rattle.tokens.specs.declared.answer.Value.TheVariants.{Thousandths, NoValue}
+
+-- "a longer one no value" (#113), any other number whole thousandths
+abbrev pub Value : Type 0
+Value = Option ℕ
 
 -- "A number of up to three decimals" (#113)
 abbrev pub most_decimals : ℕ
@@ -35,12 +37,12 @@ too_fine w = ltb most_decimals (length (decimals w))
 
 -- none where the number is too fine
 abbrev pub value_unless : Bool → ℕ → Value
-value_unless true n = NoValue
-value_unless false n = Thousandths n
+value_unless true n = None
+value_unless false n = Some n
 
 -- the digits times 1000, and the decimals as thousandths; none where no number is written
 abbrev pub value_by : Bool → List ℕ → List ℕ → Value
-value_by fine [] ds = NoValue
+value_by fine [] ds = None
 value_by fine (d ∷ w) ds = value_unless fine (1000 * written (d ∷ w) + written (filled ds))
 
 -- "yields whole thousandths" (#113)

@@ -7,8 +7,7 @@ mod cursor;
 mod number;
 mod value;
 
-pub use answer::{
-    BehindRead, Figure, Figures, Refusal, Threshold, Value, behind_refusal, label_refusal,
-};
+pub use answer::{Figure, Figures, Refusal};
 pub use behind::below;
-pub use cursor::{blanks, next_is, next_label, stray};
+pub use cursor::{blanks, stray};
+pub use labels::{next_is, next_label};

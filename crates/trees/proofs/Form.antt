@@ -10,13 +10,13 @@ use Rattle.trees.proofs.Places.{listed-length, listed-place}
 
 -- ---- rising
 
-rising_of_steps : (l : List ℕ) → ((k : ℕ) → suc k < length l → get_or l k 0 < get_or l (suc k) 0) → Rising l
+pub rising_of_steps : (l : List ℕ) → ((k : ℕ) → suc k < length l → get_or l k 0 < get_or l (suc k) 0) → Rising l
 unfolding Rising Below
 rising_of_steps [] f = tt
 rising_of_steps (x ∷ []) f = (tt, tt)
 rising_of_steps (x ∷ y ∷ l) f = (f 0 (omega arith), rising_of_steps (y ∷ l) (λ k h. f (suc k) (omega arith)))
 
-steps_of_rising : (l : List ℕ) → Rising l → (k : ℕ) → suc k < length l → get_or l k 0 < get_or l (suc k) 0
+pub steps_of_rising : (l : List ℕ) → Rising l → (k : ℕ) → suc k < length l → get_or l k 0 < get_or l (suc k) 0
 unfolding Rising Below
 steps_of_rising [] h k b = absurd (omega arith)
 steps_of_rising (x ∷ []) h k b = absurd (omega arith)

@@ -60,7 +60,7 @@ rising_same (x ∷ l) (y ∷ k) p q f g =
 -- ---- insertion
 
 -- the two numbers that meet in a step of the insertion are the two that leave it
-min-max : (x y : ℕ) → ((min x y ≡ x) × (max x y ≡ y)) ⊎ ((min x y ≡ y) × (max x y ≡ x))
+pub min-max : (x y : ℕ) → ((min x y ≡ x) × (max x y ≡ y)) ⊎ ((min x y ≡ y) × (max x y ≡ x))
 min-max x y = go (dec_le x y)
   where
     go : Dec (x ≤ y) → ((min x y ≡ x) × (max x y ≡ y)) ⊎ ((min x y ≡ y) × (max x y ≡ x))

@@ -24,7 +24,7 @@ use Rattle.trees.proofs.Nodes.{has-leaf, leaf-has}
 
 -- ---- how often a number stands in a list
 
-abbrev one_if : Bool → ℕ
+abbrev pub one_if : Bool → ℕ
 one_if true = 1
 one_if false = 0
 
@@ -39,7 +39,7 @@ unfolding times
 times_append x [] k = omega arith
 times_append x (y ∷ l) k = omega (arith, times_append x l k)
 
-times-among : {x : ℕ} (l : List ℕ) → Among x l → 1 ≤ times x l
+pub times-among : {x : ℕ} (l : List ℕ) → Among x l → 1 ≤ times x l
 unfolding times
 times-among [] m = absurd (Memᴰ.not-nil m)
 times-among {x} (y ∷ l) m = go (Memᴰ.cases_cons m) (λ k. times-among l k)
@@ -48,7 +48,7 @@ times-among {x} (y ∷ l) m = go (Memᴰ.cases_cons m) (λ k. times-among l k)
     go (inl e) ih = rw (eq-eqb x y e) (omega arith)
     go (inr k) ih = omega (arith, ih k)
 
-among-times : (x : ℕ) (l : List ℕ) → 1 ≤ times x l → Among x l
+pub among-times : (x : ℕ) (l : List ℕ) → 1 ≤ times x l → Among x l
 unfolding times
 among-times x [] h = absurd (omega arith)
 among-times x (y ∷ l) h = go (eqb x y) refl h (λ k. among-times x l k)

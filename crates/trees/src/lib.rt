@@ -9,6 +9,7 @@ pub struct Record {
 }
 
 // The record of a tree on individuals, of which there are up to 32: the same, twice as long.
+// No one generic type with `Record`, which is a type of the C interface (`capi`).
 #[derive(Clone, Copy)]
 pub struct WideRecord {
     pub numbers: [u32; 64],

@@ -5,6 +5,5 @@ use std::io::Write;
 
 pub fn run<W: Write>(to: &mut W, input: &[u8]) -> io::Result<()> {
     let report = report::report(input);
-    let text = report.text;
-    show::start_of(to, &text, report.len)
+    show::start_of(to, &report.text, report.len)
 }

@@ -1,25 +1,23 @@
 // `L` species | genes | count | allowed: finds the least tree by going through all binary trees, and prints the reply and the record;
 // `l` the same for gene trees without a root.
-use cases::fields::number;
+use crate::genes::Genes;
 use cases::packed::bytes;
-use cases::room;
+use cases::room::MOST;
 use showing::show;
 use std::io;
 use std::io::Write;
-use weights::Rooting;
 
-pub fn run<W: Write>(to: &mut W, rooting: Rooting, case: &[u8], records: &[u16]) -> io::Result<()> {
-    let mut allowed = room::bytes();
-    let n = bytes(case, 3, false, &mut allowed);
+pub fn run<W: Write>(to: &mut W, case: &[u8], genes: Genes) -> io::Result<()> {
+    let mut space = [238; MOST];
+    let allowed = bytes(case, 3, false, &mut space);
     let found = plain::plain(
-        rooting,
-        number(case, 0),
-        records,
-        number(case, 2),
-        &allowed[..n],
+        genes.rooting,
+        genes.species,
+        genes.records,
+        genes.count,
+        allowed,
     );
-    let entries = found.numbers;
     show::answer(to, found.number, found.place, found.score)?;
-    show::record_start(to, &entries)?;
+    show::record_start(to, &found.numbers)?;
     show::byte(to, b'\n')
 }

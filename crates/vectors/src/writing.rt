@@ -2,17 +2,13 @@
 use crate::replies;
 use cases::fields::lent_size;
 use cases::packed::tree;
-use cases::room;
+use cases::room::MOST;
 use std::io;
 use std::io::Write;
 
-fn write<W: Write>(to: &mut W, case: &[u8], line: &[u8], out: &mut [u8]) -> io::Result<()> {
+pub fn run<W: Write>(to: &mut W, case: &[u8], line: &[u8]) -> io::Result<()> {
+    let mut out = [238; MOST];
+    let out = &mut out[..lent_size(case, 2)];
     let reply = writer::write(line, tree(case, 1), out);
     replies::with_text(to, reply, out)
-}
-
-pub fn run<W: Write>(to: &mut W, case: &[u8], line: &[u8]) -> io::Result<()> {
-    let mut out = room::bytes();
-    let size = lent_size(case, 2);
-    write(to, case, line, &mut out[0..size])
 }

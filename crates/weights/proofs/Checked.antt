@@ -11,7 +11,7 @@ use Rattle.trees.specs.Records.{count, listed, FormFor}
 use Rattle.trees.proofs.Breadth.{small_in_breadth}
 use Rattle.trees.proofs.Places.{place-among}
 use Rattle.weights.specs.Count.{k_drawn, extra}
-use Rattle.weights.specs.Work.{CountableFor}
+use Rattle.weights.specs.Work.{CountableFor, Counted}
 use Rattle.weights.proofs.Bounds.{drawn-le, extra_lt_all}
 use Rattle.weights.specs.declared.Rooting.{Rooting}
 
@@ -46,6 +46,23 @@ listed_from {b} {g} i f one last = first_from (count g) i f (omega arith) one la
 
 pub listed_at : {b : ℕ} {g : List ℕ} (i : ℕ) → FormFor b g → 1 ≤ i → i ≤ count g → Among (get_or g i 0) (listed g)
 listed_at {b} {g} i f one last = place-among g (count g) f.sized f.counted i one last
+
+-- the i-th of the clusters that a loop over the record passes
+pub listed_item : {b : ℕ} {g : List ℕ} (i : ℕ) → FormFor b g → i < length (take (count g + 1 - 1) (drop 1 g))
+    → (i < count g) × (get_or (take (count g + 1 - 1) (drop 1 g)) i 0 ≡ get_or g (i + 1) 0)
+listed_item {b} {g} i f inside =
+    let all : count g + 1 - 1 ≡ count g = omega arith in
+    let place : 1 + i ≡ i + 1 = omega arith in
+    let less : i < count g = omega (arith, length-take (count g + 1 - 1) (drop 1 g)) in
+    (less, rw all (get_or-take (count g) (drop 1 g) i 0 less ∙ get_or-drop 1 g i 0 ∙ ap (λ (j : ℕ). get_or g j 0) place))
+
+-- and where it ends
+pub listed_over : {b : ℕ} {g : List ℕ} {i : ℕ} → FormFor b g → length (take (count g + 1 - 1) (drop 1 g)) ≤ i → count g ≤ i
+listed_over {b} {g} f over = omega (arith, length-take (count g + 1 - 1) (drop 1 g), listed-fits f)
+
+-- what can be counted can be counted where its numbers have more bits
+pub counted_same : (g wide : List ℕ) → wide ≡ g → Counted g → Counted wide
+counted_same g wide same can = rw same can
 
 -- ---- bounds
 

@@ -17,7 +17,7 @@ use Rattle.clusters.proofs.Members.{has_dec, has_and, and_has, some_has, within_
 use Rattle.clusters.proofs.Sets.{within-refl, within_trans, within_antisym, within-le, minus_has, has_minus, minus_within, minus_some}
 use Rattle.clusters.proofs.Parts.{part_and, and_part}
 use Rattle.trees.specs.Lists.{Among, NoneTwice}
-use Rattle.trees.specs.Records.{listed, largest, Nested, ValidFor, ValidOn}
+use Rattle.trees.specs.Records.{listed, largest, Nested, ValidFor}
 use Rattle.trees.proofs.Listing.{none_twice_one}
 use Rattle.trees.proofs.Order.{rising_none_twice}
 use Rattle.trees.proofs.Nodes.{nested-sym}
@@ -26,7 +26,7 @@ use Rattle.trees.proofs.MayUnroot.{apart-rest}
 use Rattle.trees.proofs.Redrawing.{WithoutRoot}
 use Rattle.weights.specs.Count.{unrooted_clusters, maximal_within, k_drawn, one_or, k_by}
 use Rattle.weights.specs.declared.Rooting.TheVariants.{Unrooted}
-use Rattle.weights.specs.Work.{Countable, SmallestHolder}
+use Rattle.weights.specs.Work.{CountableFor, SmallestHolder}
 use Rattle.weights.proofs.UnrootedClusters.{unrooted_once, without-root, of_without_root}
 use Rattle.weights.proofs.Tops.{Top, among-tops, tops-among, tops-once, drawn-counts, drawn-tops}
 
@@ -287,9 +287,9 @@ module _ {b s : ℕ} {g : List ℕ} (v : ValidFor b s g) where
 
 -- ---- k by the smallest cluster that holds what is outside A
 
-module _ {g : List ℕ} (can : Countable g) (a : ℕ) where
-  on_largest : ValidOn (largest g) g
-  on_largest = subst (λ (s : ℕ). ValidOn s g) (sym (largest_of_valid can.valid)) can.valid
+module _ {width : ℕ} {g : List ℕ} (can : CountableFor width g) (a : ℕ) where
+  on_largest : ValidFor width (largest g) g
+  on_largest = subst (λ (s : ℕ). ValidFor width s g) (sym (largest_of_valid can.valid)) can.valid
 
   pub k_none_outside : largest g - bit_and a (largest g) ≡ 0 → 1 ≡ k_by Unrooted g a
   k_none_outside e = sym (k_unrooted on_largest a ∙ unrooted_held on_largest a (none_outside a (largest g) e))

@@ -13,13 +13,13 @@ use lib.Seq.{take-suc, take_all, get_or-take, get_or-drop}
 use Rattle.clusters.specs.Sets.{Within, within}
 use Rattle.clusters.proofs.Sets.{within_trans, within-le, within-true, within-false, within-apart, minus_within}
 use Rattle.trees.specs.Lists.{Among, NoneTwice, Below, Rising}
-use Rattle.trees.specs.Records.{count, listed, largest, Form, Nested}
+use Rattle.trees.specs.Records.{count, listed, largest, FormFor, Nested}
 use Rattle.trees.proofs.Listing.{none_twice_left}
 use Rattle.trees.proofs.Order.{rising-below, rising_none_twice}
 use Rattle.trees.proofs.GeneRecords.{among-le-largest}
 use Rattle.trees.proofs.MayUnroot.{apart-rest}
 use Rattle.weights.specs.Count.{maximal_within, k_drawn}
-use Rattle.weights.specs.Work.{Countable, SmallestHolder}
+use Rattle.weights.specs.Work.{CountableFor, SmallestHolder}
 use Rattle.weights.proofs.Tops.{Top, among-tops, tops-among, tops-once, top_also, drawn-counts, drawn-tops, drawn_none}
 use Rattle.weights.proofs.Joining.{Clusters}
 use Rattle.weights.proofs.Complements.{apart_minus}
@@ -123,7 +123,7 @@ module _ (cs : List ℕ) (x left : ℕ) (rising : Rising (cs ++ (x ∷ []))) (h 
 
 -- ---- the clusters around a place
 
-module _ {g : List ℕ} (i : ℕ) (form : Form g) (one : 1 ≤ i) (last : i ≤ count g) where
+module _ {width : ℕ} {g : List ℕ} (i : ℕ) (form : FormFor width g) (one : 1 ≤ i) (last : i ≤ count g) where
   split_here : listed g ≡ take (i - 1) (listed g) ++ (get_or g i 0 ∷ drop (i + 1 - 1) (listed g))
   split_here = sym (take-append-drop (i - 1) (listed g)) ∙ ap (λ (l : List ℕ). take (i - 1) (listed g) ++ l) (listed_from i form one last)
 
@@ -157,7 +157,7 @@ down_start g a = record {
   counted = rw (take_all (count g) (listed g) (omega (arith, length-take (count g) (drop 1 g)))) (omega arith);
 }
 
-module _ {g : List ℕ} {a k left i : ℕ} (can : Countable g) (now : Downward g a k left i) (more : 0 < i) where
+module _ {width : ℕ} {g : List ℕ} {a k left i : ℕ} (can : CountableFor width g) (now : Downward g a k left i) (more : 0 < i) where
   here_split : take i (listed g) ≡ take (i - 1) (listed g) ++ (get_or g i 0 ∷ [])
   here_split = take_here i can.valid.form (omega arith) now.place
 
@@ -210,14 +210,14 @@ pub record NoneHolds (g : List ℕ) (b i : ℕ) : Type 0 where
   pub place : i ≤ count g
   pub none : (z : ℕ) → Among z (take (i - 1) (listed g)) → Within b z → ⊥
 
-pub holds_start : {g : List ℕ} (b : ℕ) → Countable g → NoneHolds g b 1
+pub holds_start : {width : ℕ} {g : List ℕ} (b : ℕ) → CountableFor width g → NoneHolds g b 1
 holds_start b can = record {
   first = omega arith;
   place = (among-le-largest can.valid.form can.valid.all).0;
   none = λ z m w. Memᴰ.not-nil m;
 }
 
-module _ {g : List ℕ} {b i : ℕ} (can : Countable g) (now : NoneHolds g b i) where
+module _ {width : ℕ} {g : List ℕ} {b i : ℕ} (can : CountableFor width g) (now : NoneHolds g b i) where
   pub holds_next : i < count g → within b (get_or g i 0) ≡ false → NoneHolds g b (i + 1)
   holds_next more e = record {
     first = omega arith;

@@ -32,3 +32,4 @@ pub mod SumOfUnrooted
 pub mod Zeta
 pub mod SumOfWeights
 pub mod SumOfStand
+pub mod Chunks

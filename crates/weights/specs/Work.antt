@@ -27,6 +27,12 @@ AllCountableFor b genes = (g : List ℕ) → Memᴰ g genes → CountableFor b g
 abbrev pub AllCountable : List (List ℕ) → Type 0
 AllCountable genes = AllCountableFor 16 genes
 
+-- a gene record that can be counted, 01's or a wide one
+pub record Counted (g : List ℕ) : Type 0 where
+  pub breadth : ℕ
+  pub can : CountableFor breadth g
+  pub narrow : breadth ≤ 32
+
 -- a stand on which can be counted: the groups of at most 16 species, and at most 4,096 gene records of breadth 32 that can be counted, lent whole
 pub record StandCountable (groups : List ℕ) (n : ℕ) (genes : List ℕ) (count : ℕ) : Type 0 where
   pub few_species : n ≤ 16

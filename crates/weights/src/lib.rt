@@ -7,7 +7,7 @@ pub mod marking;
 pub mod wide;
 
 // How gene trees are counted: with their roots as drawn, or as trees without a root.
-#[derive(Clone, Copy)]
+#[derive(Clone, Copy, Debug, PartialEq, Eq)]
 pub enum Rooting {
     Rooted,
     Unrooted,

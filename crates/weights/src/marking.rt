@@ -10,11 +10,7 @@ fn clear(out: &mut [u8], entries: usize)
     requires { entries ≤ length out.old }
     ensures { out.new ≡ replicate entries 0 ++ drop entries out.old }
 {
-    let mut i = 0;
-    while i < entries {
-        out[i] = 0;
-        i += 1;
-    }
+    out[..entries].fill(0);
 }
 
 // A one at each cluster of the gene tree g.
@@ -23,26 +19,20 @@ fn mark_own(g: &[u16], out: &mut [u8])
     ensures { out.new ≡ marked_one (listed g.now) out.old }
 {
     let m = g[0] as usize;
-    let mut i = 1;
-    while i <= m {
-        let x = g[i] as usize;
-        out[x] = 1;
-        i += 1;
+    for x in &g[1..=m] {
+        out[*x as usize] = 1;
     }
 }
 
-// A one at the complement of each cluster of the gene tree g but the whole, which is the last.
+// A one at the complement of each cluster of the gene tree g but the whole, which is the last. With the entry as a parameter, one for this and `mark_own` is no plainer.
 fn mark_complements(g: &[u16], out: &mut [u8])
     requires { Markable (length out.old) g.now }
     ensures { out.new ≡ marked_one (complements g.now) out.old }
 {
     let m = g[0] as usize;
     let all = g[m] as usize;
-    let mut i = 1;
-    while i < m {
-        let x = all - g[i] as usize;
-        out[x] = 1;
-        i += 1;
+    for i in 1..m {
+        out[all - g[i] as usize] = 1;
     }
 }
 
@@ -52,9 +42,8 @@ fn mark_tree(rooting: Rooting, g: &[u16], out: &mut [u8])
     ensures { out.new ≡ marked_one (to_mark rooting g.now) out.old }
 {
     mark_own(g, out);
-    match rooting {
-        Rooting::Rooted => {}
-        Rooting::Unrooted => mark_complements(g, out),
+    if let Rooting::Unrooted = rooting {
+        mark_complements(g, out);
     }
 }
 
@@ -64,12 +53,8 @@ fn mark_trees(rooting: Rooting, genes: &[u16], count: usize, out: &mut [u8])
     requires all_markable { AllMarkable (length out.old) (records_in count genes.now) }
     ensures { out.new ≡ marked_all rooting (records_in count genes.now) out.old }
 {
-    let mut tree = 0;
-    while tree < count {
-        let start = 32 * tree;
-        let end = start + 32;
-        mark_tree(rooting, &genes[start..end], out);
-        tree += 1;
+    for g in genes[..32 * count].chunks_exact(32) {
+        mark_tree(rooting, g, out);
     }
 }
 

@@ -4,6 +4,7 @@ use mathlib.Core.Path.{◌≡◌, refl, sym, ap, ◌∙◌, subst}
 use mathlib.Core.Bool.{false}
 use mathlib.Core.List.{List, []}
 use native.Mathlib.Omega.{arith}
+use Rattle.std.specs.Prelude.{None}
 use lib.ListN.{length, take, drop, replicate}
 use lib.Seq.{take-append_seam}
 use Rattle.clusters.specs.Sets.{whole}
@@ -16,8 +17,7 @@ use Rattle.trees.proofs.GeneRecords.{gene-small}
 use Rattle.roster.specs.Roster.{names, faulty}
 use Rattle.roster.specs.Judged.{species_most}
 use Rattle.roster.specs.declared.Reply.{Reply}
-use Rattle.tokens.specs.declared.answer.Threshold.{Threshold}
-use Rattle.tokens.specs.declared.answer.Threshold.TheVariants.{NoThreshold}
+use Rattle.tokens.specs.Supports.{Threshold}
 use Rattle.tokens.specs.Answers.Answer.{parsed}
 use Rattle.reader.specs.Promise.{reading_of, answer_to, Reads}
 use Rattle.reader.specs.Accepted.{MayHave, Draws}
@@ -55,7 +55,7 @@ module _ (line : List ℕ) {r : List ℕ} (good : faulty species_most line ≡ f
       text = written_with notes (names line) r
 
       -- the text draws the tree that the record draws, with that behind its nodes
-      text-draws : Draws kind NoThreshold line text 0 (bearing behind tree) []
+      text-draws : Draws kind None line text 0 (bearing behind tree) []
       text-draws =
           let l = text_most_lem (names line) named.few v named.each in
           let m = noted-bound (names line) named.few v notes 13 short in
@@ -71,25 +71,25 @@ module _ (line : List ℕ) {r : List ℕ} (good : faulty species_most line ≡ f
           }
 
       -- reading it gives that tree
-      text-read : answer_to kind NoThreshold line text 0 ≡ parsed (bearing behind tree) [] (length text)
-      text-read = derives-accepted kind NoThreshold line text 0 text-draws ∙ ap (λ (q : ℕ). parsed (bearing behind tree) [] q) (omega arith)
+      text-read : answer_to kind None line text 0 ≡ parsed (bearing behind tree) [] (length text)
+      text-read = derives-accepted kind None line text 0 text-draws ∙ ap (λ (q : ℕ). parsed (bearing behind tree) [] q) (omega arith)
 
       -- the reader's whole answer: number 0, the record, and the offset behind the text
-      text-reads_back : {q : Reading} → Reads kind NoThreshold line text 0 q → q ≡ record { number = 0; place = 0; next = length text; numbers = r }
+      text-reads_back : {q : Reading} → Reads kind None line text 0 q → q ≡ record { number = 0; place = 0; next = length text; numbers = r }
       unfolding Reads
       text-reads_back h =
-          h ∙ ap (reading_of NoThreshold 0) text-read
+          h ∙ ap (reading_of None 0) text-read
           ∙ ap (λ (k : List ℕ). record { number = 0; place = 0; next = length text; numbers = k })
           (ap record_of (bearing-clusters behind tree) ∙ drawn_record v.valid (gene-small named.few v))
 
     -- without notes: for every valid record, reading what the writer wrote gives that record
-    pub round_trip : answer_to kind NoThreshold line (written (names line) r) 0 ≡ parsed tree [] (length (written (names line) r))
+    pub round_trip : answer_to kind None line (written (names line) r) 0 ≡ parsed tree [] (length (written (names line) r))
     unfolding written
     round_trip =
         text-read note (λ a. bare) (λ a m. omega arith) (λ a m. says_nothing (names line) a)
         ∙ ap (λ (t : Tree). parsed t [] (length (written_with note (names line) r))) (drawn-bare (names line) named v)
 
-    pub reads_back : {q : Reading} → Reads kind NoThreshold line (written (names line) r) 0 q
+    pub reads_back : {q : Reading} → Reads kind None line (written (names line) r) 0 q
         → q ≡ record { number = 0; place = 0; next = length (written (names line) r); numbers = r }
     unfolding written
     reads_back h = text-reads_back note (λ a. bare) (λ a m. omega arith) (λ a m. says_nothing (names line) a) h
@@ -100,27 +100,27 @@ module _ (line : List ℕ) {r : List ℕ} (good : faulty species_most line ≡ f
       count-short a m = let s = small a m in let d = decimal-within 11 (counts a) (omega arith) s in omega arith
 
       pub counted_round_trip :
-          answer_to kind NoThreshold line (written_with (count_note counts) (names line) r) 0
+          answer_to kind None line (written_with (count_note counts) (names line) r) 0
           ≡ parsed (counted counts tree) [] (length (written_with (count_note counts) (names line) r))
       counted_round_trip = text-read (count_note counts) (count_behind counts) count-short (λ a m. says-count (names line) counts a (small a m))
 
-      pub counted-reads_back : {q : Reading} → Reads kind NoThreshold line (written_with (count_note counts) (names line) r) 0 q
+      pub counted-reads_back : {q : Reading} → Reads kind None line (written_with (count_note counts) (names line) r) 0 q
           → q ≡ record { number = 0; place = 0; next = length (written_with (count_note counts) (names line) r); numbers = r }
       counted-reads_back h = text-reads_back (count_note counts) (count_behind counts) count-short (λ a m. says-count (names line) counts a (small a m)) h
 
   -- as a gene tree: whatever species it has
-  pub reads_back_gene : {q : Reading} → Reads Gene NoThreshold line (written (names line) r) 0 q
+  pub reads_back_gene : {q : Reading} → Reads Gene None line (written (names line) r) 0 q
       → q ≡ record { number = 0; place = 0; next = length (written (names line) r); numbers = r }
   reads_back_gene h = reads_back Gene v.of_roster h
 
   -- as species text, where it lacks a species: 9 at its `;`, the last byte
-  pub reads_back_lacking : (largest r ≡ whole (length (names line)) → ⊥) → {q : Reading} → Reads Species NoThreshold line (written (names line) r) 0 q
+  pub reads_back_lacking : (largest r ≡ whole (length (names line)) → ⊥) → {q : Reading} → Reads Species None line (written (names line) r) 0 q
       → q ≡ record { number = 9; place = length (written (names line) r) - 1; next = 0; numbers = replicate 32 0 }
   unfolding Reads
   reads_back_lacking lacks h =
-      let gene = reading_of NoThreshold 0 (answer_to Gene NoThreshold line (written (names line) r) 0) in
+      let gene = reading_of None 0 (answer_to Gene None line (written (names line) r) 0) in
       let back = reads_back_gene {q = gene} refl in
-      (kinds_compared NoThreshold line (written (names line) r) 0 {gene = gene} refl h).lacking_nine (ap (λ (q : Reading). q.number) back)
+      (kinds_compared None line (written (names line) r) 0 {gene = gene} refl h).lacking_nine (ap (λ (q : Reading). q.number) back)
       (λ all. lacks (sym (ap (λ (q : Reading). largest q.numbers) back) ∙ all))
       ∙ ap (λ (q : Reading). record { number = 9; place = q.next - 1; next = 0; numbers = replicate 32 0 }) back
 
@@ -135,7 +135,7 @@ text_there {line} {r} {out} w z =
 -- what was written is read back, as a tree of a kind that has its species: the record, and the length that the writer gave
 pub write_read :
     (kind : Kind) {line r out : List ℕ} {p : Reply} {after : List ℕ} {q : Reading}
-    → Writes line r out p after → p.number ≡ 0 → MayHave kind (length (names line)) (largest r) → Reads kind NoThreshold line (take p.value after) 0 q
+    → Writes line r out p after → p.number ≡ 0 → MayHave kind (length (names line)) (largest r) → Reads kind None line (take p.value after) 0 q
     → q ≡ record { number = 0; place = 0; next = p.value; numbers = r }
 write_read kind {line} {r} {out} {p} {after} {q} w z species h =
     let o = writes_zero w z in
@@ -144,14 +144,14 @@ write_read kind {line} {r} {out} {p} {after} {q} w z species h =
 -- as a gene tree: always
 pub write_read_gene :
     {line r out : List ℕ} {p : Reply} {after : List ℕ} {q : Reading}
-    → Writes line r out p after → p.number ≡ 0 → Reads Gene NoThreshold line (take p.value after) 0 q
+    → Writes line r out p after → p.number ≡ 0 → Reads Gene None line (take p.value after) 0 q
     → q ≡ record { number = 0; place = 0; next = p.value; numbers = r }
 write_read_gene w z h = let v = (writes_zero w z).valid in write_read Gene w z v.of_roster h
 
 -- as species text, where it lacks a species: 9 at its `;`
 pub write_read_lacking :
     {line r out : List ℕ} {p : Reply} {after : List ℕ} {q : Reading}
-    → Writes line r out p after → p.number ≡ 0 → (largest r ≡ whole (length (names line)) → ⊥) → Reads Species NoThreshold line (take p.value after) 0 q
+    → Writes line r out p after → p.number ≡ 0 → (largest r ≡ whole (length (names line)) → ⊥) → Reads Species None line (take p.value after) 0 q
     → q ≡ record { number = 9; place = p.value - 1; next = 0; numbers = replicate 32 0 }
 write_read_lacking w z lacks h =
     let o = writes_zero w z in
@@ -160,7 +160,7 @@ write_read_lacking w z lacks h =
 -- a record that was read, by whatever threshold, written and read again as the same kind is the same record
 pub read_write_read :
     (kind : Kind) (threshold : Threshold) (line text : List ℕ) (start : ℕ) (q : Reading) {q' : Reading} → Reads kind threshold line text start q → q.number ≡ 0
-    → Reads kind NoThreshold line (written (names line) q.numbers) 0 q'
+    → Reads kind None line (written (names line) q.numbers) 0 q'
     → q' ≡ record { number = 0; place = 0; next = length (written (names line) q.numbers); numbers = q.numbers }
 read_write_read kind threshold line text start q h z h' =
     let r = reads-zero kind threshold line text start h z in
@@ -169,5 +169,5 @@ read_write_read kind threshold line text start q h z h' =
 -- a text in the one form is written as itself
 pub one_form :
     (line : List ℕ) {r : List ℕ} (q : Reading) → faulty species_most line ≡ false → GeneValid (length (names line)) r
-    → Reads Gene NoThreshold line (written (names line) r) 0 q → written (names line) q.numbers ≡ written (names line) r
+    → Reads Gene None line (written (names line) r) 0 q → written (names line) q.numbers ≡ written (names line) r
 one_form line q good v h = ap (λ (q : Reading). written (names line) q.numbers) (reads_back_gene line good v h)

@@ -4,6 +4,7 @@ use mathlib.Core.Path.{◌≡◌, refl, sym, ap, subst, ◌∙◌}
 use mathlib.Core.Bool.{Bool}
 use mathlib.Core.List.{List, [], ◌∷◌, ◌++◌}
 use native.Mathlib.Omega.{arith}
+use Rattle.std.specs.Prelude.{Option, None}
 use lib.ListN.{length, drop, set, length-append}
 use lib.Seq.{sets}
 use Rattle.clusters.specs.Sets.{size}
@@ -56,7 +57,7 @@ module _ {line : List ℕ} {n : ℕ} {tb : List ℕ} (g : Given line n tb) where
   given-test b r d = reply_is_test b (gene_decides r given_few) d ∙ ap (λ (k : ℕ). valid_gene k r) g.counted
 
   -- what is put without counts is the text without notes
-  pub given-plain : {r out : List ℕ} {p : Reply} {after : List ℕ} → PutsTree n tb r [] out p after → Puts (written (names line) r) out p after
+  pub given-plain : {r out : List ℕ} {p : Reply} {after : List ℕ} → PutsTree n tb r None out p after → Puts (written (names line) r) out p after
   unfolding written
   given-plain p = p.puts line note g (record { each = λ i one most. refl })
 
@@ -86,7 +87,7 @@ module _ {line : List ℕ} {n : ℕ} {tb : List ℕ} (g : Given line n tb) where
           let s = ap size is in
           ((f, omega arith), (omega arith, given-count))
 
-      module _ {counts : List ℕ} (notes : ℕ → List ℕ) (noted : Notes counts r notes) where
+      module _ {counts : Option (List ℕ)} (notes : ℕ → List ℕ) (noted : Notes counts r notes) where
         -- the text
         abbrev whole : List ℕ
         whole = written_with notes (names line) r

@@ -1,5 +1,5 @@
 -- What the function that puts a tree's text into lent bytes is handed, and what it promises.
-use Rattle.std.specs.Prelude.{ℕ, ◌≡◌, false, List, [], ◌∷◌, length}
+use Rattle.std.specs.Prelude.{ℕ, ◌≡◌, false, List, [], ◌∷◌, length, Option}
 use Rattle.roster.specs.Roster.{names, faulty}
 use Rattle.roster.specs.Table.{table}
 use Rattle.roster.specs.Judged.{species_most}
@@ -25,5 +25,5 @@ pub record Puts (text out : List ℕ) (reply : Reply) (after : List ℕ) : Type 
   pub bytes : after ≡ out_by (fits text out).number text out
 
 -- the promise of `put`: the text of the record on the names of the table, with the notes that the counts give
-pub record PutsTree (n : ℕ) (tb r counts out : List ℕ) (reply : Reply) (after : List ℕ) : Type 0 where
+pub record PutsTree (n : ℕ) (tb r : List ℕ) (counts : Option (List ℕ)) (out : List ℕ) (reply : Reply) (after : List ℕ) : Type 0 where
   pub puts : (line : List ℕ) (notes : ℕ → List ℕ) → Given line n tb → Notes counts r notes → Puts (written_with notes (names line) r) out reply after

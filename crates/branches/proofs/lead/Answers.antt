@@ -1,28 +1,21 @@
+-- `lead` meets its contract: the run of such bytes, which ends within the text.
 use native.Mathlib.Omega.{arith}
-use mathlib.Core.Path.{sym, ◌∙◌}
-use Rattle.labels.proofs.Runs.{run_on, run-off, run_end}
+use mathlib.Core.Path.{◌≡◌}
+use lib.ListN.{drop}
+use Rattle.labels.specs.Bytes.{run}
+use Rattle.labels.proofs.Runs.{run_left}
 use Rattle.branches.specs.Ends.{is_lead, lead}
+use Rattle.branches.proofs.lead.Goals.{After-run}
 use Rattle.branches.proofs.lead.Goals as goal
 
-pub returns-then-not-is_lead : goal.returns-then-not-is_lead
-unfolding lead
-returns-then-not-is_lead c =
-    let off =
-    run-off is_lead c.args.text.now c.loop-i.i c.loop-i-test.true
-    (sym c.is_lead.ensures ∙ c.if-not-is_lead.true)
-    in
-    omega arith
+-- the run is counted
+counted : (c : After-run) → c.run.result ≡ run is_lead (drop c.args.at c.args.text.now)
+counted c = c.run.ensures is_lead (λ b r h. h)
 
-pub loop-i-preserved : goal.loop-i-preserved
-loop-i-preserved c =
-    let on =
-    run_on is_lead c.args.text.now c.loop-i.i c.loop-i-test.true
-    (sym c.is_lead.ensures ∙ c.if-not-is_lead.false)
-    in
-    omega arith
+pub overflow_add-result : goal.overflow_add-result
+overflow_add-result c =
+    let left = run_left is_lead c.args.text.now c.args.at c.run.result (counted (goal.at.overflow_add-result c).After-run) in omega arith
 
 pub returns : goal.returns
 unfolding lead
-returns c =
-    let over = run_end is_lead c.args.text.now c.loop-i.i c.loop-i-test.false in
-    omega arith
+returns c = rw (counted (goal.at.returns c).After-run)

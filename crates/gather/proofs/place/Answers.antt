@@ -1,4 +1,3 @@
-use Prim.Native.Nat.{◌-◌}
 use Rattle.gather.proofs.Beginnings.{passed_none, passed_more, passed_all}
 use Rattle.gather.proofs.place.Goals as goal
 

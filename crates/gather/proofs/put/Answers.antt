@@ -1,24 +1,16 @@
-use Prim.Native.Nat.{◌-◌, ◌*◌, ◌<◌}
-use mathlib.Core.Path.{◌≡◌, refl, ◌∙◌}
+-- What is copied into its part stands behind the first `count`.
+use Prim.Native.Nat.{◌+◌, ◌*◌}
+use mathlib.Core.Path.{◌≡◌}
+use mathlib.Core.List.{append_assoc}
 use native.Mathlib.Omega.{arith}
-use lib.ListN.{length, length-set}
-use lib.Seq.{take-length}
-use Rattle.trees.proofs.Stores.{copy_more}
+use borrow.Rule.Slice.PartMut.{Post-is}
+use lib.ListN.{length}
+use lib.Seq.{sets-eq}
 use Rattle.gather.proofs.put.Goals as goal
-
-pub loop-i-preserved : goal.loop-i-preserved
-loop-i-preserved c =
-    let args = c.args in
-    let i = c.loop-i.i in
-    let h : i < length args.numbers = omega arith in (
-      omega arith,
-      refl,
-      simp length-set (omega arith),
-      rw c.loop-i.invariant.3 (copy_more args.genes.now args.numbers (32 * args.count) i h),
-    )
 
 pub returns : goal.returns
 returns c =
-    let numbers = c.args.numbers in
-    let e : c.loop-i.i ≡ length numbers = omega arith in
-    (omega arith, c.loop-i.invariant.3 ∙ rw (e, take-length numbers))
+    let at = 32 * c.args.count in
+    let genes = c.args.genes.now in
+    let long : length c.args.numbers ≡ 32 = omega arith in
+    (long, rw (c.copy_from_slice.ensures.after, Post-is at (at + 32) genes (omega arith), sets-eq c.args.numbers genes at (omega arith), append_assoc, long))

@@ -4,13 +4,12 @@ use Rattle.plain.proofs.answer.Goals as goal
 
 pub tree_of-tree-requires : goal.tree_of-tree-requires
 tree_of-tree-requires c =
-    rw c.whole.ensures (c.requires.numbered c.if-best.true)
+    rw c.whole.ensures (rw c.in-Some.is at c.requires.numbered)
 
-pub returns-then-best : goal.returns-then-best
-returns-then-best c rooting genes t kept =
-    found-told rooting c.args.n genes t c.args.best kept c.if-best.true
-    (rw c.whole.ensures at c.tree_of-tree.ensures)
+pub returns-in-Some : goal.returns-in-Some
+returns-in-Some c rooting genes t kept =
+    found-told rooting c.args.n genes t c.in-Some.field-0 (rw c.in-Some.is at kept) (rw c.whole.ensures at c.tree_of-tree.ensures)
 
-pub returns : goal.returns
-returns c rooting genes t kept =
-    none_told rooting c.args.n genes t c.args.best kept c.if-best.false c.refused.ensures
+pub returns-in-None : goal.returns-in-None
+returns-in-None c rooting genes t kept =
+    rw c.at.ensures (none_told rooting c.args.n genes t (rw c.in-None.is at kept))

@@ -4,18 +4,9 @@ use borrow.Author.Rules.{rules}
 use borrow.Author.Tests.{eqb-true, eqb-false}
 use native.Mathlib.Omega.{arith}
 use lib.Dec.{eqb}
-use lib.ListN.{get_or}
 use Rattle.clusters.proofs.Sizes.{size-le}
 use Rattle.records.proofs.Deciding.{decides_by}
 use Rattle.records.proofs.binary.Goals as goal
-
-pub overflow_cast-result : goal.overflow_cast-result
-overflow_cast-result c =
-    omega (arith, c.type_inv.r 0)
-
-pub overflow_add-result : goal.overflow_add-result
-overflow_add-result c =
-    omega (arith, c.type_inv.r 0)
 
 pub overflow_mul-result : goal.overflow_mul-result
 overflow_mul-result c =
@@ -23,6 +14,6 @@ overflow_mul-result c =
 
 pub returns : goal.returns
 returns c =
-    let m = get_or c.args.r.now 0 0 + 1 in
+    let m = c.from.result + 1 in
     let n = 2 * c.size.result in
     decides_by (eqb m n) (λ t. let e = eqb-true m n t in omega arith) (λ t q. eqb-false m n t (omega arith))

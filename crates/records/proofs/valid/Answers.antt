@@ -3,4 +3,4 @@ use Rattle.records.proofs.valid.Goals as goal
 
 pub returns : goal.returns
 returns c =
-    rw c.widened-wide.ensures at c.valid.ensures
+    rw c.widened.ensures at c.valid.ensures

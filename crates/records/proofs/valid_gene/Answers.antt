@@ -3,4 +3,4 @@ use Rattle.records.proofs.valid_gene.Goals as goal
 
 pub returns : goal.returns
 returns c =
-    rw c.widened-wide.ensures at c.valid_gene.ensures
+    rw c.widened.ensures at c.valid_gene.ensures

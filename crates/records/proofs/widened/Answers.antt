@@ -2,7 +2,6 @@ use mathlib.Core.Path.{refl, ◌∙◌}
 use borrow.Author.Rules.{rules}
 use native.Mathlib.Omega.{arith}
 use lib.Seq.{take_all}
-use mir.Facts.{Fits-widen}
 use Rattle.trees.proofs.Stores.{copied_none, copied_next, copied_all}
 use Rattle.records.proofs.widened.Goals as goal
 
@@ -10,13 +9,9 @@ pub loop-i-init : goal.loop-i-init
 loop-i-init c =
     copied_none _ _ refl (omega arith)
 
-pub overflow_cast-wide : goal.overflow_cast-wide
-overflow_cast-wide c =
-    Fits-widen tt (c.type_inv.r _)
-
 pub loop-i-preserved : goal.loop-i-preserved
 loop-i-preserved c =
-    copied_next c.loop-i.invariant (search rules)
+    rw c.from.ensures (copied_next c.loop-i.invariant (search rules))
 
 pub returns : goal.returns
 returns c =

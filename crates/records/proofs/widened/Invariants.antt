@@ -1,10 +1,6 @@
 -- `records::widened` meets its contract. The invariant: the numbers passed are copied.
-use Prim.Native.Nat.{◌-◌}
 use Rattle.trees.proofs.Stores.{Copied}
 use Rattle.records.proofs.widened.Given as goal
 
 abbrev pub invariant-loop-i : goal.invariant-loop-i
 invariant-loop-i l = Copied 32 l.r l.wide l.i
-
-abbrev pub decreases-loop-i : goal.decreases-loop-i
-decreases-loop-i l = 32 - l.i

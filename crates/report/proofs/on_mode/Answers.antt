@@ -1,6 +1,8 @@
 -- The two lines and the trees stand where the program says, and each way gives its outcome.
 use Prim.Native.Nat.{◌+◌, ◌≤◌}
-use mathlib.Core.Path.{sym, ◌∙◌}
+use mathlib.Core.Path.{sym, ap, ◌∙◌}
+use Rattle.faults.specs.declared.Refusal.{Refusal}
+use Rattle.printing.specs.Texts.{refused}
 use native.Mathlib.Omega.{arith}
 use lib.ListN.{length, take}
 use lib.Seq.{length-take-le}
@@ -38,7 +40,7 @@ asked c =
 pub returns-then-end-input : goal.returns-then-end-input
 returns-then-end-input c =
     let ns = names (first_line c.args.input.now) in
-    retold ns (no_first_feed c.args.input.now c.requires.end_value c.if-end-input.true) c.refusal.ensures
+    retold ns (no_first_feed c.args.input.now c.requires.end_value c.if-end-input.true) (ap (λ (e : Refusal). refused e) c.at.ensures)
 
 pub overflow_add-mode : goal.overflow_add-mode
 overflow_add-mode c =
@@ -57,7 +59,7 @@ returns-then-length-rest c =
     let ns = names (first_line c.args.input.now) in
     retold ns
     (no_second_feed c.args.input.now c.requires.end_value c.if-end-input.false c.line_length-length.ensures c.if-length-rest.true)
-    c.refusal-then-length-rest.ensures
+    (ap (λ (e : Refusal). refused e) c.at-then-length-rest.ensures)
 
 pub slice_bounds-line-end : goal.slice_bounds-line-end
 slice_bounds-line-end c =
@@ -85,22 +87,25 @@ pub slice_bounds-on_trees-start : goal.slice_bounds-on_trees-start
 slice_bounds-on_trees-start c =
     trees-fit (goal.at.slice_bounds-on_trees-start c).Else-length-rest
 
+pub invariant_of-asked : goal.invariant_of-asked
+invariant_of-asked c =
+    record { roster = (asked (goal.at.invariant_of-asked c).Else-length-rest).0 }
+
 pub on_trees-requires : goal.on_trees-requires
 on_trees-requires c =
-    let all = asked (goal.at.on_trees-requires c).Else-length-rest in
-    record { roster = all.0; trees_bound = all.1 }
+    (asked (goal.at.on_trees-requires c).Else-length-rest).1
 
-pub returns-in-Another : goal.returns-in-Another
-returns-in-Another c =
+pub returns-in_default : goal.returns-in_default
+returns-in_default c =
     let ns = names (first_line c.args.input.now) in
     retold ns
     (other_mode c.args.input.now c.requires.end_value c.if-end-input.false c.line_length-length.ensures c.if-length-rest.false
-    (sym c.in-Another.is ∙ c.mode_of.ensures))
-    c.refusal-in-Another.ensures
+    (sym c.in_default.is ∙ c.mode_of.ensures))
+    (ap (λ (e : Refusal). refused e) c.at-in_default.ensures)
 
-pub returns-in-Over : goal.returns-in-Over
-returns-in-Over c =
+pub returns : goal.returns
+returns c =
     trees-mode c.args.input.now c.requires.end_value c.if-end-input.false c.line_length-length.ensures c.if-length-rest.false
-    c.in-Over.all c.in-Over.rooting c.requires.roster.named
-    (sym c.in-Over.is ∙ c.mode_of.ensures)
+    c.in-Some.all c.in-Some.rooting c.requires.roster.named
+    (sym c.in-Some.is ∙ c.mode_of.ensures)
     c.on_trees.ensures

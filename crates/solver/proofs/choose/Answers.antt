@@ -3,9 +3,9 @@ use Prim.Native.Nat.{◌+◌, ◌≤◌}
 use mathlib.Core.Path.{refl}
 use native.Mathlib.Omega.{arith}
 use lib.ListN.{length}
+use Rattle.clusters.proofs.Sets.{whole_below}
 use Rattle.tables.proofs.Reached.{entries_few}
 use Rattle.solver.proofs.Choosing.{fills_both, held-filled, solves_none, solves_chooses, solves-found}
-use Rattle.solver.proofs.Solving.{whole_entries, all_fits}
 use Rattle.solver.proofs.choose.Goals.{After-whole-all}
 use Rattle.solver.proofs.choose.Goals as goal
 
@@ -16,11 +16,11 @@ all_entries :
     × (all + 1 ≤ length c.fill.new.splits)
 all_entries c =
     let is = c.whole-all.ensures in
-    let scores = all_fits c.args.n is c.args.scores.now c.requires.scores_long in
-    let splits = all_fits c.args.n is c.args.splits.now c.requires.splits_long in (
-      omega (arith, whole_entries c.args.n is, entries_few c.requires.few),
-      omega (arith, scores, c.fill.auto.scores),
-      omega (arith, splits, c.fill.auto.splits),
+    let scores = c.requires.scores_long in
+    let splits = c.requires.splits_long in (
+      omega (arith, whole_below c.args.n, entries_few c.requires.few),
+      omega (arith, whole_below c.args.n, c.fill.auto.scores),
+      omega (arith, whole_below c.args.n, c.fill.auto.splits),
     )
 
 pub bounds-scores-all : goal.bounds-scores-all
@@ -29,11 +29,11 @@ bounds-scores-all c =
 
 pub returns-then-score : goal.returns-then-score
 returns-then-score c =
-    λ w light weights. solves_none (fills_both light weights c.fill.ensures) c.requires.few c.whole-all.ensures (omega arith) c.refused.ensures
+    λ w light weights. solves_none (fills_both light weights c.fill.ensures) c.requires.few c.whole-all.ensures (omega arith) c.at.ensures
 
-pub found-requires : goal.found-requires
-found-requires c =
-    let fits = all_entries (goal.at.found-requires c).After-whole-all in
+pub solution-requires : goal.solution-requires
+solution-requires c =
+    let fits = all_entries (goal.at.solution-requires c).After-whole-all in
     record {
       all_in_bounds = omega (arith, fits.2);
       all_bound = omega (arith, fits.0);
@@ -43,4 +43,4 @@ found-requires c =
 pub returns : goal.returns
 returns c =
     λ w light weights.
-    solves-found (fills_both light weights c.fill.ensures) c.requires.few c.whole-all.ensures c.if-score.false refl c.found.ensures
+    solves-found (fills_both light weights c.fill.ensures) c.requires.few c.whole-all.ensures c.if-score.false refl c.solution.ensures

@@ -2,8 +2,5 @@
 use Rattle.splits.proofs.SplitChoice.{Visited}
 use Rattle.splits.proofs.best_split.Given as goal
 
-abbrev pub invariant-loop-s : goal.invariant-loop-s
-invariant-loop-s l = Visited l.scores l.a l.low l.rest l.best l.s
-
-abbrev pub decreases-loop-s : goal.decreases-loop-s
-decreases-loop-s l = l.s
+abbrev pub invariant-loop-low : goal.invariant-loop-low
+invariant-loop-low l = Visited l.scores l.a l.low-iterator.low l.low-iterator.rest l.best l.low-iterator.left

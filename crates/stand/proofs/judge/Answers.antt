@@ -1,11 +1,11 @@
 -- `stand::judge` meets its contract: the refusal of the stand, or how many individuals it has.
-use Rattle.stand.proofs.Replies.{judged-refused, judged-good}
+use mathlib.Core.Path.{◌≡◌}
+use Rattle.std.proofs.Common.{rules}
+use Rattle.std.specs.Result.{result_map_both}
+use Rattle.stand.proofs.Replies.{judged_members}
 use Rattle.stand.proofs.judge.Goals as goal
-
-pub returns-then-stand-ne0 : goal.returns-then-stand-ne0
-returns-then-stand-ne0 c =
-    judged-refused _ _ _ _ c.judge-stand.ensures _ c.if-stand-ne0.true c.refused.ensures
 
 pub returns : goal.returns
 returns c =
-    judged-good _ _ _ _ c.judge-stand.ensures _ c.if-stand-ne0.false c.done.ensures
+    let m : c.map.result ≡ result_map_both (λ s. s.individuals) (λ e. e) c.judge.result = search rules in
+    rw (c.reply_to.ensures, m) (judged_members _ _ _ c.judge.result c.judge.ensures)

@@ -1,57 +1,47 @@
-use Prim.Native.Nat.{◌-◌}
 use mathlib.Core.Path.{◌≡◌, sym, ◌∙◌}
 use borrow.Author.Rules.{rules}
+use borrow.Author.Tests.{not-true, not-false}
 use native.Mathlib.Omega.{arith}
+use lib.Dec.{eqb}
 use lib.ListN.{get_or}
+use Rattle.std.proofs.Common.{Some}
+use Rattle.std.specs.Option.{option_eq}
 use Rattle.counts.specs.Promise.{weight_in, is_right}
-use Rattle.counts.specs.Work.{given}
-use Rattle.counts.proofs.Comparing.{compared_start, Turned, turned, none_left, compared-wrong, compared_right}
-use Rattle.counts.proofs.checked.compare.Goals.{After-is_right}
+use Rattle.counts.proofs.Comparing.{compared, compared_start, Turned, turned, none_left, compared-wrong, compared_right}
+use Rattle.counts.proofs.checked.compare.Goals.{After-ne}
 use Rattle.counts.proofs.checked.compare.Goals as goal
 
 -- what the turn makes of its node
 turn :
-    (c : After-is_right) → let start = c.args in
-    Turned (weight_in start.genes.now start.count) start.text.now start.start start.found.now start.m
-    c.loop-left.left c.next_end-end.result
-turn c = turned _ c.loop-left.invariant (search rules) (search rules) _ c.next_end-end.ensures
+    (c : After-ne) → let start = c.args in
+    Turned (weight_in start.trees.now.genes.now start.trees.now.count) start.text.now start.start start.found.now c.loop-a.a-index c.next_end-end.result
+turn c = turned c.loop-a.invariant (search rules) _ c.next_end-end.ensures
 
 -- what the count is compared with is the weight of the node's cluster over rooted gene trees
 weighed :
-    (c : After-is_right) → let start = c.args in
-    let k = start.m - c.loop-left.left in
-    c.weigh-weight.result ≡ weight_in start.genes.now start.count (get_or start.found.now k 0)
+    (c : After-ne) → let start = c.args in
+    c.weigh-weight.result ≡ weight_in start.trees.now.genes.now start.trees.now.count (get_or start.found.now c.loop-a.a-index 0)
 weighed c = c.weigh-weight.ensures
 
 -- whether the count is right
 right :
-    (c : After-is_right) → let start = c.args in
-    let end = c.next_end-end.result in
-    let k = start.m - c.loop-left.left in
-    c.is_right.result ≡ is_right (weight_in start.genes.now start.count (get_or start.found.now k 0)) (given end.counted end.count)
-right c = rw (← weighed c) c.is_right.ensures
+    (c : After-ne) → let start = c.args in
+    is_right (weight_in start.trees.now.genes.now start.trees.now.count (get_or start.found.now c.loop-a.a-index 0)) c.next_end-end.result.count
+    ≡ option_eq eqb c.next_end-end.result.count (Some c.weigh-weight.result)
+right c = rw (← weighed c) (compared c.weigh-weight.result c.next_end-end.result.count)
 
-pub loop-left-init : goal.loop-left-init
-loop-left-init c =
-    compared_start _ _ _ _ _ c.requires.all_end
+pub loop-a-init : goal.loop-a-init
+loop-a-init c =
+    compared_start _ _ _ _ c.requires
 
-pub overflow_sub-m : goal.overflow_sub-m
-overflow_sub-m c =
-    let few = c.loop-left.invariant.few in omega arith
+pub returns-then-ne : goal.returns-then-ne
+returns-then-ne c =
+    compared-wrong _ _ _ _ _ _ _ ((turn (goal.at.returns-then-ne c).After-ne).wrong (right (goal.at.returns-then-ne c).After-ne ∙ not-true _ (sym c.if-ne.ensures))) c.at.ensures
 
--- the index of the cluster is below m
-pub bounds-found-m : goal.bounds-found-m
-bounds-found-m c =
-    let few = c.loop-left.invariant.few in omega arith
-
-pub returns-then-not-is_right : goal.returns-then-not-is_right
-returns-then-not-is_right c =
-    compared-wrong _ _ _ _ _ _ _ _ ((turn (goal.at.returns-then-not-is_right c).After-is_right).wrong (sym (right (goal.at.returns-then-not-is_right c).After-is_right) ∙ c.if-not-is_right.true)) c.refused.ensures
-
-pub loop-left-preserved : goal.loop-left-preserved
-loop-left-preserved c =
-    (turn (goal.at.loop-left-preserved c).After-is_right).right (sym (right (goal.at.loop-left-preserved c).After-is_right) ∙ c.if-not-is_right.false)
+pub loop-a-preserved : goal.loop-a-preserved
+loop-a-preserved c =
+    (turn (goal.at.loop-a-preserved c).After-ne).right (right (goal.at.loop-a-preserved c).After-ne ∙ not-false _ (sym c.if-ne.ensures))
 
 pub returns : goal.returns
 returns c =
-    compared_right _ _ _ _ _ _ _ (none_left c.loop-left.invariant (omega arith)) c.done.ensures
+    compared_right _ _ _ _ _ (none_left c.loop-a.invariant (omega arith))

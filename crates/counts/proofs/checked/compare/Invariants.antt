@@ -3,8 +3,5 @@ use Rattle.counts.specs.Promise.{weight_in}
 use Rattle.counts.proofs.Comparing.{ComparedTo}
 use Rattle.counts.proofs.checked.compare.Given as goal
 
-abbrev pub invariant-loop-left : goal.invariant-loop-left
-invariant-loop-left l = ComparedTo (weight_in l.genes l.count) l.text l.start l.found l.m l.at l.left
-
-abbrev pub decreases-loop-left : goal.decreases-loop-left
-decreases-loop-left l = l.left
+abbrev pub invariant-loop-a : goal.invariant-loop-a
+invariant-loop-a l = ComparedTo (weight_in l.trees.genes.now l.trees.count) l.text l.start l.found l.at l.a-index

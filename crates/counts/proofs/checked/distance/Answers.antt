@@ -1,30 +1,24 @@
 -- `checked::distance` meets its contract: what is solved has the least score, and the tree's is no less.
 use native.Mathlib.Omega.{arith}
-use Rattle.weights.proofs.Sums.{valid-countable}
-use Rattle.counts.proofs.LeastScore.{solved-under, distances}
+use Rattle.counts.proofs.LeastScore.{no-refusal, solved-under, distances}
+use Rattle.counts.proofs.Passing.{solvable}
 use Rattle.counts.proofs.checked.distance.Goals as goal
 
-pub weigh_tree-score-requires : goal.weigh_tree-score-requires
-weigh_tree-score-requires c =
-    let given = c.requires in
-    let w = given.checked.weighable in
-    record {
-      count_bound = w.few_genes;
-      count_in_bounds = w.genes_long;
-      all_countable = valid-countable w.few_species w.valid;
-      form = given.binary_species.valid.form;
-    }
+pub solve-requires : goal.solve-requires
+solve-requires c = solvable c.args.trees.now c.requires.scores_long c.requires.splits_long
+
+pub returns-in_err-least : goal.returns-in_err-least
+returns-in_err-least c =
+    let shaped = c.args.trees.now.shaped in
+    absurd (no-refusal _ shaped.some_species shaped.few_species c.in_err-least.field-0.0 c.in_err-least.ensures)
 
 pub overflow_sub-result : goal.overflow_sub-result
 overflow_sub-result c =
-    let under =
-    solved-under _ c.requires.checked.some_species c.requires.checked.weighable.few_species c.solve-least.ensures
-    c.args.numbers.now c.requires.binary_species
-    in
-    omega (arith, c.weigh_tree-score.ensures)
+    let shaped = c.args.trees.now.shaped in
+    let under = solved-under _ shaped.some_species shaped.few_species c.in_ok-least.ensures c.args.numbers.now c.requires.binary_species in
+    omega (arith, c.score-score.ensures)
 
 pub returns : goal.returns
 returns c =
-    let given = c.requires.checked in
-    let solved = c.solve-least.ensures in
-    distances _ given.some_species given.weighable.few_species solved c.weigh_tree-score.ensures
+    let shaped = c.args.trees.now.shaped in
+    distances _ shaped.some_species shaped.few_species c.in_ok-least.ensures c.score-score.ensures

@@ -5,12 +5,8 @@ use Rattle.trees.proofs.Bounds.{whole_below_sixteen}
 use Rattle.lineages.proofs.Told.{valid-told, binary-told}
 use Rattle.lineages.proofs.checks.is_species_tree.Goals as goal
 
-pub valid-requires : goal.valid-requires
-valid-requires c =
-    record {
-      r_len = c.requires.species_len;
-      s_bound = omega (arith, c.whole-all.ensures, whole_below_sixteen c.args.n c.requires.n_bound);
-    }
+pub valid-requires-clause-s_bound : goal.valid-requires-clause-s_bound
+valid-requires-clause-s_bound c = omega (arith, whole_below_sixteen c.args.n c.requires.n_bound)
 
 pub returns-then-valid : goal.returns-then-valid
 returns-then-valid c =
@@ -18,7 +14,7 @@ returns-then-valid c =
     rw (sym (valid-told c.valid.result c.args.species.now c.requires.n_bound whole c.valid.ensures) ∙ c.if-valid.true)
     (binary-told c.binary.result c.args.n c.args.species.now whole c.binary.ensures)
 
-pub returns : goal.returns
-returns c =
-    rw (sym (valid-told c.valid.result c.args.species.now c.requires.n_bound c.whole-all.ensures
-    c.valid.ensures) ∙ c.if-valid.false)
+pub returns-else-valid : goal.returns-else-valid
+returns-else-valid c =
+    let told = sym (valid-told c.valid.result c.args.species.now c.requires.n_bound c.whole-all.ensures c.valid.ensures) ∙ c.if-valid.false in
+    rw (told, c.if-valid.false)

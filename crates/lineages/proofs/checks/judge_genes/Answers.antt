@@ -1,31 +1,23 @@
 -- `lineages::checks::judge_genes` meets its contract: one law for each way through both tests.
-use borrow.Author.Rules.{rules}
-use native.Mathlib.Omega.{arith}
-use Rattle.lineages.proofs.FirstBad.{found-valid, judged_bad, judged-rooted, judged_unresolved, judged-resolved}
+use Rattle.trees.specs.Records.{records_in}
+use Rattle.trees.specs.Valid.{valid_gene}
+use Rattle.lineages.proofs.FirstBad.{found_none, none_bad, judged_bad, judged_unresolved, judged-resolved}
 use Rattle.lineages.proofs.checks.judge_genes.Goals as goal
 
-pub returns-then-bad-count : goal.returns-then-bad-count
-returns-then-bad-count c =
-    judged_bad _ _ _ _ c.first_bad-bad.ensures (search rules) c.refused.ensures
+pub returns-in-Some : goal.returns-in-Some
+returns-in-Some c = rw c.at.ensures (judged_bad _ _ _ c.in-Some.ensures)
 
-pub first_unresolved-unresolved-requires : goal.first_unresolved-unresolved-requires
-first_unresolved-unresolved-requires c =
-    record {
-      n_bound = c.requires.n_bound;
-      count_in_bounds = c.requires.count_in_bounds;
-      all_valid = found-valid _ _ _ c.requires.n_bound c.first_bad-bad.ensures (omega arith);
-    }
+pub first_unresolved-requires-clause-all_valid : goal.first_unresolved-requires-clause-all_valid
+first_unresolved-requires-clause-all_valid c =
+    let genes = records_in c.args.count c.args.genes.now in
+    none_bad c.args.n genes c.requires.n_bound (found_none (λ g. valid_gene c.args.n g) genes c.in_default.ensures)
 
-pub returns-then-unresolved-count : goal.returns-then-unresolved-count
-returns-then-unresolved-count c =
-    judged_unresolved _ _ _ _ c.first_bad-bad.ensures (omega arith) c.in-Unrooted.is
-    c.first_unresolved-unresolved.ensures (search rules) c.refused-then-unresolved-count.ensures
+pub returns-in-Some-first_unresolved : goal.returns-in-Some-first_unresolved
+returns-in-Some-first_unresolved c =
+    rw c.at-in-Some-first_unresolved.ensures (judged_unresolved _ _ _ c.in_default.ensures c.in-Unrooted.is c.in-Some-first_unresolved.ensures)
 
-pub returns-in-Rooted : goal.returns-in-Rooted
-returns-in-Rooted c =
-    judged-rooted _ _ _ _ c.first_bad-bad.ensures (omega arith) c.in-Rooted.is c.done.ensures
+pub returns-in_default-first_unresolved : goal.returns-in_default-first_unresolved
+returns-in_default-first_unresolved c = judged-resolved _ _ _ c.in_default.ensures (λ e. c.in_default-first_unresolved.ensures)
 
-pub returns-else-unresolved-count : goal.returns-else-unresolved-count
-returns-else-unresolved-count c =
-    judged-resolved _ _ _ _ c.first_bad-bad.ensures (omega arith) c.in-Unrooted.is
-    c.first_unresolved-unresolved.ensures (omega arith) c.done-in-Unrooted.ensures
+pub returns-in_default-rooting : goal.returns-in_default-rooting
+returns-in_default-rooting c = judged-resolved _ _ _ c.in_default.ensures (λ e. absurd (c.in_default-rooting.not-Unrooted e))

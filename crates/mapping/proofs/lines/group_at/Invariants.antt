@@ -4,8 +4,8 @@ use lib.ListN.{length}
 use Rattle.mapping.proofs.LineReads.{Gathered}
 use Rattle.mapping.proofs.lines.group_at.Given as goal
 
-abbrev pub invariant-loop-next : goal.invariant-loop-next
-invariant-loop-next l = Gathered l.table l.m l.text l.start l.taken l.at l.group
+abbrev pub invariant-loop-member : goal.invariant-loop-member
+invariant-loop-member l = Gathered l.individuals.table l.individuals.count l.text l.start l.taken l.at l.set
 
-abbrev pub decreases-loop-next : goal.decreases-loop-next
-decreases-loop-next l = length l.text - l.at
+abbrev pub decreases-loop-member : goal.decreases-loop-member
+decreases-loop-member l = length l.text - l.at

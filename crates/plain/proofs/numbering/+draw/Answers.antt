@@ -26,26 +26,26 @@ pub returns-then-size-eq1 : goal.returns-then-size-eq1
 returns-then-size-eq1 t c =
     stored-tip c.args.drawn.now c.args.stored c.requires.numbered (sym c.size.ensures ∙ c.if-size-eq1.true)
 
-pub part_of-part-requires : goal.part_of-part-requires
-part_of-part-requires t c =
+pub part_of-low-requires : goal.part_of-low-requires
+part_of-low-requires t c =
     let other = c.if-size-eq1.false in record {
       numbered = c.requires.numbered;
       bound = omega (arith, c.size.ensures, size_some c.requires.numbered.some);
     }
 
 pub overflow_sub-a : goal.overflow_sub-a
-overflow_sub-a t c = let less = c.part_of-part.ensures.low_part.less in omega arith
+overflow_sub-a t c = let less = c.part_of-low.ensures.low_part.less in omega arith
 
 pub trees_on-others-requires : goal.trees_on-others-requires
 trees_on-others-requires t c =
     let few = c.requires.numbered.few in
-    record { le_a = rest_some c.part_of-part.ensures.low_part; a_bound = omega arith }
+    record { le_a = rest_some c.part_of-low.ensures.low_part; a_bound = omega arith }
 
-pub nonzero_div-low_number : goal.nonzero_div-low_number
-nonzero_div-low_number t c = omega (arith, c.trees_on-others.ensures, others_some c.part_of-part.ensures)
+pub nonzero_div-number : goal.nonzero_div-number
+nonzero_div-number t c = omega (arith, c.trees_on-others.ensures, others_some c.part_of-low.ensures)
 
-pub nonzero_rem-other_number : goal.nonzero_rem-other_number
-nonzero_rem-other_number t c = omega (arith, c.trees_on-others.ensures, others_some c.part_of-part.ensures)
+pub nonzero_rem-number : goal.nonzero_rem-number
+nonzero_rem-number t c = omega (arith, c.trees_on-others.ensures, others_some c.part_of-low.ensures)
 
 pub overflow_add-stored : goal.overflow_add-stored
 overflow_add-stored t c =
@@ -53,21 +53,21 @@ overflow_add-stored t c =
 
 pub draw-next-requires : goal.draw-next-requires
 draw-next-requires t c =
-    let kids = children c.requires.numbered c.part_of-part.ensures c.trees_on-others.ensures refl refl in
-    let less = low-smaller c.part_of-part.ensures.low_part in
+    let kids = children c.requires.numbered c.part_of-low.ensures c.trees_on-others.ensures refl refl in
+    let less = low-smaller c.part_of-low.ensures.low_part in
     (search rules, (kids.low_numbered, low-room kids c.args.drawn.now c.args.stored c.requires.number_in_bounds))
 
 pub overflow_sub-a-2 : goal.overflow_sub-a-2
-overflow_sub-a-2 t c = let less = c.part_of-part.ensures.low_part.less in omega arith
+overflow_sub-a-2 t c = let less = c.part_of-low.ensures.low_part.less in omega arith
 
 pub draw-requires : goal.draw-requires
 draw-requires t c =
-    let kids = children c.requires.numbered c.part_of-part.ensures c.trees_on-others.ensures refl refl in
-    let less = rest-smaller c.part_of-part.ensures.low_part in
+    let kids = children c.requires.numbered c.part_of-low.ensures c.trees_on-others.ensures refl refl in
+    let less = rest-smaller c.part_of-low.ensures.low_part in
     let room = rest-room kids c.args.drawn.now c.args.stored c.draw-next.ensures c.requires.number_in_bounds in
     (search rules, (kids.rest_numbered, room))
 
 pub returns : goal.returns
 returns t c =
-    stored-fork (children c.requires.numbered c.part_of-part.ensures c.trees_on-others.ensures refl refl) c.args.drawn.now c.args.stored
+    stored-fork (children c.requires.numbered c.part_of-low.ensures c.trees_on-others.ensures refl refl) c.args.drawn.now c.args.stored
     c.draw-next.ensures c.draw.ensures

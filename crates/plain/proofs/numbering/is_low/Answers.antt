@@ -18,6 +18,6 @@ returns-then-within c =
     let inside = sym c.within.ensures ∙ c.if-within.true in
     c.within-then-within.ensures ∙ rw alone (inside-low args.a args.low inside)
 
-pub returns : goal.returns
-returns c =
-    outside_low c.args.a c.args.low (sym c.within.ensures ∙ c.if-within.false)
+pub returns-else-within : goal.returns-else-within
+returns-else-within c =
+    c.if-within.false ∙ outside_low c.args.a c.args.low (sym c.within.ensures ∙ c.if-within.false)

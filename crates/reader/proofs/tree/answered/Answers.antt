@@ -1,43 +1,48 @@
 -- `tree::answered` meets its contract: 1, 2, a start beyond the text, or the tree.
 use native.Mathlib.Omega.{arith}
+use mathlib.Core.Path.{refl}
+use Rattle.labels.proofs.Exits.{passed_on}
 use Rattle.roster.proofs.Judging.{read-room}
-use Rattle.reader.specs.Promise.{Limits}
 use Rattle.reader.proofs.Calls.{given-room, roster-refused, long-refused, start_refused, tree-answered}
-use Rattle.reader.proofs.tree.answered.Goals.{Start}
 use Rattle.reader.proofs.tree.answered.Goals as goal
 
-abbrev limits : Start → Limits
-limits start = record { most = start.args.most; room = start.args.room }
-
-pub returns-then-number-ne0 : goal.returns-then-number-ne0
-returns-then-number-ne0 c =
+pub returns-in_err-roster : goal.returns-in_err-roster
+returns-in_err-roster c =
     let found = c.args.found.now in
-    roster-refused (limits (goal.at.returns-then-number-ne0 c).Start) c.args.kind c.args.threshold c.args.line.now c.args.text.now c.args.start c.parse-roster.result
-    c.parse-roster.ensures found found c.if-number-ne0.true
+    rw (passed_on c.from_residual.result c.from_residual.ensures.1)
+    (roster-refused c.args.limits c.args.kind c.args.threshold c.args.line.now c.args.text.now c.args.start c.parse.result
+    c.parse.ensures found found _ c.in_err-roster.was)
 
 pub returns-then-text-gt65536 : goal.returns-then-text-gt65536
 returns-then-text-gt65536 c =
     let found = c.args.found.now in
-    long-refused (limits (goal.at.returns-then-text-gt65536 c).Start) c.args.kind c.args.threshold c.args.line.now c.args.text.now c.args.start c.parse-roster.result
-    c.parse-roster.ensures found found (omega arith) c.if-text-gt65536.true
+    rw c.at.ensures
+    (long-refused c.args.limits c.args.kind c.args.threshold c.args.line.now c.args.text.now c.args.start c.parse.result
+    c.parse.ensures found found _ c.in_ok-roster.was c.if-text-gt65536.true)
 
 pub returns-then-text-start : goal.returns-then-text-start
 returns-then-text-start c =
     let found = c.args.found.now in
-    start_refused (limits (goal.at.returns-then-text-start c).Start) c.args.kind c.args.threshold c.args.line.now c.args.text.now c.args.start c.parse-roster.result
-    c.parse-roster.ensures found found (omega arith) c.if-text-gt65536.false c.if-text-start.true
+    rw c.at-then-text-start.ensures
+    (start_refused c.args.limits c.args.kind c.args.threshold c.args.line.now c.args.text.now c.args.start c.parse.result
+    c.parse.ensures found found _ c.in_ok-roster.was c.if-text-gt65536.false c.if-text-start.true)
 
 pub needed-requires : goal.needed-requires
 needed-requires c =
-    omega (arith, c.requires.most_bound, (read-room c.args.most c.args.line.now c.parse-roster.result c.parse-roster.ensures (omega (arith, c.requires.most_bound))).1)
+    let room = read-room c.args.limits.most c.args.line.now c.parse.result c.parse.ensures c.requires.most_bound _ c.in_ok-roster.was in
+    omega (arith, room.1, c.requires.most_bound)
 
 pub tree-requires : goal.tree-requires
 tree-requires c =
-    given-room c.args.most c.args.line.now c.parse-roster.result c.args.found.now c.parse-roster.ensures (omega arith) (omega (arith, c.requires.most_bound))
-    c.requires.most_in_bounds
+    given-room c.args.limits.most c.args.line.now c.parse.result _ c.args.found.now c.parse.ensures c.in_ok-roster.was c.requires.most_bound c.requires.most_in_bounds
 
 pub returns : goal.returns
 returns c =
-    tree-answered (limits (goal.at.returns c).Start) c.args.kind c.args.threshold c.args.line.now c.args.text.now c.args.start c.parse-roster.result
-    c.parse-roster.ensures c.args.found.now c.tree.new.found (omega (arith, c.if-number-ne0.false)) c.if-text-gt65536.false c.needed.result c.needed.ensures c.if-text-start.false
-    c.tree.result c.tree.ensures
+    tree-answered c.args.limits c.args.kind c.args.threshold c.args.line.now c.args.text.now c.args.start c.parse.result
+    c.parse.ensures c.args.found.now c.tree.new.found _ c.in_ok-roster.was c.if-text-gt65536.false c.needed.result c.needed.ensures c.if-text-start.false
+    c.tree.result _ refl refl refl refl c.tree.ensures
+
+pub invariant_of-reader : goal.invariant_of-reader
+invariant_of-reader c =
+    let room = read-room c.args.limits.most c.args.line.now c.parse.result c.parse.ensures c.requires.most_bound _ c.in_ok-roster.was in
+    record { few = omega (arith, room.1, c.requires.most_bound); long = omega (arith, room.0, room.1, c.requires.most_bound) }

@@ -1,40 +1,27 @@
-use Prim.Native.Nat.{◌≤◌}
-use mathlib.Core.Path.{refl, sym, ◌∙◌}
-use borrow.Author.Count.{below_more}
+-- `records::presence::inside` meets its contract.
+use Prim.Native.Nat.{ℕ, ◌≤◌}
+use mathlib.Core.Path.{sym, subst}
+use mathlib.Core.Bool.{Bool, ◌&&◌}
 use borrow.Author.Rules.{rules}
+use borrow.Author.Tests.{leb-true, leb-false}
 use native.Mathlib.Omega.{arith}
-use lib.ListN.{get_or}
-use Rattle.clusters.specs.Sets.{Within}
+use Rattle.std.proofs.Common.{tests, leb}
+use Rattle.std.proofs.lemmas.Iterator.{YieldsList-from_slice}
+use Rattle.std.proofs.lemmas.Iterator.Search.{all_from_yields_List}
+use Rattle.clusters.specs.Sets.{Within, within}
 use Rattle.clusters.proofs.Sets.{within-true, within-false}
-use Rattle.trees.proofs.Places.{place-among}
-use Rattle.trees.proofs.Present.{all_of_places}
+use Rattle.trees.specs.Decides.{Decides}
+use Rattle.trees.specs.Lists.{Among}
+use Rattle.records.proofs.Deciding.{decides_all, decides_both, decides_by}
 use Rattle.records.proofs.presence.inside.Goals as goal
-
-pub loop-i-init : goal.loop-i-init
-loop-i-init c =
-    (search rules, λ k less one. absurd (omega arith))
-
-pub returns-then-a-lt1 : goal.returns-then-a-lt1
-returns-then-a-lt1 c all =
-    let i = c.loop-i.i in
-    let some = all (get_or c.args.r.now i 0) (place-among c.args.r.now c.args.m refl (omega arith) i (search rules) (search rules)) in
-    omega arith
-
-pub loop-i-preserved : goal.loop-i-preserved
-loop-i-preserved c =
-    let turn = c.loop-i in (
-      search rules,
-      below_more _ _ turn.invariant.1
-          (λ one. (omega arith, within-true _ _ (sym c.within.ensures ∙ c.if-within.true))),
-    )
-
-pub returns-else-within : goal.returns-else-within
-returns-else-within c all =
-    let i = c.loop-i.i in
-    let some = all (get_or c.args.r.now i 0) (place-among c.args.r.now c.args.m refl (omega arith) i (search rules) (search rules)) in
-    within-false _ _ (sym c.within.ensures ∙ c.if-within.false) some.1
 
 pub returns : goal.returns
 returns c =
-    all_of_places c.args.r.now c.args.m refl (omega arith) (λ a. (1 ≤ a) × Within a c.args.s)
-    (λ i last one. c.loop-i.invariant.1 i (omega arith) one)
+    let l = c.args.clusters.now in
+    let told =
+    all_from_yields_List (λ a. leb 1 a && within a c.args.s) _ _ c.all.result c.all.ensures.ran (YieldsList-from_slice l cc)
+    (λ x b q k. search (rules, tests)) in
+    subst (λ (b : Bool). Decides b ((a : ℕ) → Among a l → (1 ≤ a) × Within a c.args.s)) (sym told)
+    (decides_all (λ a. (1 ≤ a) × Within a c.args.s) _
+    (λ a. decides_both (1 ≤ a) (Within a c.args.s) (leb 1 a) (within a c.args.s) (decides_by (leb 1 a) (leb-true 1 a) (λ no one. let less = leb-false 1 a no in omega arith))
+    (decides_by (within a c.args.s) (within-true _ _) (within-false _ _))) l)

@@ -1,37 +1,30 @@
 use mathlib.Core.Path.{sym, ◌∙◌}
 use borrow.Author.Count.{below_more}
 use native.Mathlib.Omega.{arith}
-use lib.ListN.{take, drop}
 use Rattle.clusters.specs.Sets.{Has, single}
 use Rattle.clusters.proofs.Members.{has-below}
 use Rattle.clusters.proofs.Sets.{within-true, within-false, single-within}
 use Rattle.trees.specs.Lists.{Among}
 use Rattle.trees.proofs.Present.{has_of_single}
 use Rattle.records.proofs.presence.singles.Goals as goal
-use Rattle.records.proofs.presence.singles.Goals.{then-within+else-not-among, else-within}
-
-pub loop-i-init : goal.loop-i-init
-loop-i-init c k less =
-    absurd (omega arith)
+use Rattle.records.proofs.presence.singles.Goals.{else-within-via-then-within+else-not-among, else-within-via-else-within}
 
 pub returns-then-not-among : goal.returns-then-not-among
 returns-then-not-among c all =
     let one = c.single-one.ensures in
-    let turn = c.loop-i in
     let held = has_of_single _ _ (rw one at (within-true _ _ (sym c.within.ensures ∙ c.if-within.true))) in
-    (rw c.if-not-among.true at c.among.ensures) (rw one (all turn.i held))
+    (rw c.if-not-among.true at c.among.ensures) (rw one (all c.loop-i.i held))
 
 pub loop-i-preserved : goal.loop-i-preserved
 loop-i-preserved c =
     below_more _ _ c.loop-i.invariant here
   where
-    here :
-        let turn = c.loop-i in
-        Has c.args.s turn.i → Among (single turn.i) (take c.args.m (drop 1 c.args.r.now))
+    here : Has c.args.s c.loop-i.i → Among (single c.loop-i.i) c.args.clusters.now
     here h =
-        elim c.if-within.branch [
-          | then-within+else-not-among w ↦ rw c.single-one.ensures at (rw w.if-not-among.false at w.among.ensures)
-          | else-within w ↦ absurd (within-false _ _ (sym c.within.ensures ∙ w.if-within.false) (rw c.single-one.ensures (single-within _ _ h)))
+        elim c.else-within.branch [
+          | else-within-via-then-within+else-not-among w ↦ rw c.single-one.ensures at (rw w.if-not-among.false at w.among.ensures)
+          | else-within-via-else-within w ↦
+              absurd (within-false _ _ (sym c.within.ensures ∙ w.if-within.false) (rw c.single-one.ensures (single-within _ _ h)))
         ]
 
 pub returns : goal.returns

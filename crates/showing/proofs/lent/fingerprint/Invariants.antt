@@ -1,9 +1,6 @@
--- The loop keeps: the fingerprint is below its modulus, and what is left of the slice falls.
-use Rattle.std.proofs.Common.{length, ◌-◌, ◌<◌, ◌≤◌}
+-- The loop keeps: the fingerprint is below its modulus.
+use Rattle.std.proofs.Common.{◌<◌}
 use Rattle.showing.proofs.lent.fingerprint.Given as goal
 
-abbrev pub invariant-loop-i : goal.invariant-loop-i
-invariant-loop-i l = (l.i ≤ length l.s) × (l.h < 1000003)
-
-abbrev pub decreases-loop-i : goal.decreases-loop-i
-decreases-loop-i l = length l.s - l.i
+abbrev pub invariant-loop-x : goal.invariant-loop-x
+invariant-loop-x g l = l.h < 1000003

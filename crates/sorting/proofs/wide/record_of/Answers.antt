@@ -1,9 +1,13 @@
--- `sorting::wide::record_of` meets its contract: the clusters are filled into zeros behind their count.
-use mathlib.Core.Path.{◌∙◌}
-use borrow.Author.Rules.{rules}
-use Rattle.sorting.proofs.Insertion.{zeros-filled}
+-- `sorting::wide::record_of` meets its contract: the clusters behind their count, sorted, before zeros.
+use Rattle.std.proofs.Common.{take, length-take-le}
+use Rattle.std.proofs.lemmas.List.Sorted.{IsNonDecreasingBy-from_sort}
+use Rattle.sorting.proofs.OneOrder.{sorted_by, wide_record}
 use Rattle.sorting.proofs.wide.record_of.Goals as goal
 
 pub returns : goal.returns
 returns c =
-    c.fill.ensures ∙ zeros-filled 32 _ _ (search rules)
+    let cs = take c.args.count c.args.clusters.now in
+    wide_record c.args.count cs (length-take-le c.args.count c.args.clusters.now c.requires.count_in_bounds)
+    (sorted_by cs c.sort_unstable.new.self
+    (rw c.copy_from_slice.ensures.after at c.sort_unstable.ensures.permutation)
+    (IsNonDecreasingBy-from_sort (λ x. x) _ c.sort_unstable.ensures.sorted))

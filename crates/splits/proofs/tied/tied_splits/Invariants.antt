@@ -2,8 +2,5 @@
 use Rattle.splits.proofs.TieWalk.{Summed}
 use Rattle.splits.proofs.tied.tied_splits.Given as goal
 
-abbrev pub invariant-loop-s : goal.invariant-loop-s
-invariant-loop-s l = Summed l.scores l.ties l.a l.least l.low l.rest l.count l.s
-
-abbrev pub decreases-loop-s : goal.decreases-loop-s
-decreases-loop-s l = l.s
+abbrev pub invariant-loop-low : goal.invariant-loop-low
+invariant-loop-low l = Summed l.scores l.ties l.a l.least l.low-iterator.low l.low-iterator.rest l.count l.low-iterator.left

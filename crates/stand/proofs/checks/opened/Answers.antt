@@ -1,15 +1,18 @@
 -- `stand::checks::opened` meets its contract: one law for each way.
+use Rattle.std.proofs.lemmas.Result.{err_from_is_err_and}
 use Rattle.stand.proofs.Opening.{opened-refused, opened-shut, opened-good}
 use Rattle.stand.proofs.checks.opened.Goals as goal
 
-pub returns-then-stand-ne0 : goal.returns-then-stand-ne0
-returns-then-stand-ne0 c =
-    opened-refused _ _ _ _ _ _ c.judge-stand.ensures c.if-stand-ne0.true
+pub returns-in_err-stand : goal.returns-in_err-stand
+returns-in_err-stand c =
+    let p = err_from_is_err_and c.from_residual.result c.from_residual.ensures.1 in
+    rw (p.1, p.2) (opened-refused _ _ _ _ _ c.in_err-stand.field-0.0 c.in_err-stand.ensures)
 
-pub returns-then-number-ne0 : goal.returns-then-number-ne0
-returns-then-number-ne0 c =
-    opened-shut _ _ _ _ _ _ c.judge-stand.ensures c.if-stand-ne0.false c.lent-number.ensures c.if-number-ne0.true c.shut.ensures
+pub returns-in_err-lent : goal.returns-in_err-lent
+returns-in_err-lent c =
+    let p = err_from_is_err_and c.from_residual-in_err-lent.result c.from_residual-in_err-lent.ensures.1 in
+    rw (p.1, p.2) (opened-shut _ _ _ _ _ _ c.in_ok-stand.ensures c.in_err-lent.field-0.0 c.in_err-lent.ensures)
 
 pub returns : goal.returns
 returns c =
-    opened-good _ _ _ _ _ _ c.judge-stand.ensures c.if-stand-ne0.false c.lent-number.ensures c.if-number-ne0.false
+    opened-good _ _ _ _ _ _ c.in_ok-stand.ensures c.in_ok-lent.ensures

@@ -3,7 +3,4 @@ use Rattle.sums.proofs.DownPass.{DownTo}
 use Rattle.sums.proofs.rooted.children_of.Given as goal
 
 abbrev pub invariant-loop-j : goal.invariant-loop-j
-invariant-loop-j l = DownTo 16 l.g l.initial.left l.i l.sets l.first l.left l.j
-
-abbrev pub decreases-loop-j : goal.decreases-loop-j
-decreases-loop-j l = l.j
+invariant-loop-j g l = DownTo g.row.N l.g l.initial.left l.i l.sets l.first l.left l.j

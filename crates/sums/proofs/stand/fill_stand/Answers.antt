@@ -1,58 +1,18 @@
 -- `sums::stand::fill_stand` meets its contract: both tables cleared, changed by the gene trees, transformed, and told.
-use Rattle.std.proofs.Common.{sym, ◌∙◌, arith, pow_pos}
-use Rattle.sums.proofs.Filled.{zeros_of, stand-grouped, stand-countable, stand-trees-counted, stand-trees_few, stand-weighable_summed, lost-small, all_told}
+use Rattle.sums.proofs.Filled.{zeros_of, stand-trees-counted, stand-trees_few, stand-weighable_summed, lost-small, all_told}
 use Rattle.sums.proofs.stand.fill_stand.Goals as goal
 
-pub add_trees-requires : goal.add_trees-requires
-add_trees-requires c =
-    let stand = c.requires.stand_weighable in
-    record {
-      grouped = stand-grouped stand (zeros_of c.clear.ensures.sums_after c.requires.sums_len).sized;
-      count_in_bounds = stand.genes_long;
-      all_countable_for = stand-countable stand;
-    }
-
-pub count_sets-requires : goal.count_sets-requires
-count_sets-requires c =
-    let stand = c.requires.stand_weighable in
-    let blank = zeros_of c.clear.ensures.lost_after c.requires.lost_len in
-    record {
-      grouped = stand-grouped stand blank.sized;
-      count_bound = stand.few_genes;
-      count_in_bounds = stand.genes_long;
-      all_countable_for = stand-countable stand;
-      lost_value = blank.zeros;
-    }
-
-pub transform-requires : goal.transform-requires
-transform-requires c =
+pub transform-requires-clause-by_index : goal.transform-requires-clause-by_index
+transform-requires-clause-by_index c =
     let stand = c.requires.stand_weighable in
     let blank = zeros_of c.clear.ensures.sums_after c.requires.sums_len in
     let blank-too = zeros_of c.clear.ensures.lost_after c.requires.lost_len in
-    let changed = c.add_trees.ensures in
-    let tallied = c.count_sets.ensures in record {
-      n_bound = stand.few_species;
-      sums_len = changed.same ∙ blank.sized;
-      lost_len = tallied.same ∙ blank-too.sized;
-      by_index = lost-small (stand-weighable_summed stand) (stand-trees_few stand) blank blank-too changed tallied;
-    }
-
-pub tell-requires : goal.tell-requires
-tell-requires c =
-    let blank = zeros_of c.clear.ensures.sums_after c.requires.sums_len in
-    let blank-too = zeros_of c.clear.ensures.lost_after c.requires.lost_len in
-    let sums = c.transform.auto.sums ∙ c.add_trees.ensures.same ∙ blank.sized in
-    let lost = c.transform.auto.lost ∙ c.count_sets.ensures.same ∙ blank-too.sized in
-    record {
-      count_bound = c.requires.stand_weighable.few_genes;
-      in_bounds = omega (arith, pow_pos c.args.n);
-      sums_len = sums ∙ sym lost;
-    }
+    lost-small (stand-weighable_summed stand) (stand-trees_few stand) blank blank-too c.add_trees.ensures c.count_sets.ensures
 
 pub returns : goal.returns
 returns c =
+    let stand = c.requires.stand_weighable in
     let blank = zeros_of c.clear.ensures.sums_after c.requires.sums_len in
     let blank-too = zeros_of c.clear.ensures.lost_after c.requires.lost_len in
-    let stand = c.requires.stand_weighable in
     all_told (stand-weighable_summed stand) (stand-trees_few stand) blank blank-too c.add_trees.ensures c.count_sets.ensures (stand-trees-counted stand)
     (rw (c.transform.ensures.sums_after, c.transform.ensures.lost_after) at c.tell.ensures)

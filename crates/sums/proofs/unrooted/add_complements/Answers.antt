@@ -1,98 +1,44 @@
-use Rattle.std.proofs.Common.{◌<◌, arith}
-use borrow.Author.Tests.{not-true, not-false}
-use mir.Facts.{Fits-widen}
-use Rattle.trees.specs.Records.{count, largest}
+use Rattle.std.proofs.Common.{◌≡◌, ℕ, ◌+◌, ◌-◌, get_or, take, drop, subst, arith}
+use Rattle.trees.specs.Decides.{Decides}
+use Rattle.trees.specs.Lists.{Among}
+use Rattle.trees.specs.Records.{count, listed, largest}
 use Rattle.trees.proofs.GeneRecords.{places-le}
-use Rattle.sums.proofs.UnrootedChanges.{others_start, others-listed, others_next, others_end}
-use Rattle.sums.proofs.unrooted.add_complements.Goals.{After-shared_slice_known-in-loop-i-1}
+use Rattle.sums.specs.Work.{proper_ones}
+use Rattle.sums.proofs.UnrootedChanges.{proper_at, others_start, others-listed, others_next, others_end}
 use Rattle.sums.proofs.unrooted.add_complements.Goals as goal
+use Rattle.sums.proofs.unrooted.add_complements.Goals.{After-among, then-not-among, else-not-among}
 
--- every number of the record has sixteen digits
-whole_below :
-    (c : After-shared_slice_known-in-loop-i-1) → let g = c.args.g.now in largest g < 65536
-whole_below c = omega (arith, c.type_inv.g (count c.args.g.now))
+-- whether the record lists the complement
+listed_or_not :
+    (c : After-among) → let g = c.args.g.now in Decides c.among.result (Among (largest g - get_or (proper_ones g) c.loop-x.x-index 0) (listed g))
+listed_or_not c =
+    let g = c.args.g.now in
+    let all : count g + 1 - 1 ≡ count g = omega arith in
+    subst (λ (k : ℕ). Decides c.among.result (Among (largest g - get_or (proper_ones g) c.loop-x.x-index 0) (take k (drop 1 g)))) all c.among.ensures
 
-pub bounds-g-0 : goal.bounds-g-0
-bounds-g-0 c =
-    let form = c.requires.countable.valid.form in omega arith
-
-pub overflow_cast-m : goal.overflow_cast-m
-overflow_cast-m c =
-    Fits-widen tt (c.type_inv.g _)
-
-pub offset_bounds-g-m : goal.offset_bounds-g-m
-offset_bounds-g-m c =
-    let form = c.requires.countable.valid.form in omega arith
-
-pub bounds-g-m : goal.bounds-g-m
-bounds-g-m c =
-    let form = c.requires.countable.valid.form in omega arith
-
-pub overflow_cast-all : goal.overflow_cast-all
-overflow_cast-all c =
-    Fits-widen tt (c.type_inv.g _)
-
-pub loop-i-init : goal.loop-i-init
-loop-i-init c =
+pub loop-x-init : goal.loop-x-init
+loop-x-init c =
     others_start _ _
-
-pub offset_bounds-g-i : goal.offset_bounds-g-i
-offset_bounds-g-i c =
-    let form = c.requires.countable.valid.form in omega arith
-
-pub bounds-g-i : goal.bounds-g-i
-bounds-g-i c =
-    let form = c.requires.countable.valid.form in omega arith
-
-pub overflow_cast-other : goal.overflow_cast-other
-overflow_cast-other c =
-    Fits-widen tt (c.type_inv.g _)
 
 pub overflow_sub-other : goal.overflow_sub-other
 overflow_sub-other c =
     let form = c.requires.countable.valid.form in
-    places-le c.loop-i.i _ form c.loop-i.invariant.first (omega arith) (omega arith)
+    let k = c.loop-x.x-index in
+    omega (arith, proper_at c.args.g.now k (omega arith), places-le (k + 1) (count c.args.g.now) form (omega arith) (omega arith) (omega arith))
 
-pub overflow_add-i : goal.overflow_add-i
-overflow_add-i c =
-    let form = c.requires.countable.valid.form in omega arith
-
-pub among-requires : goal.among-requires
-among-requires c =
-    let form = c.requires.countable.valid.form in record {
-      r_len = form.sized;
-      m_bound = form.counted;
-    }
-
-pub overflow_cast-other-then-not-among : goal.overflow_cast-other-then-not-among
-overflow_cast-other-then-not-among c =
-    omega (arith, whole_below (goal.at.overflow_cast-other-then-not-among c).After-shared_slice_known-in-loop-i-1)
-
-pub change-requires : goal.change-requires
-change-requires c =
-    omega (arith, c.loop-i.invariant.changed.same, c.requires.fits)
-
-pub overflow_cast-all-then-not-among : goal.overflow_cast-all-then-not-among
-overflow_cast-all-then-not-among c =
-    omega (arith, whole_below (goal.at.overflow_cast-all-then-not-among c).After-shared_slice_known-in-loop-i-1)
-
-pub change-requires-then-not-among : goal.change-requires-then-not-among
-change-requires-then-not-among c =
-    omega (arith, c.change.ensures.same, c.loop-i.invariant.changed.same, c.requires.fits)
-
-pub loop-i-preserved-then-not-among : goal.loop-i-preserved-then-not-among
-loop-i-preserved-then-not-among c =
-    let none = rw (not-true c.among.result c.if-not-among.true-raw) at c.among.ensures in
-    others_next c.requires.countable c.loop-i.invariant (omega arith) none c.change.ensures c.change-then-not-among.ensures
-
-pub loop-i-preserved : goal.loop-i-preserved
-loop-i-preserved c =
-    others-listed c.requires.countable c.loop-i.invariant (omega arith) (rw (not-false c.among.result c.if-not-among.false-raw) at c.among.ensures)
-
-pub shape_of-sums : goal.shape_of-sums
-shape_of-sums c =
-    c.loop-i.invariant.changed.same
+pub loop-x-preserved : goal.loop-x-preserved
+loop-x-preserved c =
+    let told = listed_or_not (goal.at.loop-x-preserved c).After-among in
+    let at = proper_at c.args.g.now c.loop-x.x-index (omega arith) in
+    elim c.if-not-among.branch [
+      | then-not-among w ↦
+          rw w.sums-is
+          (others_next c.requires.countable c.loop-x.invariant at (omega arith) (rw w.if-not-among.true at told) w.change.ensures
+          w.change-then-not-among.ensures)
+      | else-not-among w ↦
+          rw w.sums-is (others-listed c.requires.countable c.loop-x.invariant at (omega arith) (rw w.if-not-among.false at told))
+    ]
 
 pub returns : goal.returns
 returns c =
-    others_end c.requires.countable c.loop-i.invariant (omega arith)
+    others_end c.requires.countable c.loop-x.invariant (omega arith)

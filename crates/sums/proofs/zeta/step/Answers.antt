@@ -1,7 +1,7 @@
 use Rattle.std.proofs.Common.{◌≡◌, ℕ, ◌+◌, ◌^◌, ◌≤◌, length, arith, pow_pos, pow_mono}
 use Rattle.clusters.specs.Sets.{single}
 use Rattle.sums.proofs.Steps.{step_start, step_fits, step_small, step_next, step_end}
-use Rattle.sums.proofs.zeta.step.Goals.{In-loop-start}
+use Rattle.sums.proofs.zeta.step.Goals.{In-loop-start, After-single-half}
 use Rattle.sums.proofs.zeta.step.Goals as goal
 
 -- half a block
@@ -19,43 +19,29 @@ block c =
     let fits = step_fits c.loop-start.invariant.0 c.requires.i_lt_n sums (half_is _ _ c.single-half.ensures) (omega arith) in
     (fits, omega arith, omega (arith, pow_mono {i = c.args.n} {j = 16} c.requires.n_bound))
 
--- a block has entries
-some : (c : In-loop-start) → 1 ≤ c.single-half.result
-some c = omega (arith, half_is _ _ c.single-half.ensures, pow_pos c.args.i)
-
-pub overflow_cast-half : goal.overflow_cast-half
-overflow_cast-half c =
-    omega (arith, c.single-half.type_inv)
+pub nonzero_div-start-step : goal.nonzero_div-start-step
+nonzero_div-start-step c =
+    omega (arith, half_is _ _ c.single-half.ensures, pow_pos c.args.i)
 
 pub loop-start-init : goal.loop-start-init
 loop-start-init c =
     (step_start _ _, step_start _ _)
 
-pub add_half-requires : goal.add_half-requires
-add_half-requires c =
-    let fits = block (goal.at.add_half-requires c).In-loop-start in
-    let sums = c.loop-start.invariant.0.same in
-    let lost = c.loop-start.invariant.1.same in
-    let long = c.requires.sums_len in
-    let long-too = c.requires.lost_len in record {
-      half_in_bounds = omega arith;
-      sums_len = omega arith;
-      sums_len_bound = omega arith;
-      by_index = step_small c.loop-start.invariant.1 (half_is _ _ c.single-half.ensures) fits.1 c.requires.at_most
-          (λ a l. omega (arith, c.slice_known-2-1.given a));
-    }
+pub add_half-requires-clause-half_in_bounds : goal.add_half-requires-clause-half_in_bounds
+add_half-requires-clause-half_in_bounds c =
+    let fits = block (goal.at.add_half-requires-clause-half_in_bounds c).In-loop-start in
+    let same = c.loop-start.invariant.0.same in
+    omega arith
 
-pub overflow_mul-start : goal.overflow_mul-start
-overflow_mul-start c =
-    omega (arith, block (goal.at.overflow_mul-start c).In-loop-start)
-
-pub overflow_add-start : goal.overflow_add-start
-overflow_add-start c =
-    omega (arith, block (goal.at.overflow_add-start c).In-loop-start)
+pub add_half-requires-clause-by_index : goal.add_half-requires-clause-by_index
+add_half-requires-clause-by_index c =
+    let fits = block (goal.at.add_half-requires-clause-by_index c).In-loop-start in
+    step_small c.loop-start.invariant.1 (half_is _ _ c.single-half.ensures) fits.1 c.requires.at_most
+    (λ a l. omega (arith, (goal.at.add_half-requires-clause-by_index c).After-single-half.type_inv.lost a))
 
 pub loop-start-smaller : goal.loop-start-smaller
 loop-start-smaller c =
-    omega (arith, some (goal.at.loop-start-smaller c).In-loop-start)
+    omega (arith, half_is _ _ c.single-half.ensures, pow_pos c.args.i)
 
 pub loop-start-preserved : goal.loop-start-preserved
 loop-start-preserved c =
@@ -63,19 +49,26 @@ loop-start-preserved c =
     let half = half_is _ _ c.single-half.ensures in
     (step_next c.loop-start.invariant.0 half fits.0 c.add_half.ensures.half_added, step_next c.loop-start.invariant.1 half fits.1 c.add_half.ensures.half_added_2)
 
-pub shape_of-sums : goal.shape_of-sums
-shape_of-sums c =
-    c.loop-start.invariant.0.same
+pub returns-clause-sums_after : goal.returns-clause-sums_after
+returns-clause-sums_after c =
+    step_end c.loop-start.invariant.0 (omega arith)
 
-pub shape_of-lost : goal.shape_of-lost
-shape_of-lost c =
-    c.loop-start.invariant.1.same
-
-pub returns : goal.returns
-returns c =
+pub returns-clause-lost_after : goal.returns-clause-lost_after
+returns-clause-lost_after c =
     let long = c.requires.sums_len in
     let long-too = c.requires.lost_len in
-    record {
-      sums_after = step_end c.loop-start.invariant.0 (omega arith);
-      lost_after = step_end c.loop-start.invariant.1 (omega arith);
-    }
+    step_end c.loop-start.invariant.1 (omega arith)
+
+pub returns-2-clause-sums_after : goal.returns-2-clause-sums_after
+returns-2-clause-sums_after c =
+    let fits = block (goal.at.returns-2-clause-sums_after c).In-loop-start in
+    let half = half_is _ _ c.single-half.ensures in
+    step_end (step_next c.loop-start.invariant.0 half fits.0 c.add_half.ensures.half_added) (omega arith)
+
+pub returns-2-clause-lost_after : goal.returns-2-clause-lost_after
+returns-2-clause-lost_after c =
+    let fits = block (goal.at.returns-2-clause-lost_after c).In-loop-start in
+    let half = half_is _ _ c.single-half.ensures in
+    let long = c.requires.sums_len in
+    let long-too = c.requires.lost_len in
+    step_end (step_next c.loop-start.invariant.1 half fits.1 c.add_half.ensures.half_added_2) (omega arith)

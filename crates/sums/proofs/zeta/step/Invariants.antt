@@ -7,4 +7,4 @@ abbrev pub invariant-loop-start : goal.invariant-loop-start
 invariant-loop-start l = SteppedTo l.i l.initial.sums l.sums l.start × SteppedTo l.i l.initial.lost l.lost l.start
 
 abbrev pub decreases-loop-start : goal.decreases-loop-start
-decreases-loop-start l = l.entries - l.start
+decreases-loop-start l = l.start-end - l.start

@@ -1,11 +1,7 @@
 use native.Mathlib.Omega.{arith}
-use Rattle.tables.proofs.Reached.{below_of_whole, past_whole}
+use Rattle.tables.proofs.Reached.{entries}
 use Rattle.tables.proofs.TieTable.{counting_start, counting_length, counting_cluster, counting_next, counting_end}
 use Rattle.tables.proofs.tied.count_ties.Goals as goal
-
-pub whole-all-requires : goal.whole-all-requires
-whole-all-requires c =
-    let few = c.requires.few in omega arith
 
 pub loop-a-init : goal.loop-a-init
 loop-a-init c =
@@ -13,18 +9,16 @@ loop-a-init c =
 
 pub ties_of-count-requires : goal.ties_of-count-requires
 ties_of-count-requires c =
-    counting_cluster c.loop-a.invariant c.requires (below_of_whole c.args.n c.loop-a.a (omega (arith, c.whole-all.ensures)))
+    counting_cluster c.loop-a.invariant c.requires (omega (arith, entries c.args.n))
 
 pub bounds-ties-a : goal.bounds-ties-a
 bounds-ties-a c =
-    let below = below_of_whole c.args.n c.loop-a.a (omega (arith, c.whole-all.ensures)) in
     let long = c.requires.ties_long in
-    omega (arith, counting_length c.loop-a.invariant c.requires)
+    omega (arith, counting_length c.loop-a.invariant c.requires, entries c.args.n)
 
 pub loop-a-preserved : goal.loop-a-preserved
 loop-a-preserved c =
-    counting_next c.loop-a.invariant c.requires (below_of_whole c.args.n c.loop-a.a (omega (arith, c.whole-all.ensures)))
-    c.ties_of-count.ensures
+    counting_next c.loop-a.invariant c.requires (omega (arith, entries c.args.n)) c.ties_of-count.ensures
 
 pub shape_of-ties : goal.shape_of-ties
 shape_of-ties c =
@@ -32,4 +26,4 @@ shape_of-ties c =
 
 pub returns : goal.returns
 returns c =
-    counting_end c.loop-a.invariant c.requires (past_whole _ _ (omega (arith, c.whole-all.ensures)))
+    counting_end c.loop-a.invariant c.requires (omega (arith, entries c.args.n))

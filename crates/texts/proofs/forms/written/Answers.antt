@@ -20,7 +20,7 @@ quoted-requires c =
     let l = quoted-length c.args.name.now (sym c.may_be_bare.ensures ∙ c.if-may_be_bare.false) in
     omega arith
 
-pub returns : goal.returns
-returns c =
+pub returns-else-may_be_bare : goal.returns-else-may_be_bare
+returns-else-may_be_bare c =
     rw (label-quoted c.args.name.now (sym c.may_be_bare.ensures ∙ c.if-may_be_bare.false))
     c.quoted.ensures

@@ -18,8 +18,8 @@ overflow_add-result c =
     let d = c.doubled_length.ensures in
     search rules
 
-pub returns : goal.returns
-returns c =
+pub returns-else-may_be_bare : goal.returns-else-may_be_bare
+returns-else-may_be_bare c =
     let l = quoted-length c.args.name.now (sym c.may_be_bare.ensures ∙ c.if-may_be_bare.false) in
     let d = c.doubled_length.ensures in
     omega arith

@@ -1,29 +1,15 @@
-use native.Mathlib.Omega.{arith}
-use mathlib.Core.Path.{sym, ◌∙◌}
+-- `blanks`: the run of blanks is passed over.
+use Rattle.std.proofs.Common.{arith, ap, ◌+◌}
 use Rattle.labels.specs.Bytes.{is_blank}
-use Rattle.labels.proofs.Runs.{run_on, run-off, run_end}
+use Rattle.labels.proofs.Runs.{run_left}
 use Rattle.tokens.specs.Tokens.{blanks}
 use Rattle.tokens.proofs.cursor.blanks.Goals as goal
 
-pub returns-then-not-is_blank : goal.returns-then-not-is_blank
-unfolding blanks
-returns-then-not-is_blank c =
-    let off =
-    run-off is_blank c.args.text.now c.loop-i.i c.loop-i-test.true
-    (sym c.is_blank.ensures ∙ c.if-not-is_blank.true)
-    in
-    omega arith
-
-pub loop-i-preserved : goal.loop-i-preserved
-loop-i-preserved c =
-    let on =
-    run_on is_blank c.args.text.now c.loop-i.i c.loop-i-test.true
-    (sym c.is_blank.ensures ∙ c.if-not-is_blank.false)
-    in
-    omega arith
+pub overflow_add-result : goal.overflow_add-result
+overflow_add-result c =
+    let left = run_left is_blank c.args.text.now c.args.at c.run.result (c.run.ensures is_blank (λ b r h. h)) in omega arith
 
 pub returns : goal.returns
 unfolding blanks
 returns c =
-    let over = run_end is_blank c.args.text.now c.loop-i.i c.loop-i-test.false in
-    omega arith
+    ap (λ n. c.args.at + n) (c.run.ensures is_blank (λ b r h. h))

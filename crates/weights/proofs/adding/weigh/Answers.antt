@@ -1,40 +1,46 @@
-use Prim.Native.Nat.{◌-◌, ◌*◌}
-use mathlib.Core.Path.{◌≡◌}
-use borrow.Author.Rules.{rules}
-use native.Mathlib.Omega.{arith}
-use lib.ListN.{take, drop}
+-- `weights::adding::weigh` meets its contract: a sum over the gene trees.
+use Rattle.std.proofs.Common.{◌≡◌, sym, ◌∙◌, arith, rules}
+use Rattle.std.specs.Slice.Iter.{chunks_exact_size}
+use Rattle.std.proofs.lemmas.Iterator.{YieldsList-from_map}
+use Rattle.std.proofs.lemmas.Iterator.Adapters.{serves_from_places}
+use Rattle.std.proofs.lemmas.Iterator.Consumers.{sum_by_from_yields_List, fits_by_from_yields_list}
+use Rattle.trees.specs.Records.{records_in}
+use Rattle.trees.proofs.Places.{at_among}
 use Rattle.weights.specs.Count.{extra}
-use Rattle.trees.proofs.Lent.{part-before, record_among}
-use Rattle.weights.proofs.RunningSums.{weighed_start, weighed_next, weighed-le, weighed_end, weight-small}
-use Rattle.weights.proofs.adding.weigh.Goals.{After-extra-sum}
+use Rattle.weights.specs.Work.{Counted}
+use Rattle.weights.proofs.Checked.{counted_same}
+use Rattle.weights.proofs.Chunks.{pieces_yielded}
+use Rattle.weights.proofs.RunningSums.{weight_sum, weight-small}
 use Rattle.weights.proofs.adding.weigh.Goals as goal
 
--- what the call has counted is the i-th gene tree
-counted :
-    (c : After-extra-sum)
-    → c.extra-sum.result ≡ extra c.args.rooting (take 32 (drop (32 * (c.loop-i.i - 1)) c.args.genes.now)) c.args.a
-counted c =
-    rw (part-before c.loop-i.i c.args.genes.now c.loop-i.invariant.first) at c.extra-sum.ensures
+pub sum-requires-clause-can : goal.sum-requires-clause-can
+sum-requires-clause-can c =
+    let s = c.args in
+    let size : chunks_exact_size c.map.result.iter ≡ 32 = cc in
+    let all = pieces_yielded 32 (omega arith) s.count s.genes.now {s = c.map.result.iter} size (cc) c.requires.count_in_bounds in (
+      omega arith,
+      serves_from_places all
+          (λ x q k. search rules)
+          (λ x k l is. let among = at_among (records_in s.count s.genes.now) x.now k l in let can = c.requires.all_countable x.now (rw is among) in
+          let long = can.valid.form.sized in let counted : Counted x.now = record { breadth = 16; can = can; narrow = omega arith } in search (rules, counted_same)),
+    )
 
-pub loop-i-init : goal.loop-i-init
-loop-i-init c =
-    weighed_start _ _ _ _ _
-
-pub extra-sum-requires : goal.extra-sum-requires
-extra-sum-requires c =
-    rw (part-before c.loop-i.i c.args.genes.now c.loop-i.invariant.first)
-    (c.requires.all_countable _ (record_among (c.loop-i.i - 1) c.args.count c.args.genes.now (omega (arith, c.loop-i.invariant.first))))
-
-pub overflow_add-sum : goal.overflow_add-sum
-overflow_add-sum c =
-    let small = weight-small c.args.rooting c.args.genes.now c.args.a c.requires.count_bound c.requires.all_countable in
-    let sum = weighed-le c.loop-i.invariant (search rules) (counted (goal.at.overflow_add-sum c).After-extra-sum) in
-    omega arith
-
-pub loop-i-preserved : goal.loop-i-preserved
-loop-i-preserved c =
-    weighed_next c.loop-i.invariant (search rules) (counted (goal.at.loop-i-preserved c).After-extra-sum)
+pub sum-requires-clause-fits : goal.sum-requires-clause-fits
+sum-requires-clause-fits c =
+    let s = c.args in
+    let genes = records_in s.count s.genes.now in
+    let small = weight-small s.rooting s.genes.now s.a c.requires.count_bound c.requires.all_countable in
+    fits_by_from_yields_list (λ g. extra s.rooting g s.a) genes c.map.result _
+    (YieldsList-from_map {s = c.map.result} _ (λ g. extra s.rooting g s.a)
+    (pieces_yielded 32 (omega arith) s.count s.genes.now {s = c.map.result.iter} (cc) (cc) c.requires.count_in_bounds)
+    c.map.ensures.closure (λ x r q k. search rules)) (omega (arith, weight_sum s.rooting genes s.a))
 
 pub returns : goal.returns
 returns c =
-    weighed_end c.loop-i.invariant (omega arith)
+    let s = c.args in
+    let genes = records_in s.count s.genes.now in
+    sum_by_from_yields_List (λ g. extra s.rooting g s.a) genes c.map.result _ c.sum.ensures.ran
+    (YieldsList-from_map {s = c.map.result} _ (λ g. extra s.rooting g s.a)
+    (pieces_yielded 32 (omega arith) s.count s.genes.now {s = c.map.result.iter} (cc) (cc) c.requires.count_in_bounds)
+    c.map.ensures.closure (λ x r q k. search rules))
+    ∙ sym (weight_sum s.rooting genes s.a)

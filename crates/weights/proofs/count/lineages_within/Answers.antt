@@ -1,41 +1,29 @@
-use Prim.Native.Nat.{◌+◌}
-use mathlib.Core.Path.{sym, ◌∙◌}
-use native.Mathlib.Omega.{arith}
-use lib.ListN.{get_or}
-use Rattle.weights.proofs.Pass.{taken-out-le, passing_start, passing-inside, passing-outside, passing-counted, passing_end}
+use Rattle.std.proofs.Common.{sym, ◌∙◌}
+use Rattle.weights.proofs.Pass.{passing_start, passing-inside, passing-outside, passing-counted, passing_end}
+use Rattle.weights.proofs.Checked.{listed_item, listed_over}
+use Rattle.weights.proofs.count.lineages_within.Goals.{then-not-within+then-joined-ne0, then-not-within+else-joined-ne0, else-not-within}
 use Rattle.weights.proofs.count.lineages_within.Goals as goal
 
-pub loop-i-init : goal.loop-i-init
-loop-i-init c =
-    passing_start _ _
+pub loop-x-init : goal.loop-x-init
+loop-x-init c = passing_start _ _
 
-pub overflow_cast-x : goal.overflow_cast-x
-overflow_cast-x c =
-    omega (arith, c.type_inv.g (c.loop-i.i + 1))
-
-pub overflow_sub-loose : goal.overflow_sub-loose
-overflow_sub-loose c =
-    omega (arith, taken-out-le (get_or c.args.g.now (c.loop-i.i + 1) 0) c.loop-i.loose)
-
-pub loop-i-preserved-then-joined-ne0 : goal.loop-i-preserved-then-joined-ne0
-loop-i-preserved-then-joined-ne0 c =
-    passing-counted c.requires c.loop-i.invariant (omega arith)
-    (sym c.within.ensures ∙ c.if-not-within.true) c.if-joined-ne0.true
-
-pub loop-i-preserved-else-joined-ne0 : goal.loop-i-preserved-else-joined-ne0
-loop-i-preserved-else-joined-ne0 c =
-    passing-outside c.requires c.loop-i.invariant (omega arith)
-    (sym c.within.ensures ∙ c.if-not-within.true) c.if-joined-ne0.false
-
-pub loop-i-preserved : goal.loop-i-preserved
-loop-i-preserved c =
-    passing-inside c.requires c.loop-i.invariant (omega arith)
-    (sym c.within.ensures ∙ c.if-not-within.false)
+pub loop-x-preserved : goal.loop-x-preserved
+loop-x-preserved c =
+    let can = c.requires.can in
+    let at = listed_item c.loop-x.x-index can.valid.form c.loop-x-test.true in
+    elim c.if-not-within.branch [
+      | then-not-within+then-joined-ne0 w ↦
+          rw (w.k-is, w.loose-is, w.all-is)
+          (rw (← at.1) at (passing-counted can c.loop-x.invariant at.0 (rw at.1 at (sym c.within.ensures ∙ w.if-not-within.true)) (rw at.1 at w.if-joined-ne0.true)))
+      | then-not-within+else-joined-ne0 w ↦
+          rw (w.k-is, w.loose-is, w.all-is)
+          (passing-outside can c.loop-x.invariant at.0 (rw at.1 at (sym c.within.ensures ∙ w.if-not-within.true)) (rw at.1 at w.if-joined-ne0.false))
+      | else-not-within w ↦
+          rw (w.k-is, w.loose-is, w.all-is) (passing-inside can c.loop-x.invariant at.0 (rw at.1 at (sym c.within.ensures ∙ w.if-not-within.false)))
+    ]
 
 pub returns-then-all : goal.returns-then-all
-returns-then-all c =
-    passing_end c.loop-i.invariant (omega arith) c.if-all.true
+returns-then-all c = passing_end c.loop-x.invariant (listed_over c.requires.can.valid.form c.loop-x-test.false) c.if-all.true
 
 pub returns-else-all : goal.returns-else-all
-returns-else-all c =
-    passing_end c.loop-i.invariant (omega arith) c.if-all.false
+returns-else-all c = passing_end c.loop-x.invariant (listed_over c.requires.can.valid.form c.loop-x-test.false) c.if-all.false

@@ -1,30 +1,18 @@
-use mathlib.Core.Path.{sym, ◌∙◌}
-use native.Mathlib.Omega.{arith}
-use mir.Facts.{Fits-widen}
+use Rattle.std.proofs.Common.{sym, ◌∙◌, arith}
 use Rattle.clusters.proofs.Sets.{within-true, within-le}
-use Rattle.weights.proofs.Downward.{down_start, down_passed, down_taken, down_end}
+use Rattle.weights.proofs.Downward.{down_passed, down_taken, down_end}
 use Rattle.weights.proofs.count.maximal_within.Goals as goal
 
-pub loop-i-init : goal.loop-i-init
-loop-i-init c =
-    down_start _ _
-
-pub overflow_cast-x : goal.overflow_cast-x
-overflow_cast-x c =
-    Fits-widen tt (c.type_inv.g _)
-
 pub overflow_sub-left : goal.overflow_sub-left
-overflow_sub-left c =
-    within-le (within-true _ _ (sym c.within.ensures ∙ c.if-within.true))
+overflow_sub-left c = within-le (within-true _ _ (sym c.within.ensures ∙ c.if-within.true))
 
 pub loop-i-preserved-then-within : goal.loop-i-preserved-then-within
 loop-i-preserved-then-within c =
-    down_taken c.requires c.loop-i.invariant (omega arith) (sym c.within.ensures ∙ c.if-within.true)
+    down_taken c.requires.can c.loop-i.invariant (omega arith) (sym c.within.ensures ∙ c.if-within.true)
 
 pub loop-i-preserved : goal.loop-i-preserved
 loop-i-preserved c =
-    down_passed c.requires c.loop-i.invariant (omega arith) (sym c.within.ensures ∙ c.if-within.false)
+    down_passed c.requires.can c.loop-i.invariant (omega arith) (sym c.within.ensures ∙ c.if-within.false)
 
 pub returns : goal.returns
-returns c =
-    down_end c.loop-i.invariant (omega arith)
+returns c = down_end c.loop-i.invariant (omega arith)

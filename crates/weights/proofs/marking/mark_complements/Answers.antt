@@ -1,6 +1,5 @@
 use Prim.Native.Nat.{◌≤◌}
 use native.Mathlib.Omega.{arith}
-use mir.Facts.{Fits-widen}
 use lib.ListN.{get_or}
 use Rattle.trees.specs.Lists.{Among}
 use Rattle.trees.specs.Records.{count, listed}
@@ -16,36 +15,20 @@ read : (c : In-loop-i) → c.loop-i.i ≤ count c.args.g.now
     → Among (get_or c.args.g.now c.loop-i.i 0) (listed c.args.g.now)
 read c l = listed_at c.loop-i.i c.requires.form c.loop-i.invariant.first (omega arith)
 
-pub overflow_cast-all : goal.overflow_cast-all
-overflow_cast-all c =
-    Fits-widen tt (c.type_inv.g _)
-
 pub loop-i-init : goal.loop-i-init
-loop-i-init c =
-    rw (complements_first c.args.g.now) (marked_start _ _)
+loop-i-init c = rw (complements_first c.args.g.now) (marked_start _ _)
 
-pub overflow_cast-x : goal.overflow_cast-x
-overflow_cast-x c =
-    Fits-widen tt (c.type_inv.g _)
+pub overflow_sub-out : goal.overflow_sub-out
+overflow_sub-out c = (among-le-largest c.requires.form (read (goal.at.overflow_sub-out c).In-loop-i (omega arith))).1
 
-pub overflow_sub-x : goal.overflow_sub-x
-overflow_sub-x c =
-    (among-le-largest c.requires.form (read (goal.at.overflow_sub-x c).In-loop-i (omega arith))).1
-
-pub bounds-out-x : goal.bounds-out-x
-bounds-out-x c =
+pub bounds-out-all : goal.bounds-out-all
+bounds-out-all c =
     let form = c.requires.form in
-    let some = (among-le-largest form (read (goal.at.bounds-out-x c).In-loop-i (omega arith))).0 in
+    let some = (among-le-largest form (read (goal.at.bounds-out-all c).In-loop-i (omega arith))).0 in
     omega (arith, c.loop-i.invariant.same, c.requires.below _ (largest-among form some))
 
 pub loop-i-preserved : goal.loop-i-preserved
-loop-i-preserved c =
-    marked_next c.loop-i.invariant (complements_next c.loop-i.i c.requires.form c.loop-i.invariant.first (omega arith))
-
-pub shape_of-out : goal.shape_of-out
-shape_of-out c =
-    c.loop-i.invariant.same
+loop-i-preserved c = marked_next c.loop-i.invariant (complements_next c.loop-i.i c.requires.form c.loop-i.invariant.first (omega arith))
 
 pub returns : goal.returns
-returns c =
-    marked_end c.loop-i.invariant (complements_end c.args.g.now c.loop-i.i c.loop-i.invariant.first (omega arith))
+returns c = marked_end c.loop-i.invariant (complements_end c.args.g.now c.loop-i.i c.loop-i.invariant.first (omega arith))

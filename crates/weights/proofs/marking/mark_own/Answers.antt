@@ -1,32 +1,24 @@
-use borrow.Author.Rules.{rules}
-use native.Mathlib.Omega.{arith}
+use Rattle.std.proofs.Common.{◌+◌, arith}
+use Rattle.weights.proofs.Checked.{listed_item, listed_over, listed_at, listed_from, first_none}
+use Rattle.weights.proofs.Shown.{marked_next, marked_end}
 use Rattle.trees.specs.Records.{count}
-use Rattle.weights.proofs.Checked.{listed_at, listed_from, first_none}
-use Rattle.weights.proofs.Shown.{marked_start, marked_next, marked_end}
 use Rattle.weights.proofs.marking.mark_own.Goals as goal
-
-pub loop-i-init : goal.loop-i-init
-loop-i-init c =
-    marked_start _ _
-
-pub overflow_cast-x : goal.overflow_cast-x
-overflow_cast-x c =
-    omega (arith, c.type_inv.g c.loop-i.i)
 
 pub bounds-out-x : goal.bounds-out-x
 bounds-out-x c =
-    let now = c.loop-i.invariant in
-    omega (arith, now.same, c.requires.below _ (listed_at c.loop-i.i c.requires.form now.first (search rules)))
+    let form = c.requires.form in
+    let at = listed_item c.loop-x.x-index form c.loop-x-test.true in
+    let read = at.1 in
+    omega (arith, at.0, c.loop-x.invariant.same, c.requires.below _ (listed_at (c.loop-x.x-index + 1) form (omega arith) (omega (arith, at.0))))
 
-pub loop-i-preserved : goal.loop-i-preserved
-loop-i-preserved c =
-    marked_next c.loop-i.invariant (listed_from c.loop-i.i c.requires.form c.loop-i.invariant.first (search rules))
-
-pub shape_of-out : goal.shape_of-out
-shape_of-out c =
-    c.loop-i.invariant.same
+pub loop-x-preserved : goal.loop-x-preserved
+loop-x-preserved c =
+    let form = c.requires.form in
+    let at = listed_item c.loop-x.x-index form c.loop-x-test.true in
+    rw at.1 (marked_next c.loop-x.invariant (listed_from (c.loop-x.x-index + 1) form (omega arith) (omega (arith, at.0))))
 
 pub returns : goal.returns
 returns c =
     let g = c.args.g.now in
-    marked_end c.loop-i.invariant (first_none g (count g) c.loop-i.i (omega arith))
+    let over = listed_over c.requires.form c.loop-x-test.false in
+    marked_end c.loop-x.invariant (first_none g (count g) (c.loop-x.x-index + 1) (omega arith))

@@ -1,27 +1,30 @@
-use borrow.Author.Rules.{rules}
-use native.Mathlib.Omega.{arith}
-use Rattle.trees.proofs.Lent.{part_record, record_among}
+use Rattle.std.proofs.Common.{length, arith}
+use Rattle.std.proofs.lemmas.List.{length_push}
+use Rattle.std.proofs.lemmas.Iterator.Consumers.{YieldsList-turn, YieldsList-end}
+use Rattle.trees.proofs.Lent.{record_among, length-records_in}
+use Rattle.weights.proofs.Chunks.{pieces_yielded, piece_turn}
 use Rattle.weights.proofs.Shown.{all_start, all_next, all_end}
 use Rattle.weights.proofs.marking.mark_trees.Goals as goal
 
-pub loop-tree-init : goal.loop-tree-init
-loop-tree-init c =
-    all_start _ _ _ _
+pub loop-g-init : goal.loop-g-init
+loop-g-init c = all_start _ _ _ _
 
 pub mark_tree-requires : goal.mark_tree-requires
 mark_tree-requires c =
-    rw (c.loop-tree.invariant.same, part_record)
-    (c.requires.all_markable _ (record_among c.loop-tree.tree c.args.count c.args.genes.now (search rules)))
+    let s = c.args in
+    let t = YieldsList-turn (pieces_yielded 32 (omega arith) s.count s.genes.now (cc) (cc) c.requires.count_in_bounds) c.loop-g.yielded _ c.loop-g.yielded_by _ _ c.in-Some.g c.in-Some.is c.next.ensures.steps in
+    let g = piece_turn 32 (omega arith) s.count s.genes.now t.0 t.1 in
+    rw (c.loop-g.invariant.same, g.1) (c.requires.all_markable _ (record_among (length c.loop-g.yielded) s.count s.genes.now g.0))
 
-pub loop-tree-preserved : goal.loop-tree-preserved
-loop-tree-preserved c =
-    all_next _ c.loop-tree.invariant (search rules)
-    (rw part_record at c.mark_tree.ensures)
-
-pub shape_of-out : goal.shape_of-out
-shape_of-out c =
-    c.loop-tree.invariant.same
+pub loop-g-preserved : goal.loop-g-preserved
+loop-g-preserved c =
+    let s = c.args in
+    let t = YieldsList-turn (pieces_yielded 32 (omega arith) s.count s.genes.now (cc) (cc) c.requires.count_in_bounds) c.loop-g.yielded _ c.loop-g.yielded_by _ _ c.in-Some.g c.in-Some.is c.next.ensures.steps in
+    let g = piece_turn 32 (omega arith) s.count s.genes.now t.0 t.1 in
+    rw (length_push c.loop-g.yielded c.in-Some.g) (all_next _ c.loop-g.invariant g.0 (rw g.1 at c.mark_tree.ensures))
 
 pub returns : goal.returns
 returns c =
-    all_end _ c.loop-tree.invariant (omega arith)
+    let s = c.args in
+    let e = YieldsList-end (pieces_yielded 32 (omega arith) s.count s.genes.now (cc) (cc) c.requires.count_in_bounds) c.loop-g.yielded _ c.loop-g.yielded_by _ _ c.in-None.is c.next.ensures.steps in
+    all_end _ c.loop-g.invariant (omega (arith, e.1, length-records_in s.count s.genes.now))

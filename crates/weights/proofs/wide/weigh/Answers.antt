@@ -1,45 +1,49 @@
-use Prim.Native.Nat.{◌-◌, ◌*◌}
-use mathlib.Core.Path.{◌≡◌}
-use borrow.Author.Rules.{rules}
-use native.Mathlib.Omega.{arith}
-use lib.ListN.{take, drop}
+-- `weights::wide::weigh` meets its contract: a sum over the gene trees.
+use Rattle.std.proofs.Common.{◌≡◌, sym, ◌∙◌, arith, rules}
+use Rattle.std.specs.Slice.Iter.{chunks_exact_size}
+use Rattle.std.proofs.lemmas.Iterator.{YieldsList-from_map}
+use Rattle.std.proofs.lemmas.Iterator.Adapters.{serves_from_places}
+use Rattle.std.proofs.lemmas.Iterator.Consumers.{sum_by_from_yields_List, fits_by_from_yields_list}
 use Rattle.trees.specs.Records.{wide_records_in}
+use Rattle.trees.proofs.EqualPieces.{pieces-length}
+use Rattle.trees.proofs.Places.{at_among}
 use Rattle.weights.specs.Count.{extra}
-use Rattle.trees.proofs.EqualPieces.{pieces-length, part_up_to, piece_among}
+use Rattle.weights.specs.Work.{Counted}
 use Rattle.weights.specs.declared.Rooting.TheVariants.{Rooted}
+use Rattle.weights.proofs.Chunks.{pieces_yielded}
+use Rattle.weights.proofs.RunningSums.{weight_sum}
 use Rattle.weights.proofs.Sums.{weight_most}
-use Rattle.weights.proofs.RunningSums.{weighed_start, weighed_next, weighed-le, weighed_end}
-use Rattle.weights.proofs.wide.weigh.Goals.{After-extra-sum}
 use Rattle.weights.proofs.wide.weigh.Goals as goal
 
--- what the call has counted is the i-th gene tree
-counted :
-    (c : After-extra-sum)
-    → c.extra-sum.result ≡ extra Rooted (take 64 (drop (64 * (c.loop-i.i - 1)) c.args.genes.now)) c.args.a
-counted c =
-    rw (part_up_to 64 c.loop-i.i c.args.genes.now c.loop-i.invariant.first) at c.extra-sum.ensures
+pub sum-requires-clause-can : goal.sum-requires-clause-can
+sum-requires-clause-can c =
+    let s = c.args in
+    let size : chunks_exact_size c.map.result.iter ≡ 64 = cc in
+    let all = pieces_yielded 64 (omega arith) s.count s.genes.now {s = c.map.result.iter} size (cc) c.requires.count_in_bounds in (
+      omega arith,
+      serves_from_places all
+          (λ x q k. search rules)
+          (λ x k l is. let among = at_among (wide_records_in s.count s.genes.now) x.now k l in let can = c.requires.all_countable_for x.now (rw is among) in
+          let counted : Counted x.now = record { breadth = 32; can = can; narrow = omega arith } in search rules),
+    )
 
-pub loop-i-init : goal.loop-i-init
-loop-i-init c =
-    weighed_start _ _ _ _ _
-
-pub extra-sum-requires : goal.extra-sum-requires
-extra-sum-requires c =
-    rw (part_up_to 64 c.loop-i.i c.args.genes.now c.loop-i.invariant.first)
-    (c.requires.all_countable_for _ (piece_among 64 (c.loop-i.i - 1) c.args.count c.args.genes.now (omega (arith, c.loop-i.invariant.first))))
-
-pub overflow_add-sum : goal.overflow_add-sum
-overflow_add-sum c =
+pub sum-requires-clause-fits : goal.sum-requires-clause-fits
+sum-requires-clause-fits c =
+    let s = c.args in
+    let genes = wide_records_in s.count s.genes.now in
     let few = c.requires.count_bound in
-    let genes = wide_records_in c.args.count c.args.genes.now in
-    let small = weight_most Rooted genes c.args.a (omega (arith, pieces-length 64 c.args.count c.args.genes.now)) c.requires.all_countable_for in
-    let sum = weighed-le c.loop-i.invariant (search rules) (counted (goal.at.overflow_add-sum c).After-extra-sum) in
-    omega arith
-
-pub loop-i-preserved : goal.loop-i-preserved
-loop-i-preserved c =
-    weighed_next c.loop-i.invariant (search rules) (counted (goal.at.loop-i-preserved c).After-extra-sum)
+    let small = weight_most Rooted genes s.a (omega (arith, pieces-length 64 s.count s.genes.now)) c.requires.all_countable_for in
+    fits_by_from_yields_list (λ g. extra Rooted g s.a) genes c.map.result _
+    (YieldsList-from_map {s = c.map.result} _ (λ g. extra Rooted g s.a)
+    (pieces_yielded 64 (omega arith) s.count s.genes.now {s = c.map.result.iter} (cc) (cc) c.requires.count_in_bounds)
+    c.map.ensures.closure (λ x r q k. search rules)) (omega (arith, weight_sum Rooted genes s.a))
 
 pub returns : goal.returns
 returns c =
-    weighed_end c.loop-i.invariant (omega arith)
+    let s = c.args in
+    let genes = wide_records_in s.count s.genes.now in
+    sum_by_from_yields_List (λ g. extra Rooted g s.a) genes c.map.result _ c.sum.ensures.ran
+    (YieldsList-from_map {s = c.map.result} _ (λ g. extra Rooted g s.a)
+    (pieces_yielded 64 (omega arith) s.count s.genes.now {s = c.map.result.iter} (cc) (cc) c.requires.count_in_bounds)
+    c.map.ensures.closure (λ x r q k. search rules))
+    ∙ sym (weight_sum Rooted genes s.a)

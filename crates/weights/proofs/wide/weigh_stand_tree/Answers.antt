@@ -1,43 +1,39 @@
-use borrow.Author.Rules.{rules}
-use native.Mathlib.Omega.{arith}
-use mir.Facts.{Fits-widen}
-use lib.ListN.{take}
-use Rattle.trees.specs.Records.{wide_records_in}
+-- `weights::wide::weigh_stand_tree` meets its contract: a sum over the clusters of the species record.
+use Rattle.std.proofs.Common.{◌≡◌, ◌+◌, ◌-◌, take, drop, sym, ap, ◌∙◌, arith, rules}
+use Rattle.std.specs.Slice.Iter.{iter_rest}
+use Rattle.std.proofs.lemmas.Iterator.{YieldsList-from_slice, YieldsList-from_map}
+use Rattle.std.proofs.lemmas.Iterator.Consumers.{sum_by_from_yields_List, fits_by_from_yields_list}
+use Rattle.trees.specs.Records.{count, listed, wide_records_in}
 use Rattle.trees.proofs.EqualPieces.{pieces-length}
-use Rattle.weights.specs.Stand.{stand_score}
+use Rattle.weights.specs.Stand.{stand_weight, stand_score}
+use Rattle.weights.proofs.RunningSums.{total_sum}
 use Rattle.weights.proofs.StandWeights.{stand-score_most}
-use Rattle.weights.proofs.RunningSums.{scored_start, scored_next, scored-le, scored_end}
 use Rattle.weights.proofs.wide.weigh_stand_tree.Goals as goal
 
-pub overflow_cast-m : goal.overflow_cast-m
-overflow_cast-m c =
-    Fits-widen tt (c.type_inv.species _)
-
-pub loop-place-init : goal.loop-place-init
-loop-place-init c =
-    scored_start _ _
-
-pub overflow_cast-species : goal.overflow_cast-species
-overflow_cast-species c =
-    Fits-widen tt (c.type_inv.species _)
-
-pub overflow_add-total : goal.overflow_add-total
+pub sum-requires-clause-fits : goal.sum-requires-clause-fits
 unfolding stand_score
-overflow_add-total c =
-    let args = c.args in
+sum-requires-clause-fits c =
+    let s = c.args in
     let stand = c.requires.stand_countable in
     let few = stand.few_genes in
-    let small = stand-score_most (take args.n args.groups.now) (wide_records_in args.count args.genes.now)
-    (omega (arith, pieces-length 64 args.count args.genes.now)) stand.countable c.requires.form
-    in
-    let sum = scored-le c.loop-place.invariant c.requires.form (search rules) c.weigh_stand-total.ensures in
-    omega arith
-
-pub loop-place-preserved : goal.loop-place-preserved
-loop-place-preserved c =
-    scored_next c.loop-place.invariant c.requires.form (search rules) c.weigh_stand-total.ensures
+    let groups = take s.n s.groups.now in
+    let genes = wide_records_in s.count s.genes.now in
+    let small = stand-score_most groups genes (omega (arith, pieces-length 64 s.count s.genes.now)) stand.countable c.requires.form in
+    let all : count s.species.now + 1 - 1 ≡ count s.species.now = omega arith in
+    let rest : iter_rest c.map.result.iter ≡ take (count s.species.now + 1 - 1) (drop 1 s.species.now) = cc in
+    fits_by_from_yields_list (λ a. stand_weight groups genes a) (listed s.species.now) c.map.result _
+    (YieldsList-from_map {s = c.map.result} _ (λ a. stand_weight groups genes a) (YieldsList-from_slice _ (rest ∙ ap (λ k. take k (drop 1 s.species.now)) all))
+    c.map.ensures.closure (λ x r q k. search rules)) (omega (arith, total_sum (λ a. stand_weight groups genes a) (listed s.species.now)))
 
 pub returns : goal.returns
 unfolding stand_score
 returns c =
-    scored_end c.loop-place.invariant c.requires.form (omega arith)
+    let s = c.args in
+    let groups = take s.n s.groups.now in
+    let genes = wide_records_in s.count s.genes.now in
+    let all : count s.species.now + 1 - 1 ≡ count s.species.now = omega arith in
+    let rest : iter_rest c.map.result.iter ≡ take (count s.species.now + 1 - 1) (drop 1 s.species.now) = cc in
+    sum_by_from_yields_List (λ a. stand_weight groups genes a) (listed s.species.now) c.map.result _ c.sum.ensures.ran
+    (YieldsList-from_map {s = c.map.result} _ (λ a. stand_weight groups genes a) (YieldsList-from_slice _ (rest ∙ ap (λ k. take k (drop 1 s.species.now)) all))
+    c.map.ensures.closure (λ x r q k. search rules))
+    ∙ sym (total_sum (λ a. stand_weight groups genes a) (listed s.species.now))

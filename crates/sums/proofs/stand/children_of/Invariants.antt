@@ -1,9 +1,0 @@
--- `sums::stand::children_of` meets its contract. The invariant: the children among the clusters that were passed are stored, and their species are not left.
-use Rattle.sums.proofs.DownPass.{DownTo}
-use Rattle.sums.proofs.stand.children_of.Given as goal
-
-abbrev pub invariant-loop-j : goal.invariant-loop-j
-invariant-loop-j l = DownTo 32 l.g l.initial.left l.i l.sets l.first l.left l.j
-
-abbrev pub decreases-loop-j : goal.decreases-loop-j
-decreases-loop-j l = l.j

@@ -1,9 +1,0 @@
--- The loop keeps: the lines begin inside the input, and what is left of it falls.
-use Rattle.std.proofs.Common.{length, ◌-◌, ◌≤◌}
-use Rattle.vectors.proofs.run_lines.Given as goal
-
-abbrev pub invariant-loop-at : goal.invariant-loop-at
-invariant-loop-at g l = l.at ≤ length l.input
-
-abbrev pub decreases-loop-at : goal.decreases-loop-at
-decreases-loop-at g l = length l.input - l.at
