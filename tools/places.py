@@ -48,7 +48,7 @@ counts = {
     '1 numbers asked for': lines(r'number (!=|==) |\.number (!=|==)'),
     '3 loops by while or loop': lines(r"^\s*('[a-z]+: )?(while|loop)\b"),
     '3 loops by for': lines(r"^\s*('[a-z]+: )?for\b"),
-    '4 functions of std called by a path': lines(r'wrapping_(add|sub)_u32\(|u32::(count_ones|trailing_zeros)\('),
+    '4 methods of numbers called as functions': lines(r'wrapping_(add|sub)_u32\(|u32::(count_ones|trailing_zeros)\('),
     '4 fields written twice': lines(r'^\s+([a-z_]+): \1,?$'),
     '4 derives of Clone and Copy alone': lines(r'derive\(Clone, Copy\)'),
     '5 functions of six parameters or more': long_lists(),
