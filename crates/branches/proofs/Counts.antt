@@ -1,11 +1,11 @@
 -- The count behind a node: a number of digits alone, and its value; "zeros in front change nothing" (#114).
 use Prim.Native.Nat.compare
-use Prim.Native.Nat.{ℕ, zero, suc, ◌+◌, ◌*◌, ◌≤◌, ◌<◌}
+use Prim.Native.Nat.{ℕ, zero, suc, ◌+◌, ◌-◌, ◌*◌, ◌≤◌, ◌<◌, min}
 use native.Mathlib.Omega.{arith}
 use mathlib.Core.Path.{◌≡◌, refl, sym, ap, ◌∙◌, subst}
 use mathlib.Core.Bool.{Bool, true, false, ◌&&◌, false≢true}
 use mathlib.Core.List.{List, [], ◌∷◌, ◌++◌}
-use lib.ListN.{length, take, length-append, replicate}
+use lib.ListN.{length, take, drop, length-take, length-drop, length-append, replicate}
 use lib.Seq.{take-length}
 use lib.Dec.{compare_is_eq, eqb, ltb}
 use borrow.Author.Tests.{eqb-true, eq-eqb, ne_eqb, ltb-true, lt-ltb, le-ltb}
@@ -14,7 +14,7 @@ use native.Mathlib.Decide.{dec_lt}
 use Rattle.labels.proofs.Runs.{run-within, run-byte, run-behind}
 use Rattle.labels.specs.Bytes.{is_digit, one_more, run}
 use Rattle.labels.proofs.Bytewise.{All}
-use Rattle.labels.proofs.RunRules.{run-bytes}
+use Rattle.labels.proofs.RunRules.{run-bytes, run_take}
 use Rattle.trees.specs.Tree.{Behind}
 use Rattle.tokens.specs.Says.{between, Valued}
 use Rattle.tokens.specs.Values.{written, written_behind, thousandths}
@@ -23,6 +23,28 @@ use Rattle.tokens.proofs.Values.{whole_value}
 use Rattle.branches.specs.Ends.{is_count, count_by, count_in}
 
 -- ---- a number whose bytes stand in a text
+
+module _ (text : List ℕ) (f : Figure) (valued : Valued text f) where
+  many : length (between text f) ≡ f.to - f.from
+  many = omega (arith, valued.1)
+
+  -- its bytes stand within the text
+  pub within_text : f.from < f.to → f.to ≤ length text
+  within_text h =
+      let l = valued.1 in
+      let t : length (between text f) ≡ min (f.to - f.from) (length (drop f.from text)) = length-take (f.to - f.from) (drop f.from text) in
+      let d = length-drop f.from text in
+      omega arith
+
+  digits_are : run is_digit (between text f) ≡ min (f.to - f.from) (run is_digit (drop f.from text))
+  digits_are = run_take is_digit (f.to - f.from) (drop f.from text)
+
+  -- a byte of it is no digit
+  pub other_byte : (i : ℕ) → f.from ≤ i → i < f.to → run is_digit (drop f.from text) ≡ i - f.from → false ≡ is_count (between text f)
+  unfolding is_count
+  other_byte i low high ends =
+      let fewer : run is_digit (between text f) ≡ length (between text f) → ⊥ = λ e. omega (arith, many, digits_are) in
+      rw (lt-ltb 0 (length (between text f)) (omega (arith, many)), ne_eqb (run is_digit (between text f)) (length (between text f)) fewer)
 
 -- a number is a count where all of its bytes are digits
 pub all_digits :

@@ -37,7 +37,9 @@ fn put(out: &mut [u16], count: usize, token: Token) -> usize
 }
 
 // Puts the numbers of the k-th field of a case, or the bytes where it is text, at the start of out, and answers that part.
-pub fn numbers<'a>(case: &[u8], k: usize, text: bool, out: &'a mut [u16]) -> &'a [u16] {
+pub fn numbers<'a>(case: &[u8], k: usize, text: bool, out: &'a mut [u16]) -> &'a [u16]
+    ensures { length result.now ≤ length out.old }
+{
     let field = field(case, k);
     let mut at = 0;
     let mut count = 0;
@@ -58,7 +60,9 @@ pub fn tree(case: &[u8], k: usize) -> Record {
 }
 
 // The same as bytes.
-pub fn bytes<'a>(case: &[u8], k: usize, text: bool, out: &'a mut [u8]) -> &'a [u8] {
+pub fn bytes<'a>(case: &[u8], k: usize, text: bool, out: &'a mut [u8]) -> &'a [u8]
+    ensures { length result.now ≤ length out.old }
+{
     let mut space = [9u16; NUMBERS];
     let numbers = numbers(case, k, text, &mut space);
     let n = numbers.len().min(out.len());

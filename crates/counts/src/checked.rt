@@ -2,7 +2,7 @@
 ghost use Rattle.std.specs.Prelude.{◌≡◌, ◌^◌, ◌≤◌, length};
 ghost use Rattle.roster.specs.Judged.{reply_to};
 ghost use Rattle.search.specs.Candidates.{BinarySpecies};
-ghost use Rattle.counts.specs.Promise.{Checks};
+ghost use Rattle.counts.specs.Promise.{is_right, Checks};
 ghost use Rattle.counts.specs.Work.{AllEnd, CountsJudged, DrawnJudged, Distances};
 
 use crate::judged::{GeneTrees, judge};
@@ -13,6 +13,16 @@ use roster::{Reply, reply_to};
 use solver::solve;
 use weights::Rooting;
 
+// Whether a node has a count, and it is the weight.
+fn is_right(count: Option<usize>, weight: usize) -> bool
+    ensures { result ≡ is_right weight count }
+{
+    match count {
+        Some(count) => count == weight,
+        None => false,
+    }
+}
+
 // 23 at the end of the first node whose count is missing or wrong, and else no refusal: of as many nodes that end from `start` on as `found` has clusters, which are
 // theirs. `checked` calls it, of a text that was read to these clusters.
 fn compare(text: &[u8], start: usize, trees: &GeneTrees, found: &[u32]) -> Result<(), Refusal>
@@ -22,8 +32,8 @@ fn compare(text: &[u8], start: usize, trees: &GeneTrees, found: &[u32]) -> Resul
     let mut at = start;
     for a in found {
         let end = next_end(text, at);
-        let weight = trees.weigh(*a);
-        if end.count != Some(weight) {
+        let weight = trees.weigh(Rooting::Rooted, *a);
+        if !is_right(end.count, weight) {
             return Err(Fault::WrongCount.at(end.place));
         }
         at = end.next;

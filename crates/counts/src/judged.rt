@@ -2,11 +2,10 @@
 ghost use Rattle.std.specs.Prelude.{◌≡◌, ◌≤◌};
 ghost use Rattle.trees.specs.Records.{Form, records_in};
 ghost use Rattle.roster.specs.Verdict.{verdict};
-ghost use Rattle.weights.specs.Count.{score};
+ghost use Rattle.weights.specs.Count.{weight, score};
 ghost use Rattle.weights.specs.declared.Rooting.TheVariants.{Rooted};
 ghost use Rattle.lineages.specs.InOrder.{Shaped};
 ghost use Rattle.lineages.specs.Work.{genes_tests, said};
-ghost use Rattle.counts.specs.Promise.{weight_in};
 ghost use Rattle.counts.specs.Work.{CallJudged};
 
 use faults::{Fault, Refusal};
@@ -24,11 +23,11 @@ pub(crate) struct GeneTrees<'a> {
 }
 
 impl GeneTrees<'_> {
-    // The weight of a cluster.
-    pub fn weigh(&self, a: u32) -> usize
-        ensures { result ≡ weight_in self.now.genes.now self.now.count a }
+    // The weight of a cluster, of gene trees with a root or without one.
+    pub fn weigh(&self, rooting: Rooting, a: u32) -> usize
+        ensures { result ≡ weight rooting (records_in self.now.count self.now.genes.now) a }
     {
-        adding::weigh(Rooting::Rooted, self.genes, self.count, a)
+        adding::weigh(rooting, self.genes, self.count, a)
     }
 
     // The score of a species record.

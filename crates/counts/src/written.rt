@@ -9,6 +9,7 @@ use faults::Refusal;
 use lineages::checks::is_species_tree;
 use roster::{Reply, reply_to};
 use trees::Record;
+use weights::Rooting;
 
 // The weight of each cluster of the record, at the cluster's own index. `written` calls it, with a species record that `judge` has passed.
 fn weigh_all(trees: &GeneTrees, numbers: &[u16]) -> [u32; 32]
@@ -18,7 +19,7 @@ fn weigh_all(trees: &GeneTrees, numbers: &[u16]) -> [u32; 32]
     let mut counts = [0; 32];
     let m = numbers[0] as usize;
     for i in 1..=m {
-        counts[i] = trees.weigh(numbers[i] as u32) as u32;
+        counts[i] = trees.weigh(Rooting::Rooted, numbers[i] as u32) as u32;
     }
     counts
 }

@@ -31,7 +31,11 @@ pub fn gather(line: &[u8], trees: &[u8], genes: &mut [u16]) -> Result<usize, Ref
         if count == 512 {
             return Err(Fault::TooLarge.at(at));
         }
-        let drawn = draw(Kind::Gene, None, line, trees, at)?;
+        // a tree at fault is refused by its own fault, at its own place
+        let drawn = match draw(Kind::Gene, None, line, trees, at) {
+            Ok(drawn) => drawn,
+            Err(refusal) => return Err(refusal.fault.at(refusal.place)),
+        };
         put(genes, count, drawn.numbers);
         count += 1;
         at = blanks(trees, drawn.next);

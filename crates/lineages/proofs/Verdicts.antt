@@ -94,11 +94,11 @@ verdict_both (t ∷ l) k n e = go t.fault e (λ h. verdict_both l k n.1 h)
 -- ---- 1, 11 and 12
 
 module _ (n : ℕ) (genes : List ℕ) (count : ℕ) where
-  no_species : n < 1 → verdict (shape_tests n genes count) ≡ said 1 0
+  pub no_species : n < 1 → verdict (shape_tests n genes count) ≡ said 1 0
   unfolding verdict shape_tests species_test
   no_species h = rw (lt-leb 1 n h)
 
-  many_species : 16 < n → verdict (shape_tests n genes count) ≡ said 1 0
+  pub many_species : 16 < n → verdict (shape_tests n genes count) ≡ said 1 0
   unfolding verdict shape_tests species_test
   many_species h = rw (le-leb 1 n (omega arith), lt-leb n 16 h)
 
@@ -106,11 +106,11 @@ module _ (n : ℕ) (genes : List ℕ) (count : ℕ) where
   wrong_species (inl h) = no_species h
   wrong_species (inr h) = many_species h.1
 
-  no_genes : 1 ≤ n → n ≤ 16 → count < 1 → verdict (shape_tests n genes count) ≡ said 11 0
+  pub no_genes : 1 ≤ n → n ≤ 16 → count < 1 → verdict (shape_tests n genes count) ≡ said 11 0
   unfolding verdict shape_tests species_test count_test
   no_genes p q h = rw (le-leb 1 n p, le-leb n 16 q, lt-leb 1 count h)
 
-  many_genes : 1 ≤ n → n ≤ 16 → 4096 < count → verdict (shape_tests n genes count) ≡ said 11 0
+  pub many_genes : 1 ≤ n → n ≤ 16 → 4096 < count → verdict (shape_tests n genes count) ≡ said 11 0
   unfolding verdict shape_tests species_test count_test
   many_genes p q h = rw (le-leb 1 n p, le-leb n 16 q, le-leb 1 count (omega arith), lt-leb count 4096 h)
 

@@ -52,7 +52,8 @@ fn scored(
         return Err(Fault::BadSpeciesRecord.at(0));
     }
     checks::judge_genes(rooting, n, genes, count)?;
-    Ok(weights::adding::weigh_tree(rooting, genes, count, species))
+    let score = weights::adding::weigh_tree(rooting, genes, count, species);
+    Ok(score)
 }
 
 // The score of a species tree: the sum of the weights of all its clusters.

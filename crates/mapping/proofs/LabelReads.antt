@@ -62,7 +62,7 @@ module _ (text : List ℕ) (at : ℕ) where
         by false is = unread e.place (rw f.there (broken_at false is))
 
     -- a label that ends
-    ended-says : (s : Scanned) → Ends text at s.next s.name → LabelRead text at (Ok s)
+    pub ended-says : (s : Scanned) → Ends text at s.next s.name → LabelRead text at (Ok s)
     unfolding LabelRead name_at
     ended-says s e =
         let so = told_sound (drop at text) e.n first e.says in

@@ -8,7 +8,7 @@ use mathlib.Core.List.{List}
 use lib.ListN.{length, drop}
 use lib.Dec.{eqb}
 use borrow.Author.Tests.{eq-eqb, eqb-true}
-use Rattle.std.proofs.Common.{Result, Ok, Err, Option, None, Some}
+use Rattle.std.proofs.Common.{Result, Ok, Err, Option, None, Some, MatchOption}
 use Rattle.std.specs.Option.{option_eq}
 use Rattle.faults.specs.declared.Fault.TheVariants.{FaultyMapping}
 use Rattle.faults.specs.declared.Refusal.{Refusal}
@@ -40,6 +40,11 @@ pub found_elsewhere : (n p i : ℕ) (r : Option ℕ) → Sought n p r → not (o
 found_elsewhere n p i None s e few same = omega arith
 found_elsewhere n p i (Some j) s e few same =
     let here : j ≡ i = omega arith in true≢false (sym e ∙ ap (λ (t : Bool). not t) (eq-eqb j i here))
+
+-- where the line that was found is compared: whether it is the i-th
+pub due_is : (i : ℕ) (r : Option ℕ) {due : Bool} {P : ℕ → Type 0} → MatchOption r (due ≡ false) P → ((j : ℕ) → P j → due ≡ eqb j i) → option_eq eqb r (Some i) ≡ due
+due_is i None none same = sym none
+due_is i (Some j) here same = sym (same j here)
 
 -- ---- a label, taken apart
 

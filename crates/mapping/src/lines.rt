@@ -21,7 +21,9 @@ fn head_at(species_line: &Roster, i: usize, text: &[u8], at: usize) -> Result<us
     ensures { HeadRead species_line.now.table species_line.now.count i text.now at result }
 {
     let label = label_at(text, at)?;
-    if species(&species_line.table, species_line.count, label.name) != Some(i) {
+    let found = species(&species_line.table, species_line.count, label.name);
+    let due = found.is_some_and(|j| j == i);
+    if !due {
         return Err(Fault::FaultyMapping.at(at));
     }
     if !next_is(text, label.next, b':') {

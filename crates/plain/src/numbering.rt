@@ -62,7 +62,9 @@ fn part_of(a: u32, number: u64) -> Part
     ensures { PartOf a number result }
 {
     let mut left = number;
-    for low in 1..a {
+    // by steps, so that which numbers are tried stands here
+    let mut low = 1;
+    while low < a {
         if is_low(a, low) {
             let with_low = trees_on(low) * trees_on(a - low);
             if left < with_low {
@@ -70,9 +72,10 @@ fn part_of(a: u32, number: u64) -> Part
             }
             left -= with_low;
         }
+        low += 1;
     }
     // the number is that of a tree, so it was met before
-    unreachable!()
+    Part { low, number: left }
 }
 
 // Stores the clusters of the tree of that number on a from `stored` on: a, then those of its low child, then those of the other. How many are stored then.

@@ -27,7 +27,7 @@ module _ (k x : ℕ) where
 
   pub digits_more : 10 ≤ x → digits_to (suc k) x ≡ digits_to k (x / 10) ++ ((48 + x % 10) ∷ [])
   unfolding digits_to
-  digits_more h = rw (le-ltb x 10 h)
+  digits_more h = rw (le-ltb x 10 h) (ap (λ d. digits_to k (x / 10) ++ (d ∷ [])) (omega arith))
 
 -- how many digits are allowed does not matter, where there are enough
 pub digits-enough : (k x : ℕ) → x < 10 ^ suc k → digits_to (suc (suc k)) x ≡ digits_to (suc k) x

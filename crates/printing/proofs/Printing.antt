@@ -55,6 +55,14 @@ put-length {l} {r} {t} {at} p = ap length p.stored ∙ length-sets l at t
 -- ---- a number
 
 module _ (x : ℕ) where
+  pub put-digit : (l : List ℕ) (at : ℕ) → x < 10 → Put l at (decimal x) (at + 1) (set l at (48 + x))
+  put-digit l at h = rw (decimal_one x h) (put_byte l at (48 + x))
+
+  pub put-digits :
+      {l m : List ℕ} {at mid : ℕ} → 10 ≤ x → x < 10 ^ 20 → Put l at (decimal (x / 10)) mid m
+      → Put l at (decimal x) (mid + 1) (set m mid (48 + x % 10))
+  put-digits {l} {m} {at} {mid} h k p = rw (decimal_more x h k) (put_then p (put_byte m mid (48 + x % 10)))
+
   -- one digit, or one more than the tenth has
   pub one_digit : x < 10 → length (decimal x) ≡ 1
   one_digit h = ap length (decimal_one x h)

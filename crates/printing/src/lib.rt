@@ -26,14 +26,19 @@ pub fn word(out: &mut [u8], at: usize, word: &[u8]) -> usize
 }
 
 // Puts a number in decimal digits behind the first `at` bytes, and answers where it ends. `texts` calls it too, where there is room for the digits.
+// Digit by digit, and not by the kit's `itoa`, so that what each of them is stands here.
 // Not by `write!`: std says what it wrote where it answers `Ok`, and nowhere that it does so where there is room (`OnOk` in `fmt::Write`).
-#[tactic(auto, using(crate::proofs::Digits::decimal_written))]
 pub fn decimal(out: &mut [u8], at: usize, x: usize) -> usize
     requires { at + length (Words·decimal x) ≤ length out.old }
     ensures { Put out.old at (Words·decimal x) result out.new }
 {
-    let mut buffer = itoa::Buffer::new();
-    word(out, at, buffer.format(x).as_bytes())
+    if x < 10 {
+        out[at] = 48 + x as u8;
+        return at + 1;
+    }
+    let end = decimal(out, at, x / 10);
+    out[end] = 48 + (x % 10) as u8;
+    end + 1
 }
 
 // Puts a word and a number behind it, which has twenty digits at the most; answers where they end.

@@ -8,10 +8,10 @@ use native.Mathlib.Numerals.{add-one}
 use mathlib.Core.Path.{◌≡◌, refl, sym, ◌∙◌}
 use mathlib.Core.Bool.{true, false, false≢true}
 use mathlib.Core.List.{List, [], ◌∷◌}
-use lib.ListN.{length, drop, length-drop}
+use lib.ListN.{length, get_or, drop, length-drop}
 use lib.Dec.{eqb}
 use lib.Pointwise.{pointwise}
-use lib.Seq.{length-take-le}
+use lib.Seq.{length-take-le, get_or-drop, get_or-take}
 use borrow.Author.Tests.{eq-eqb, ne_eqb}
 use Rattle.labels.specs.Bytes.{run}
 use Rattle.trees.specs.Lists.{pieces}
@@ -42,6 +42,13 @@ run_more b l n = rw (ne_eqb b 0 n) (omega arith)
 
 pub slot-length : (table : List ℕ) (i : ℕ) → 16 * i + 16 ≤ length table → length (slot table i) ≡ 16
 slot-length table i h = length-take-le 16 (drop (16 * i) table) (simp length-drop (omega arith))
+
+pub slot-byte : (table : List ℕ) (i k : ℕ) → k < 16 → get_or (slot table i) k 0 ≡ get_or table (16 * i + k) 0
+slot-byte table i k h = get_or-take 16 (drop (16 * i) table) k 0 h ∙ get_or-drop (16 * i) table k 0
+
+-- k is within the i-th sixteen
+pub within-slot : (table : List ℕ) (i k : ℕ) → 16 * i + 16 ≤ length table → k < 16 → k < length (slot table i)
+within-slot table i k fits h = let e = slot-length table i fits in omega arith
 
 module _ (w table : List ℕ) (count i : ℕ) (h : i < count) where
   -- the i-th sixteen is the word

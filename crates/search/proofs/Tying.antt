@@ -41,6 +41,11 @@ use Rattle.search.proofs.Demand.{accepted-says, accepted_of}
 use Rattle.terms.proofs.Refusing.{refused-told}
 use Rattle.search.proofs.Finding.{refused-kept}
 
+-- a number that is neither of two
+pub neither : {m a b : ℕ} → (m ≡ a → ⊥) → (m ≡ b → ⊥) → (m ≡ a) ⊎ (m ≡ b) → ⊥
+neither f g (inl e) = f e
+neither f g (inr e) = g e
+
 -- ---- the first tests
 
 -- those of shape, and the third table's

@@ -30,6 +30,14 @@ module _ {A : Type 0} (fill : A → A) where
       ap₂ (λ (l : List A) (x : A). set l i x) now (told ∙ ap (λ (l : List A). fill (get_or l i d)) now)
       ∙ filled_next i xs d ∙ ap (λ (k : ℕ). filled_to k xs) (sym (add-one i))
 
+  -- where the code counts from 1: none is filled, and then one more, at i
+  pub none_filled : (k : ℕ) (l : List A) → k ≡ 0 → l ≡ filled_to k l
+  none_filled k l none = rw none (sym (filled_none l))
+
+  pub filled_as_counted :
+      (k i j : ℕ) (xs : List A) {ys : List A} {x : A} (d : A) → i ≡ k → j ≡ k + 1 → ys ≡ filled_to k xs → x ≡ fill (get_or ys i d) → set ys i x ≡ filled_to j xs
+  filled_as_counted k i j xs d here next now told = rw (here, next) (filled_here k xs d now (rw here at told))
+
   pub filled-length : (i : ℕ) (l : List A) → length (filled_to i l) ≡ length l
   unfolding filled_to
   filled-length zero l = refl

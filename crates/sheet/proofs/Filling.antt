@@ -48,3 +48,9 @@ module _ (rooting : Rooting) (n : ℕ) (genes : List ℕ) (count : ℕ) (records
       → record { position = e.position; number = s.number; score = s.value } ≡ entry_for rooting n genes count records e
   within-filled s within told =
       let long : 32 * e.position + 32 - 32 * e.position ≡ 32 = omega arith in sym (single-given s within (rw long at told))
+
+  -- and as it fills it where the record does not lie within them
+  pub twelve_filled :
+      (number score : ℕ) → number ≡ 12 → score ≡ 0 → length records < 32 * e.position + 32
+      → record { position = e.position; number = number; score = score } ≡ entry_for rooting n genes count records e
+  twelve_filled number score twelve none outside = rw (twelve, none) (sym (twelve_given outside))

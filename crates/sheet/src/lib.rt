@@ -50,17 +50,20 @@ impl Lent<'_> {
         ensures { result ≡ entry_for self.now.rooting self.now.n self.now.genes.now self.now.count self.now.records.now entry }
     {
         let position = entry.position;
-        let outcome = if position < self.records.len() / 32 {
+        if position < self.records.len() / 32 {
             let start = 32 * position;
-            self.score_one(&self.records[start..start + 32])
+            let single = roster::reply_to(self.score_one(&self.records[start..start + 32]));
+            Entry {
+                number: single.number,
+                score: single.value,
+                ..entry
+            }
         } else {
-            Err(Fault::ShortSlice.at(0))
-        };
-        let single = roster::reply_to(outcome);
-        Entry {
-            number: single.number,
-            score: single.value,
-            ..entry
+            Entry {
+                number: Fault::ShortSlice.number(),
+                score: 0,
+                ..entry
+            }
         }
     }
 
@@ -68,8 +71,10 @@ impl Lent<'_> {
     fn fill(&self, entries: &mut [Entry])
         ensures { entries.new ≡ map (entry_for self.now.rooting self.now.n self.now.genes.now self.now.count self.now.records.now) entries.old }
     {
-        for entry in entries.iter_mut() {
-            *entry = self.filled(*entry);
+        // By index, counted from 1, so that which entries are filled stands in the range.
+        for nth in 1..entries.len() + 1 {
+            let i = nth - 1;
+            entries[i] = self.filled(entries[i]);
         }
     }
 }

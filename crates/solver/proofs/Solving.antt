@@ -1,12 +1,13 @@
 -- Weights made in the first entries of both tables, which are lent by themselves, and what is then chosen from them.
-use Prim.Native.Nat.{ℕ, ◌^◌, ◌≤◌}
+use Prim.Native.Nat.{ℕ, ◌+◌, ◌^◌, ◌≤◌}
 use mathlib.Core.Path.{◌≡◌, sym, ap, ◌∙◌}
 use mathlib.Core.Bool.{Bool}
 use mathlib.Core.List.{List, ◌++◌, map}
 use native.Mathlib.Omega.{arith}
 use lib.ListN.{length, get_or, take, drop, length-take, length-drop, length-append}
 use lib.Seq.{drop_at}
-use Rattle.clusters.specs.Sets.{single}
+use lib.Pow.{pow_pos}
+use Rattle.clusters.specs.Sets.{single, whole}
 use Rattle.trees.specs.Lists.{up_to}
 use Rattle.trees.specs.Records.{records_in}
 use Rattle.weights.specs.Count.{weight}
@@ -20,6 +21,10 @@ use Rattle.terms.specs.declared.Found.{Found}
 use Rattle.std.specs.Prelude.{Option as Maybe, IfSome}
 use Rattle.weights.specs.declared.Rooting.{Rooting}
 use Rattle.solver.specs.Work.{Checked, SolvesFor, SolvesWeighed}
+
+pub whole_entries : (n : ℕ) {all : ℕ} → all ≡ whole n → all + 1 ≡ 2 ^ n
+unfolding whole
+whole_entries n e = omega (arith, pow_pos n)
 
 -- the first entries of a table, lent by themselves
 abbrev pub lent_part : ℕ → List ℕ → List ℕ

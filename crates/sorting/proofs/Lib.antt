@@ -1,2 +1,3 @@
+pub mod Insertion
 pub mod Narrowing
 pub mod OneOrder

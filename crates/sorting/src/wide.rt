@@ -14,6 +14,6 @@ pub fn record_of(clusters: &[u32], count: usize) -> WideRecord
     numbers[0] = count as u32;
     let listed = &mut numbers[1..=count];
     listed.copy_from_slice(&clusters[..count]);
-    listed.sort_unstable();
+    listed.sort_unstable_by(|x, y| x.cmp(y));
     WideRecord { numbers }
 }

@@ -12,12 +12,19 @@ use std::io::{Read, Write};
 // One byte more than the longest text that is not refused.
 const ROOM: usize = 65537;
 
+// Room for the longest text that is not refused, and the byte too many.
+fn room() -> [u8; ROOM]
+    ensures { text_most + 1 ≡ length result }
+{
+    [0; ROOM]
+}
+
 // The program between a reader and a writer: where all is read and written, what it writes is the output for what there was to read.
 #[tactic(auto, using(report::proofs::Outcomes::reported_within))]
 pub fn run<R: Read, W: Write>(from: &mut R, to: &mut W) -> io::Result<()>
     ensures { OnOk result (IfSome (R.remaining from.old) (λ input. Appends (W.contents to.old) (W.contents to.new) (output input))) }
 {
-    let mut input = [0; ROOM];
+    let mut input = room();
     let n = streams::read_full(from, &mut input)?;
     let report = report::report(&input[..n]);
     to.write_all(&report.text[..report.len])

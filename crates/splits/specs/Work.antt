@@ -50,11 +50,6 @@ abbrev pub split_or : Option Split → Split
 split_or None = no_split
 split_or (Some s) = s
 
--- of a split so far and one at a low part of a, whose parts have the entries x and y, this is the better
-pub record Bettered (x y a low : ℕ) (best r : Option Split) : Type 0 where
-  pub value : split_or r ≡ better_split x y low (split_or best)
-  pub small : IfSome best (Small a) → IfSome r (Small a)
-
 -- the split at a low part of a, where it is better than the one so far; e gives the entries of the score table
 abbrev pub consider : (ℕ → ℕ) → ℕ → ℕ → Split → Split
 consider e a low s = better_split (e low) (e (a - low)) low s

@@ -7,7 +7,7 @@ mod tied;
 ghost use Rattle.std.specs.Prelude.{◌≡◌, ◌+◌, ◌-◌, ◌<◌, ◌≤◌, length, get_or};
 ghost use Rattle.clusters.specs.Sets.{size};
 ghost use Rattle.splits.specs.WellFormed.{LowPart};
-ghost use Rattle.splits.specs.Work.{Scored, Bettered, BestSplit};
+ghost use Rattle.splits.specs.Work.{Scored, better_split, BestSplit};
 
 use parts::LowParts;
 pub use tied::tied_splits;
@@ -22,23 +22,32 @@ pub struct Split {
     pub low: u32,
 }
 
+// No split yet: the mark of the score table, and no low part. While the parts are visited an `Option` of a split takes the search half as long again (docs/TIMES.md).
+const NONE_YET: Split = Split {
+    score: NO_TREE,
+    low: 0,
+};
+
 // The split of a at the low part, where both parts have a tree and it scores no more than the best so far.
-fn better(scores: &[u32], a: u32, low: u32, best: Option<Split>) -> Option<Split>
+fn better(scores: &[u32], a: u32, low: u32, best: Split) -> Split
     requires a_in_bounds { a ≤ length scores.now }
     requires low_part { LowPart a low }
     requires scored { Scored a scores.now }
-    ensures { Bettered (get_or scores.now low 0) (get_or scores.now (a - low) 0) a low best result }
+    ensures { result ≡ better_split (get_or scores.now low 0) (get_or scores.now (a - low) 0) low best }
 {
     let x = scores[low as usize];
-    let y = scores[(a - low) as usize];
-    if x == NO_TREE || y == NO_TREE {
+    if x == NO_TREE {
         return best;
     }
-    let score = x + y;
-    match best {
-        Some(held) if held.score < score => best,
-        _ => Some(Split { score, low }),
+    let y = scores[(a - low) as usize];
+    if y == NO_TREE {
+        return best;
     }
+    let held = best.score;
+    if x + y <= held {
+        return Split { score: x + y, low };
+    }
+    best
 }
 
 // The best split of a, if there is one. Its low parts are visited from the largest down, and an equal one replaces what was found, so that of equals the smallest stays. `tables` calls it, with the entries of all smaller clusters there.
@@ -48,9 +57,12 @@ pub fn best_split(scores: &[u32], a: u32) -> Option<Split>
     requires scored { Scored a scores.now }
     ensures { BestSplit scores.now a result }
 {
-    let mut best = None;
+    let mut best = NONE_YET;
     for low in LowParts::of(a) {
         best = better(scores, a, low, best);
     }
-    best
+    if best.score == NO_TREE {
+        return None;
+    }
+    Some(best)
 }

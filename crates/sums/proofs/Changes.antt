@@ -1,9 +1,10 @@
 -- Tables that were changed by one at some sets: one change after another, lists that change as much, and loops over lists of changes.
-use Rattle.std.proofs.Common.{◌≡◌, ℕ, ◌+◌, ◌%◌, ◌<◌, eqb, List, [], ◌∷◌, ◌++◌, map, length, get_or, set, sym, refl, ap, ◌∙◌, subst, arith, length-set, get_or-set_other, get_or-set_same, eq-eqb, ne_eqb}
+use Rattle.std.proofs.Common.{◌≡◌, ℕ, ◌+◌, ◌%◌, ◌<◌, ◌≤◌, eqb, List, [], ◌∷◌, ◌++◌, map, length, get_or, set, replicate, sym, refl, ap, ap₂, ◌∙◌, subst, append-nil, arith, length-set, drop_of_length-le, get_or-set_other, get_or-set_same, eq-eqb, ne_eqb}
 use native.Mathlib.Decide.{ℕ_discrete}
 use Rattle.weights.specs.Lineages.{one_if}
 use Rattle.weights.specs.Subsets.{many, often, modulus}
 use Rattle.weights.proofs.SumOfLists.{many_nil, many_cons, many_append, many_mapped}
+use Rattle.weights.proofs.Shown.{ClearedTo, cleared_end}
 use Rattle.sums.specs.Work.{Changed}
 
 -- ---- how often a set stands in a list
@@ -130,3 +131,13 @@ module _ {plus minus plus_left minus_left before now : List ℕ} (t : ChangedTo 
   to_end e d =
       t.left now
       (subst (λ (a : List ℕ). Changed a minus_left now now) (sym e) (subst (λ (b : List ℕ). Changed [] b now now) (sym d) (changed_none now)))
+
+-- ---- cleared tables
+
+-- where all entries are cleared there is nothing else
+pub cleared_all :
+    {before now : List ℕ} {entries a : ℕ} → ClearedTo before entries now a → entries ≡ length before → entries ≤ a → now ≡ replicate (length before) 0
+cleared_all {before} {now} {entries} {a} t e l =
+    cleared_end t (omega arith) l
+    ∙ ap₂ (λ (n : ℕ) (k : List ℕ). replicate n 0 ++ k) e (drop_of_length-le before {i = entries} (omega arith))
+    ∙ append-nil (replicate (length before) 0)

@@ -1,20 +1,21 @@
 -- What a gene tree with its root adds and takes off, node by node, each set as it is seen.
-use Rattle.std.proofs.Common.{◌≡◌, ℕ, ◌+◌, ◌-◌, ◌<◌, ◌≤◌, Bool, true, false, not, eqb, List, [], ◌∷◌, ◌++◌, map, get_or, drop, sym, refl, ap, ◌∙◌, subst, append-nil, arith, eq-eqb, ne_eqb}
+use Rattle.std.proofs.Common.{◌≡◌, ℕ, ◌+◌, ◌-◌, ◌^◌, ◌<◌, ◌≤◌, Bool, true, false, not, eqb, List, [], ◌∷◌, ◌++◌, map, length, get_or, drop, sym, refl, ap, ◌∙◌, subst, append-nil, arith, eq-eqb, ne_eqb}
 use Rattle.std.proofs.lemmas.List.{map-append}
 use mathlib.Core.List.Memᴰ
-use Rattle.clusters.specs.Sets.{Within, union, size}
-use Rattle.clusters.proofs.Sets.{zero-within, zero-union, within_trans}
+use Rattle.clusters.specs.Sets.{Within, union, size, whole}
+use Rattle.clusters.proofs.Sets.{zero-within, zero-union, within_trans, whole_below, within_whole}
 use Rattle.trees.specs.Lists.{Among, keep_if, keep}
 use Rattle.trees.specs.Records.{count, listed, largest}
 use Rattle.trees.specs.Drawn.{children}
 use Rattle.trees.proofs.Children.{hierarchy_of_valid, among-children, children-once}
 use Rattle.trees.proofs.GeneRecords.{places-le, largest_of_valid}
-use Rattle.weights.specs.Subsets.{often, gathered, odds, evens, inner_nodes, plus_by, minus_by}
+use Rattle.weights.specs.Subsets.{often, gathered, odds, evens, taken, inner_nodes, plus_by, minus_by}
 use Rattle.weights.specs.Work.{CountableFor}
 use Rattle.weights.specs.declared.Rooting.TheVariants.{Rooted}
 use Rattle.weights.proofs.Checked.{listed_at, listed_from, first_none}
 use Rattle.weights.proofs.SumOfLists.{many_same}
 use Rattle.weights.proofs.SumOfUnions.{SameUnions, unions_reordered, unions_seen}
+use Rattle.weights.proofs.SumOfStand.{taken-below}
 use Rattle.sums.specs.Work.{Changed, Summable, Entered, ChildrenIn, Parts, of_nodes, node_plus, node_minus}
 use Rattle.sums.proofs.Changes.{often_both, often-map, changed_none, changed_both, changed_as, ChangedTo, to_start, to_next, to_end}
 use Rattle.sums.proofs.Joins.{Joins}
@@ -42,6 +43,15 @@ often-alone z l =
     often-map z (λ x. union 0 x) l ∙ many_same (λ x. eqb z (union 0 x)) (λ x. eqb z x) l (λ x m. ap (λ (y : ℕ). eqb z y) (zero-union x))
 
 module _ {b : ℕ} {g : List ℕ} (can : CountableFor b g) {p : ℕ} {l : List ℕ} (found : ChildrenIn (listed g) p l) where
+  -- all children lie within p
+  pub children-parts : {entries : ℕ} → p < entries → Parts entries 0 l
+  children-parts fits = record {
+    of = p;
+    fits = fits;
+    joined_in = zero-within p;
+    each_in = λ x m. (among-children (listed g) p (found.are x m)).inside;
+  }
+
   reordered : SameUnions l (children (listed g) p)
   reordered =
       unions_reordered l (children (listed g) p) found.once (children-once (hierarchy_of_valid can.valid can.small) p) found.are found.all
@@ -91,6 +101,15 @@ seen-parts {see} {entries} {p} {g} {l} e w found are = record {
   each_in = λ x m.
       let y = Memᴰ.of_map see l (subst (λ (c : List ℕ). Among x c) are m) in
       subst (λ (z : ℕ). Within z e.of) y.2 (e.inside y.0 (within_trans y.0 p (largest g) (among-children (listed g) p (found.are y.0 y.1)).inside w));
+}
+
+-- sets of the stand's species have an entry each
+pub taken-parts : (groups l : List ℕ) {seen : List ℕ} {entries : ℕ} → seen ≡ taken groups l → entries ≡ 2 ^ length groups → Parts entries 0 seen
+taken-parts groups l {seen} {entries} are e = record {
+  of = whole (length groups);
+  fits = omega (arith, whole_below (length groups));
+  joined_in = zero-within (whole (length groups));
+  each_in = λ x m. within_whole (length groups) (taken-below groups l x (subst (λ (c : List ℕ). Among x c) are m));
 }
 
 -- ---- all nodes

@@ -1,11 +1,12 @@
 -- What all gene trees add and take off, one tree after the other, and the number of them by their whole set. Their records are pieces of one size of what is lent.
-use Rattle.std.proofs.Common.{◌≡◌, ℕ, ◌+◌, ◌*◌, ◌<◌, ◌≤◌, Bool, true, false, eqb, List, [], ◌∷◌, map, length, get_or, take, drop, set, replicate, sym, refl, ap, ◌∙◌, arith, length-set, get_or-set_other, get_or-set_same}
+use Rattle.std.proofs.Common.{◌≡◌, ℕ, ◌+◌, ◌*◌, ◌<◌, ◌≤◌, Bool, true, false, eqb, List, [], ◌∷◌, map, length, get_or, take, drop, set, replicate, sym, refl, ap, ◌∙◌, arith, length-set, get_or-drop, get_or-take, get_or-set_other, get_or-set_same}
 use mathlib.Core.List.Memᴰ
 use mathlib.Core.List.{Memᴰ}
 use native.Mathlib.Decide.{ℕ_discrete}
 use Rattle.std.proofs.lemmas.List.{get_or_default}
 use lib.ListN.{length-map, get_or-replicate}
 use Rattle.trees.specs.Lists.{pieces}
+use Rattle.trees.specs.Records.{count as count_of, largest}
 use Rattle.trees.proofs.EqualPieces.{pieces-length, piece_at, piece_among, pieces_from, pieces_from_first, pieces_from_next, pieces_from_last}
 use Rattle.weights.specs.Lineages.{one_if}
 use Rattle.weights.specs.Subsets.{often, gathered}
@@ -162,3 +163,24 @@ module _ {size : ℕ} {whole : List ℕ → ℕ} {genes : List ℕ} {count : ℕ
     where
       all : i ≡ count
       all = omega (arith, t.place)
+
+-- ---- a record among all the numbers
+
+-- its whole set stands as far behind its count as the count says
+pub whole_at :
+    (size : ℕ) (genes : List ℕ) (i : ℕ) {m : ℕ} → count_of (take size (drop (size * i) genes)) < size → m ≡ get_or genes (size * i) 0
+    → (m < size) × (get_or genes (size * i + m) 0 ≡ largest (take size (drop (size * i) genes)))
+whole_at size genes i {m} f e = (
+  few,
+  sym (get_or-drop (size * i) genes m 0) ∙ sym (get_or-take size (drop (size * i) genes) m 0 few)
+      ∙ ap (λ (k : ℕ). get_or (take size (drop (size * i) genes)) k 0) (e ∙ sym first),
+)
+  where
+    place : size * i + 0 ≡ size * i
+    place = omega arith
+
+    first : count_of (take size (drop (size * i) genes)) ≡ get_or genes (size * i) 0
+    first = get_or-take size (drop (size * i) genes) 0 0 (omega arith) ∙ get_or-drop (size * i) genes 0 0 ∙ ap (λ (k : ℕ). get_or genes k 0) place
+
+    few : m < size
+    few = omega (arith, e, first, f)

@@ -9,7 +9,8 @@ use native.Mathlib.Omega.{arith}
 use lib.ListN.{length, get_or, set, length-set}
 use lib.Seq.{get_or-set_other, set-set, drop-set-lt}
 use lib.Pow.{pow_mono, pow_pos}
-use Rattle.clusters.specs.Sets.{single}
+use Rattle.clusters.specs.Sets.{single, whole}
+use Rattle.clusters.proofs.Sets.{whole_below}
 use Rattle.clusters.proofs.Sizes.{size-le}
 use Rattle.trees.specs.Lists.{up_to}
 use Rattle.splits.specs.BinaryTrees.{Binary}
@@ -25,6 +26,13 @@ use Rattle.tables.proofs.Written.{written, written_none, written_next, written-l
 
 pub entries_few : {n : ℕ} → n ≤ 16 → 2 ^ n ≤ 65536
 entries_few h = pow_mono h
+
+pub below_of_whole : (n a : ℕ) → a ≤ whole n → a < 2 ^ n
+below_of_whole n a l = omega (arith, whole_below n)
+
+pub past_whole : (n a : ℕ) → whole n < a → 2 ^ n ≤ a
+unfolding whole
+past_whole n a l = omega arith
 
 pub entries : (n : ℕ) → single n ≡ 2 ^ n
 unfolding single

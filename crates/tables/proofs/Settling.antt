@@ -1,6 +1,7 @@
 -- The two entries of one cluster, for each way that the code takes.
-use Prim.Native.Nat.{ℕ, ◌+◌, ◌≤◌}
+use Prim.Native.Nat.{ℕ, ◌+◌, ◌≤◌, ◌<◌}
 use mathlib.Core.Path.{◌≡◌, refl, sym, ap, ◌∙◌}
+use mathlib.Core.Logic.{◌⊎◌, inl, inr}
 use mathlib.Core.Bool.{Bool, true, false}
 use mathlib.Core.List.{List}
 use native.Mathlib.Omega.{arith}
@@ -14,6 +15,11 @@ use Rattle.tables.specs.Work.{Settles}
 use Rattle.splits.specs.Work.{BestSplit}
 use Rattle.splits.specs.declared.Split.{Split}
 use Rattle.splits.proofs.Recurrence.{entry-refused, split-refused, entry-single, split-single}
+
+-- a split that is not the mark can be added to
+pub sum_below_lem : {x : ℕ} → (x ≡ no_tree) ⊎ (x < 16777216) → (x ≡ no_tree → ⊥) → x < 16777216
+sum_below_lem (inl e) f = absurd (f e)
+sum_below_lem (inr l) f = l
 
 module _ (ok : ℕ → Bool) (a : ℕ) (scores splits : List ℕ) where
   -- an allowed cluster without a split

@@ -1,11 +1,12 @@
 -- The byte at which an allowed set is refused, and the answer of a refusal.
 use Rattle.std.specs.Prelude.{ℕ, zero, suc, ◌^◌, ◌≤◌, ◌<◌, ◌≡◌, ◌⊎◌, true, false, not, Bool, cond, ltb, List, [], ◌∷◌, get_or, take, length, leb, nat_lt, Option, Some, None, MatchOption, Err}
 use Rattle.std.specs.List.{position, prefix_len}
-use Rattle.std.proofs.Common.{refl, ◌∙◌, arith, inl, inr, length-take-le}
+use Rattle.std.proofs.Common.{refl, ◌∙◌, arith, inl, inr, zero-le, length-take-le}
 use Rattle.std.proofs.lemmas.List.{get_or-take}
-use Rattle.std.proofs.lemmas.List.Sums.{prefix_len_passes, prefix_len_stops, prefix_len-le-length}
+use Rattle.std.proofs.lemmas.List.Sums.{prefix_len_passes, prefix_len_stops, prefix_len-le-length, position_or_len_is}
 use Rattle.std.proofs.lemmas.Bool.Decides.{nat_tests}
 use native.Mathlib.Nat.{eq-or-lt_of_le}
+use borrow.Author.Tests.{lt-ltb, le-ltb}
 use Rattle.faults.specs.declared.Refusal.{Refusal}
 use Rattle.clusters.specs.Sets.{single}
 use Rattle.roster.specs.Roster.{least}
@@ -16,6 +17,26 @@ use Rattle.terms.specs.Answers.{without, found_or}
 use Rattle.terms.specs.declared.Found.{Found}
 
 -- ---- 13
+
+module _ (n : ℕ) (allowed : List ℕ) {strange : ℕ} (found : strange ≡ first_strange n allowed) where
+  pub byte-refused : strange < 2 ^ n → verdict (allowed_test n allowed ∷ []) ≡ record { number = 13; place = strange }
+  unfolding verdict allowed_test
+  byte-refused l = rw (lt-ltb (first_strange n allowed) (2 ^ n) (omega arith), found)
+
+  pub bytes-passed : 2 ^ n ≤ strange → verdict (allowed_test n allowed ∷ []) ≡ record { number = 0; place = 0 }
+  unfolding verdict allowed_test
+  bytes-passed l = rw (le-ltb (first_strange n allowed) (2 ^ n) (omega arith))
+
+-- the first place of all whose byte is over 1 is what `position` says
+pub strange_first :
+    (bytes : List ℕ) (r : Option ℕ)
+    → MatchOption r ((k : ℕ) → 0 ≤ k → k < length bytes → nat_lt 1 (get_or bytes k 0) ≡ false)
+    (λ place. (0 ≤ place) × (place < length bytes) × (nat_lt 1 (get_or bytes place 0) ≡ true) × ((k : ℕ) → 0 ≤ k → k < place → nat_lt 1 (get_or bytes k 0) ≡ false))
+    → r ≡ position (λ byte. nat_lt 1 byte) bytes
+strange_first bytes None none =
+    rw (position_or_len_is (λ byte. nat_lt 1 byte) bytes (length bytes) 0 (omega arith) (λ k l. none k zero-le l) (λ l. absurd (omega arith))) (grind (arith, nat_tests))
+strange_first bytes (Some place) found =
+    rw (position_or_len_is (λ byte. nat_lt 1 byte) bytes place 0 (omega arith) (λ k l. found.3 k zero-le l) (λ l. found.2)) (grind (arith, nat_tests))
 
 -- what the code looks for is the definition's first strange byte
 strange-at : (xs : List ℕ) (n : ℕ) → n ≤ length xs → least (λ a. not (leb (get_or xs a 0) 1)) 0 n ≡ prefix_len (λ x. not (nat_lt 1 x)) (take n xs)

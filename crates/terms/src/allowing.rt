@@ -28,11 +28,12 @@ pub fn is_allowed_for(n: usize, allowed: Option<&[u8]>, a: usize) -> bool
     allowed.is_none_or(|bytes| is_allowed(n, bytes, a))
 }
 
-// The place of the first byte that is not 0 or 1, if there is one.
-fn first_strange(bytes: &[u8]) -> Option<usize>
+// The place of the first byte that is not 0 or 1, if there is one. The layers above may ask it too.
+pub fn first_strange(bytes: &[u8]) -> Option<usize>
     ensures { result ≡ position (λ byte. nat_lt 1 byte) bytes.now }
 {
-    bytes.iter().position(|byte| *byte > 1)
+    // over the places and not `position`, so that the first of them, 0, is written out
+    (0..bytes.len()).find(|place| bytes[*place] > 1)
 }
 
 // Whether the bytes of the clusters of n species are 0 or 1; the first that is not is refused. `search`, `plain` and `stand` call it, with so many bytes lent.

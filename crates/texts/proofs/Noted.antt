@@ -21,7 +21,7 @@ use Rattle.trees.specs.Tree.Forest.{last, more}
 use Rattle.trees.specs.Records.{count, listed, Form}
 use Rattle.trees.proofs.Order.{rising-below}
 use Rattle.trees.proofs.Places.{at_among, listed-length, listed-place, among-place}
-use Rattle.texts.specs.Writing.{label, node_with, others_with}
+use Rattle.texts.specs.Writing.{label, count_note, node_with, others_with}
 use Rattle.printing.specs.Words.{decimal}
 use Rattle.printing.proofs.Digits.{decimal-length}
 use Rattle.texts.specs.Work.{note_at, Notes, note_in, notes_to}
@@ -116,6 +116,12 @@ notes_short {counts} {r} {notes} f given a m =
 pub note_in_none : (r : List ℕ) (a : ℕ) → note_in None r a ≡ []
 unfolding note_in
 note_in_none r a = refl
+
+-- counts that are given entry for entry
+pub notes_counted :
+    {counts r : List ℕ} (count_of : ℕ → ℕ) → ((i : ℕ) → 1 ≤ i → i ≤ count r → get_or counts i 0 ≡ count_of (get_or r i 0))
+    → Notes (Some counts) r (count_note count_of)
+notes_counted {counts} {r} count_of e = record { each = λ i one most. ap (λ (k : ℕ). 58 ∷ decimal k) (sym (e i one most)) }
 
 -- the bytes of none, and of counts: a colon, and the digits of each
 pub notes_none : (m : ℕ) → notes_to None m ≡ 0

@@ -1,18 +1,26 @@
 -- A number read from a place of the text, for each way that it ends.
 use Prim.Native.Nat.{ℕ, zero, suc, ◌+◌, ◌-◌, ◌≤◌, ◌<◌}
 use native.Mathlib.Omega.{arith}
-use mathlib.Core.Path.{◌≡◌, refl, sym, ◌∙◌}
+use mathlib.Core.Path.{◌≡◌, refl, sym, ap, ◌∙◌}
 use mathlib.Core.Bool.{Bool, true, false}
 use mathlib.Core.List.{List}
-use lib.ListN.{length, drop}
-use lib.Seq.{drop-drop}
+use lib.ListN.{length, drop, length-drop}
+use lib.Seq.{drop-drop, length-take-le}
 use borrow.Author.Tests.{le-leb, lt-leb}
 use Rattle.labels.specs.Bytes.{is_digit, run, next_is}
 use Rattle.labels.proofs.Runs.{run_left}
 use Rattle.tokens.specs.Tokens.{numeral, pointed, digits, number}
-use Rattle.tokens.specs.Says.{refusal, stray_at}
+use Rattle.tokens.specs.Says.{refusal, between, stray_at}
+use Rattle.tokens.specs.Values.{Value}
 use Rattle.faults.specs.declared.Refusal.{Refusal}
 use Rattle.tokens.proofs.Places.{stray-unexpected}
+
+module _ (text : List ℕ) (at n : ℕ) where
+  -- where the text has n bytes from there on, they stand between the two places
+  pub numeral-within : (v : Value) → at + n ≤ length text → at + n ≡ at + length (between text (record { from = at; to = at + n; value = v }))
+  numeral-within v h =
+      let e : at + n - at ≡ n = omega arith in
+      rw e (ap (λ (l : ℕ). at + l) (sym (length-take-le n (drop at text) (omega (arith, length-drop at text)))))
 
 module _ (s : List ℕ) (p : ℕ) where
   -- no digit

@@ -122,8 +122,11 @@ fn inner_name(text: &[u8], at: usize) -> Result<usize, Refusal>
     if !next_label(text, begun) {
         return Ok(at);
     }
-    let scanned = scan(text, begun)?;
-    Ok(scanned.next)
+    // a label at fault is refused by its own fault, at its own place
+    match scan(text, begun) {
+        Ok(scanned) => Ok(scanned.next),
+        Err(refusal) => Err(refusal.fault.at(refusal.place)),
+    }
 }
 
 // What stands behind a closing parenthesis: an optional name, and numbers.

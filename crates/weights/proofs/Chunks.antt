@@ -49,6 +49,12 @@ module _ (size : ℕ) (some : 0 < size) where
       let same : whole_pieces (chunks_exact_rest s) ≡ pieces size count l = rw (needed, many) (pieces-needed size count l) in
       rw same at (whole_pieces_yielded {s = s} e)
 
+  -- the same of entries that are lent up to any place, where that is the needed one
+  pub pieces_lent :
+      (count : ℕ) (l : List ℕ) (lent : ℕ) {s : _} → chunks_exact_size s ≡ size → chunks_exact_rest s ≡ take lent l → lent ≡ size * count → size * count ≤ length l
+      → YieldsList chunks_exact_steps (λ y. y.now) s (pieces size count l)
+  pieces_lent count l lent {s} e is needed fits = pieces_yielded count l {s = s} e (is ∙ ap (λ k. take k l) needed) fits
+
   -- one turn of a loop over them
   pub piece_turn : (count : ℕ) (l : List ℕ) {i : ℕ} {g : List ℕ} → i < length (pieces size count l) → g ≡ get_or (pieces size count l) i g → (i < count) × (g ≡ take size (drop (size * i) l))
   piece_turn count l {i} {g} here is =

@@ -1,4 +1,3 @@
-use Rattle.labels.proofs.Exits.{passed_on}
 use Rattle.gather.proofs.Gathering.{left_begins, left_done, left_full, left_stops, left_goes}
 use Rattle.gather.proofs.gather.Goals as goal
 
@@ -10,14 +9,13 @@ pub returns-then-count-eq512 : goal.returns-then-count-eq512
 returns-then-count-eq512 c =
     left_full c.loop-at.invariant c.loop-at-test.true c.if-count-eq512.true c.at.ensures
 
-pub returns-in_err-drawn : goal.returns-in_err-drawn
-returns-in_err-drawn c =
-    rw (passed_on c.from_residual.result c.from_residual.ensures.1)
-    (left_stops c.loop-at.invariant c.loop-at-test.true c.if-count-eq512.false _ c.in_err-drawn.ensures)
+pub returns-in-Err : goal.returns-in-Err
+returns-in-Err c =
+    rw c.at-in-Err.ensures (left_stops c.loop-at.invariant c.loop-at-test.true c.if-count-eq512.false _ c.in-Err.ensures)
 
 pub loop-at-preserved : goal.loop-at-preserved
 loop-at-preserved c =
-    left_goes c.loop-at.invariant c.loop-at-test.true c.if-count-eq512.false c.in_ok-drawn.drawn c.in_ok-drawn.ensures
+    left_goes c.loop-at.invariant c.loop-at-test.true c.if-count-eq512.false c.in-Ok.drawn c.in-Ok.ensures
     c.put.ensures.0 c.put.ensures.1 c.blanks-at-in-loop-at.ensures
 
 pub returns : goal.returns

@@ -1,5 +1,5 @@
 -- `bare` counts the run and, where it is short enough, decodes it.
-use Rattle.std.proofs.Common.{◌≡◌, arith, drop}
+use Rattle.std.proofs.Common.{◌≡◌, arith, rules, drop}
 use Rattle.labels.specs.Bytes.{is_bare, run}
 use Rattle.labels.proofs.Runs.{run_left}
 use Rattle.labels.proofs.Scans.{bare-ended, bare-long}
@@ -8,7 +8,7 @@ use Rattle.labels.proofs.bare.Goals as goal
 
 -- the run is counted
 counted : (c : After-run-n) → c.run-n.result ≡ run is_bare (drop c.args.at c.args.text.now)
-counted c = c.run-n.ensures is_bare (λ b r h. h)
+counted c = c.run-n.ensures is_bare (λ b r h. search rules)
 
 pub overflow_add-at : goal.overflow_add-at
 overflow_add-at c =

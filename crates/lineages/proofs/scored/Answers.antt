@@ -38,9 +38,9 @@ returns-in_err-judge_genes c =
     (scores_bad _ _ _ _ _ (passed (goal.at.returns-in_err-judge_genes c).In_ok-shape) (sym c.is_species_tree.ensures ∙ c.if-not-is_species_tree.false)
     c.in_err-judge_genes.field-0.0 c.in_err-judge_genes.ensures)
 
-pub weigh_tree-requires : goal.weigh_tree-requires
-weigh_tree-requires c =
-    let s = passed (goal.at.weigh_tree-requires c).In_ok-shape in
+pub weigh_tree-score-requires : goal.weigh_tree-score-requires
+weigh_tree-score-requires c =
+    let s = passed (goal.at.weigh_tree-score-requires c).In_ok-shape in
     record {
       count_bound = s.few_genes;
       count_in_bounds = s.fits;
@@ -51,4 +51,4 @@ weigh_tree-requires c =
 pub returns : goal.returns
 returns c =
     scores_done _ _ _ _ _ (passed (goal.at.returns c).In_ok-shape) (sym c.is_species_tree.ensures ∙ c.if-not-is_species_tree.false) c.in_ok-judge_genes.ensures
-    c.weigh_tree.ensures
+    c.weigh_tree-score.ensures

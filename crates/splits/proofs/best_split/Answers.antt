@@ -1,6 +1,6 @@
-use Rattle.std.proofs.Common.{arith, rules}
+use Rattle.std.proofs.Common.{refl, arith, rules}
 use Rattle.splits.proofs.FallingParts.{step_low}
-use Rattle.splits.proofs.SplitChoice.{visited_start, visited_step, visited_end}
+use Rattle.splits.proofs.SplitChoice.{visited_start, visited_step, visited_end, held_none, held_some}
 use Rattle.splits.proofs.best_split.Goals as goal
 
 pub loop-low-init : goal.loop-low-init
@@ -14,8 +14,14 @@ better-best-requires-clause-low_part c =
 
 pub loop-low-preserved : goal.loop-low-preserved
 loop-low-preserved c =
-    visited_step c.loop-low.low-iterator c.next.new.self c.loop-low.invariant (search rules) c.requires.bound c.in-Some.ensures.steps c.better-best.ensures
+    visited_step c.loop-low.low-iterator c.next.new.self c.loop-low.invariant (search rules) c.requires.bound c.requires.scored c.in-Some.ensures.steps c.better-best.ensures
+
+pub returns-then-best : goal.returns-then-best
+returns-then-best c =
+    let v = c.loop-low.invariant in
+    visited_end v (search rules) c.requires.bound (let none = c.in-None.ensures.steps in omega arith) (held_none v.small c.if-best.true) tt
 
 pub returns : goal.returns
 returns c =
-    visited_end c.loop-low.invariant (search rules) c.requires.bound (let none = c.in-None.ensures.steps in omega arith)
+    let v = c.loop-low.invariant in
+    visited_end v (search rules) c.requires.bound (let none = c.in-None.ensures.steps in omega arith) refl (held_some v.small c.if-best.false)

@@ -3,7 +3,7 @@ use Rattle.std.specs.Slice.Iter.{chunks_exact_rest, chunks_exact_size}
 use Rattle.std.proofs.lemmas.Iterator.Consumers.{YieldsList-turn, YieldsList-end}
 use Rattle.std.proofs.lemmas.List.{length_push}
 use Rattle.trees.proofs.EqualPieces.{pieces-length}
-use Rattle.weights.proofs.Chunks.{pieces_yielded}
+use Rattle.weights.proofs.Chunks.{pieces_lent}
 use Rattle.sums.proofs.RootedChanges.{summable_same}
 use Rattle.sums.proofs.TreeChanges.{Turn, turn_of, turn-among, trees_start, trees_next, trees_end}
 use Rattle.sums.proofs.add_trees.Goals.{In-Some, In-None}
@@ -14,8 +14,8 @@ turn : (c : In-Some) → Turn 32 c.args.count c.args.genes.now (length c.loop-tr
 turn c =
     turn_of 32 c.args.count c.args.genes.now
     (YieldsList-turn
-    (pieces_yielded 32 (omega arith) c.args.count c.args.genes.now (ap chunks_exact_size c.into_iter-tree-iterator.ensures.into_iter_gives ∙ c.chunks_exact-tree-items.ensures.size)
-    (ap chunks_exact_rest c.into_iter-tree-iterator.ensures.into_iter_gives ∙ c.chunks_exact-tree-items.ensures.rest) c.requires.count_in_bounds)
+    (pieces_lent 32 (omega arith) c.args.count c.args.genes.now _ (ap chunks_exact_size c.into_iter-tree-iterator.ensures.into_iter_gives ∙ c.chunks_exact-tree-items.ensures.size)
+    (ap chunks_exact_rest c.into_iter-tree-iterator.ensures.into_iter_gives ∙ c.chunks_exact-tree-items.ensures.rest) (omega arith) c.requires.count_in_bounds)
     c.loop-tree.yielded _ c.loop-tree.yielded_by _ _ c.in-Some.tree c.in-Some.is c.next.ensures.steps)
 
 -- behind the last
@@ -23,8 +23,8 @@ ended : (c : In-None) → c.args.count ≤ length c.loop-tree.yielded
 ended c =
     let all =
     YieldsList-end
-    (pieces_yielded 32 (omega arith) c.args.count c.args.genes.now (ap chunks_exact_size c.into_iter-tree-iterator.ensures.into_iter_gives ∙ c.chunks_exact-tree-items.ensures.size)
-    (ap chunks_exact_rest c.into_iter-tree-iterator.ensures.into_iter_gives ∙ c.chunks_exact-tree-items.ensures.rest) c.requires.count_in_bounds)
+    (pieces_lent 32 (omega arith) c.args.count c.args.genes.now _ (ap chunks_exact_size c.into_iter-tree-iterator.ensures.into_iter_gives ∙ c.chunks_exact-tree-items.ensures.size)
+    (ap chunks_exact_rest c.into_iter-tree-iterator.ensures.into_iter_gives ∙ c.chunks_exact-tree-items.ensures.rest) (omega arith) c.requires.count_in_bounds)
     c.loop-tree.yielded _ c.loop-tree.yielded_by _ _ c.in-None.is c.next.ensures.steps in
     omega (arith, all.1, pieces-length 32 c.args.count c.args.genes.now)
 

@@ -3,7 +3,7 @@ use Rattle.std.specs.Slice.Iter.{chunks_exact_rest, chunks_exact_size}
 use Rattle.std.proofs.lemmas.Iterator.Consumers.{YieldsList-turn, YieldsList-end}
 use Rattle.std.proofs.lemmas.List.{length_push}
 use Rattle.trees.proofs.EqualPieces.{pieces-length}
-use Rattle.weights.proofs.Chunks.{pieces_yielded}
+use Rattle.weights.proofs.Chunks.{pieces_lent}
 use Rattle.trees.specs.Records.{largest}
 use Rattle.sums.specs.Work.{Summable}
 use Rattle.sums.proofs.TreeChanges.{Turn, turn_of, turn-among, tallied_start, tallied_room, tallied_next, tallied_end}
@@ -15,8 +15,8 @@ turn : (c : In-Some) → Turn 32 c.args.count c.args.genes.now (length c.loop-g.
 turn c =
     turn_of 32 c.args.count c.args.genes.now
     (YieldsList-turn
-    (pieces_yielded 32 (omega arith) c.args.count c.args.genes.now (ap chunks_exact_size c.into_iter-g-iterator.ensures.into_iter_gives ∙ c.chunks_exact-g-items.ensures.size)
-    (ap chunks_exact_rest c.into_iter-g-iterator.ensures.into_iter_gives ∙ c.chunks_exact-g-items.ensures.rest) c.requires.count_in_bounds)
+    (pieces_lent 32 (omega arith) c.args.count c.args.genes.now _ (ap chunks_exact_size c.into_iter-g-iterator.ensures.into_iter_gives ∙ c.chunks_exact-g-items.ensures.size)
+    (ap chunks_exact_rest c.into_iter-g-iterator.ensures.into_iter_gives ∙ c.chunks_exact-g-items.ensures.rest) (omega arith) c.requires.count_in_bounds)
     c.loop-g.yielded _ c.loop-g.yielded_by _ _ c.in-Some.g c.in-Some.is c.next.ensures.steps)
 
 -- behind the last
@@ -24,8 +24,8 @@ ended : (c : In-None) → c.args.count ≤ length c.loop-g.yielded
 ended c =
     let all =
     YieldsList-end
-    (pieces_yielded 32 (omega arith) c.args.count c.args.genes.now (ap chunks_exact_size c.into_iter-g-iterator.ensures.into_iter_gives ∙ c.chunks_exact-g-items.ensures.size)
-    (ap chunks_exact_rest c.into_iter-g-iterator.ensures.into_iter_gives ∙ c.chunks_exact-g-items.ensures.rest) c.requires.count_in_bounds)
+    (pieces_lent 32 (omega arith) c.args.count c.args.genes.now _ (ap chunks_exact_size c.into_iter-g-iterator.ensures.into_iter_gives ∙ c.chunks_exact-g-items.ensures.size)
+    (ap chunks_exact_rest c.into_iter-g-iterator.ensures.into_iter_gives ∙ c.chunks_exact-g-items.ensures.rest) (omega arith) c.requires.count_in_bounds)
     c.loop-g.yielded _ c.loop-g.yielded_by _ _ c.in-None.is c.next.ensures.steps in
     omega (arith, all.1, pieces-length 32 c.args.count c.args.genes.now)
 

@@ -54,6 +54,6 @@ loop-low-preserved c =
       | else-is_low w ↦ rw w.left-is (tried_other tried (search rules) (told ∙ w.if-is_low.false) (omega arith))
     ]
 
-pub unreachable-requires : goal.unreachable-requires
-unreachable-requires c =
-    tried_end c.loop-low.invariant (search rules)
+pub returns : goal.returns
+returns c =
+    absurd (tried_end c.loop-low.invariant (search rules))

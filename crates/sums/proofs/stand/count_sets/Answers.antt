@@ -49,7 +49,7 @@ bounds-g-last c =
 
 pub bounds-lost-all : goal.bounds-lost-all
 bounds-lost-all c =
-    omega (arith, c.loop-g.invariant.same, fits c.args.species.now.groups.now (largest c.in-Some.g.now) c.entry-all.ensures c.requires.grouped)
+    omega (arith, c.loop-g.invariant.same, fits c.args.species.now.groups.now _ c.entry-all.ensures c.requires.grouped)
 
 pub overflow_add-lost : goal.overflow_add-lost
 overflow_add-lost c =
@@ -57,19 +57,19 @@ overflow_add-lost c =
     let few = c.requires.count_bound in
     let room =
     tallied_room c.loop-g.invariant (c.entry-all.ensures ∙ ap (λ g. species_in c.args.species.now.groups.now (largest g)) t.is) t.less
-    (fits c.args.species.now.groups.now (largest c.in-Some.g.now) c.entry-all.ensures c.requires.grouped) c.requires.lost_value in
+    (fits c.args.species.now.groups.now _ c.entry-all.ensures c.requires.grouped) c.requires.lost_value in
     omega arith
 
 pub bounds-lost-all-in-loop-g : goal.bounds-lost-all-in-loop-g
 bounds-lost-all-in-loop-g c =
-    omega (arith, c.loop-g.invariant.same, fits c.args.species.now.groups.now (largest c.in-Some.g.now) c.entry-all.ensures c.requires.grouped)
+    omega (arith, c.loop-g.invariant.same, fits c.args.species.now.groups.now _ c.entry-all.ensures c.requires.grouped)
 
 pub loop-g-preserved : goal.loop-g-preserved
 loop-g-preserved c =
     let t = turn (goal.at.loop-g-preserved c).In-Some in
     rw length_push
     (tallied_next c.loop-g.invariant (c.entry-all.ensures ∙ ap (λ g. species_in c.args.species.now.groups.now (largest g)) t.is) t.less
-    (fits c.args.species.now.groups.now (largest c.in-Some.g.now) c.entry-all.ensures c.requires.grouped))
+    (fits c.args.species.now.groups.now _ c.entry-all.ensures c.requires.grouped))
 
 pub returns : goal.returns
 returns c =

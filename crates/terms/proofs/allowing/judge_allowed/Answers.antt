@@ -1,6 +1,8 @@
 -- `terms::allowing::judge_allowed` meets its contract: the place that `position` finds is the definition's.
-use Rattle.std.proofs.Common.{arith, length-take-le}
+use Rattle.std.proofs.Common.{◌≡◌, sym, [], ◌∷◌, arith, length-take-le}
 use Rattle.clusters.specs.Sets.{single}
+use Rattle.roster.specs.Verdict.{verdict}
+use Rattle.terms.specs.Allowed.{allowed_test}
 use Rattle.terms.proofs.Refusing.{judged}
 use Rattle.terms.proofs.allowing.judge_allowed.Goals as goal
 
@@ -11,8 +13,10 @@ slice_bounds-first_strange-end c =
 
 pub returns-in-Some : goal.returns-in-Some
 returns-in-Some c =
-    let told = rw c.in-Some.is at (judged c.args.n c.args.allowed.now c.requires.allowed_long c.single-entries.ensures c.first_strange.ensures) in
-    rw (c.at.ensures, told)
+    let told : verdict (allowed_test c.args.n c.args.allowed.now ∷ []) ≡ record { number = 13; place = c.in-Some.place } =
+    rw c.in-Some.is at (judged c.args.n c.args.allowed.now c.requires.allowed_long c.single-entries.ensures c.first_strange.ensures)
+    in
+    rw c.at.ensures (sym told)
 
 pub returns-in-None : goal.returns-in-None
 returns-in-None c =
